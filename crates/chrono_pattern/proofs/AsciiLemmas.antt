@@ -426,6 +426,6 @@ ascii_text bytes m x near are date time = text_ascii bytes m x near are date tim
 pub part_ascii : (done piece rest total : List ℕ) → (done ++ piece) ++ rest ≡ total → IsAscii total → IsAscii piece
 part_ascii done piece rest total whole are =
     let front : IsAscii (done ++ piece) =
-        subst IsAscii (ap (λ (l : List ℕ). take (length (done ++ piece)) l) (sym whole) ∙ take-append_seam (done ++ piece) rest)
-        (IsAscii-take total (length (done ++ piece)) are) in
+    subst IsAscii (ap (λ (l : List ℕ). take (length (done ++ piece)) l) (sym whole) ∙ take-append_seam (done ++ piece) rest)
+    (IsAscii-take total (length (done ++ piece)) are) in
     subst IsAscii (drop-append_seam done piece) (IsAscii-drop (done ++ piece) (length done) front)

@@ -2,16 +2,17 @@
 ghost use Rattle.std.specs.Prelude.{◌≡◌, ◌↔◌, List, ℕ, false, Some, IfSome, IsSome};
 ghost use Rattle.std.specs.Fmt.{WritesOnOk, WritesStyledOnOk};
 ghost use Rattle.std.specs.Str.{IsAscii};
-ghost use Rattle.chrono_datetime.specs.Moment.{IsMoment};
+ghost use Rattle.chrono_datetime.specs.Moment.{IsMoment, moment};
+ghost use Rattle.chrono_datetime.specs.Time.{TimeOfDay};
 ghost use Rattle.chrono_instant.specs.Offsets.{IsOffset};
 ghost use Rattle.chrono_zoned.specs.Zoned.{local_at, offset_at};
-ghost use Rattle.chrono_pattern.specs.Needs.{needs_offset};
+ghost use Rattle.chrono_pattern.specs.Needs.{needs_offset, needs_time};
 ghost use Rattle.chrono_pattern.specs.Patterns.{pattern_text, text_at_offset};
 
 use crate::front_item::front_item;
 use crate::pattern::Pattern;
 use crate::writer::put_any_item;
-use chrono_datetime::NaiveDateTime;
+use chrono_datetime::{NaiveDate, NaiveDateTime, NaiveTime};
 use chrono_text::Text;
 use chrono_zoned::{DateTime, FixedOffset, TimeZone};
 use std::fmt;
@@ -86,6 +87,26 @@ impl<'a> Pattern<'a> {
         ensures exists { IsSome result ↔ IsAscii self.now }
     {
         delayed_text(self.bytes, moment.naive_local(), moment.offset())
+    }
+
+    /// Returns the text of `date` as a value that writes it where it is printed: that of [`format_date`](Self::format_date). Returns `None`
+    /// if the pattern needs a time of day or an offset, or if one of its bytes is not ASCII.
+    ///
+    /// ```
+    /// use chrono_datetime::NaiveDate;
+    /// let date = NaiveDate::from_ymd_opt(2024, 2, 29)?;
+    /// Pattern::new(b"%d/%m/%Y").ok()?.delayed_date(date)?.to_string(rt.alloc()).ok()? // "29/02/2024"
+    /// Pattern::new(b"%d/%m/%Y %H").ok()?.delayed_date(date).is_none() // true
+    /// ```
+    pub fn delayed_date(&self, date: NaiveDate) -> Option<DelayedFormat<'a>>
+        // The text is the same at each time of the day.
+        ensures text { IfSome result (λ text. (t : TimeOfDay) → text ≡ pattern_text self.now (moment date t)) }
+        ensures exists { IsSome result ↔ ((needs_time self.now ≡ false) × (needs_offset self.now ≡ false) × IsAscii self.now) }
+    {
+        if self.needs_time() {
+            return None;
+        }
+        self.delayed(NaiveDateTime::new(date, NaiveTime::MIN))
     }
 }
 

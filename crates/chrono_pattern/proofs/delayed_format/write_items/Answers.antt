@@ -27,22 +27,20 @@ loop-item-preserved g c =
     let grown = front_grows (done ++ l.piece) _ _ item m x _ held.3 c.in-Some.ensures.item in
     let put = c.put_any_item.ensures.text in
     elim c.if-room-lt-ROOM.branch [
-      then-room-lt-ROOM+in_ok-print w ↦
-        let empty = put ∙ ap (λ (k : List ℕ). k ++ text_of_item item m x) (w.piece-is ∙ w.clear.ensures) in
-        (
-          done ++ l.piece,
-          λ plain. let so_far = held.1 plain in has_written_to_eq _ _ _ _ _ w.f-is (has_written_append _ _ _ _ _ _ so_far (w.print.ensures.writes so_far.plain (search rules))),
-          λ flush. let so_far = held.2 flush in subst (λ (f : Formatter g.row.W.Denot). HasWrittenStyled g.W.Write.write_str_gives c.args.f.now (done ++ l.piece) f) (sym w.f-is) (has_written_styled_append _ _ _ _ _ _ so_far (w.print.ensures.styled so_far.flush (search rules))),
-          ap (λ (k : List ℕ). ((done ++ l.piece) ++ k) ++ rest) empty ∙ grown,
-        )
-    | else-room-lt-ROOM w ↦
-        let longer = put ∙ ap (λ (k : List ℕ). k ++ text_of_item item m x) w.piece-is in
-        (
-          done,
-          λ plain. has_written_to_eq _ _ _ _ _ w.f-is (held.1 plain),
-          λ flush. subst (λ (f : Formatter g.row.W.Denot). HasWrittenStyled g.W.Write.write_str_gives c.args.f.now done f) (sym w.f-is) (held.2 flush),
-          ap (λ (k : List ℕ). (done ++ k) ++ rest) longer ∙ ap (λ (k : List ℕ). k ++ rest) (sym (append_assoc done l.piece (text_of_item item m x))) ∙ grown,
-        )
+      | then-room-lt-ROOM+in_ok-print w ↦
+          let empty = put ∙ ap (λ (k : List ℕ). k ++ text_of_item item m x) (w.piece-is ∙ w.clear.ensures) in (
+            done ++ l.piece,
+            λ plain. let so_far = held.1 plain in has_written_to_eq _ _ _ _ _ w.f-is (has_written_append _ _ _ _ _ _ so_far (w.print.ensures.writes so_far.plain (search rules))),
+            λ flush. let so_far = held.2 flush in subst (λ (f : Formatter g.row.W.Denot). HasWrittenStyled g.W.Write.write_str_gives c.args.f.now (done ++ l.piece) f) (sym w.f-is) (has_written_styled_append _ _ _ _ _ _ so_far (w.print.ensures.styled so_far.flush (search rules))),
+            ap (λ (k : List ℕ). ((done ++ l.piece) ++ k) ++ rest) empty ∙ grown,
+          )
+      | else-room-lt-ROOM w ↦
+          let longer = put ∙ ap (λ (k : List ℕ). k ++ text_of_item item m x) w.piece-is in (
+            done,
+            λ plain. has_written_to_eq _ _ _ _ _ w.f-is (held.1 plain),
+            λ flush. subst (λ (f : Formatter g.row.W.Denot). HasWrittenStyled g.W.Write.write_str_gives c.args.f.now done f) (sym w.f-is) (held.2 flush),
+            ap (λ (k : List ℕ). (done ++ k) ++ rest) longer ∙ ap (λ (k : List ℕ). k ++ rest) (sym (append_assoc done l.piece (text_of_item item m x))) ∙ grown,
+          )
     ]
 
 pub print-requires-2 : goal.print-requires-2
