@@ -117,7 +117,7 @@ impl fmt::Display for DelayedFormat<'_> {
 
     /// Writes the text.
     ///
-    /// A width, a fill, an alignment, a sign or a precision makes no difference.
+    /// A width, a fill, an alignment, a sign or a precision makes no difference. chrono pads the text to a width.
     fn fmt<W: fmt::Write>(&self, f: &mut fmt::Formatter<W>) -> fmt::Result {
         write_items(self.bytes, self.moment, self.offset, f)
     }

@@ -5,6 +5,7 @@
 //! let pattern = Pattern::new(b"%a %e %B %Y, %H:%M").ok()?;
 //! let moment = NaiveDate::from_ymd_opt(2024, 2, 29)?.and_hms_opt(9, 30, 0)?;
 //! pattern.format::<64>(moment)?.as_bytes().len() // 28
+//! pattern.delayed(moment)?.to_string(rt.alloc()).ok()? // "Thu 29 February 2024, 09:30"
 //! Pattern::new(b"%e %B %Y").ok()?.parse_date(b"29 february 2024").ok() // Some(2024-02-29)
 //! ```
 //!
