@@ -19,7 +19,7 @@ import zoneinfo
 from outside import answers_in_parts, put_program
 
 # The lines of one run.
-LINES = 12
+LINES = 6
 QUARTER = 900
 HOUR = 3_600
 DAY = 86_400
@@ -253,7 +253,11 @@ def of_rule(known, rule, start, change):
         bounds.append(("until", some[-1], some))
         bounds.append(("until", some[-1] - 1, some[:-1]))
     for bound, number, within in bounds:
-        for call, before, behind in (("next", 2 * DAY, 3 * DAY), ("prev", 2 * DAY, 3 * DAY), ("is", 3 * HOUR, 3 * HOUR)):
+        # (a call with COUNT counts from the start on, so that few are asked)
+        wide = (2 * DAY, 2 * DAY) if bound == "-" and len(found) < 60 else (3 * HOUR, DAY) if bound != "count" else (HOUR, 3 * HOUR)
+        for call, (before, behind) in (("next", wide), ("prev", wide), ("is", (HOUR, 2 * HOUR))):
+            if call == "is" and bound != "-":
+                continue
             low, high = change - before, change + behind
             listed = [it for it in within if low <= it < high and (call != "is" or (it - low) % QUARTER == 0)]
             parts = " ".join(f"{it}," if it else "-" for it in rule[1:])
@@ -286,7 +290,7 @@ def main():
         answers = [it.strip() for it in answers_in_parts(room, folder, [it for it, _ in rows], LINES)]
     for name, _ in zones:
         asked = [pair for pair in zip(rows, answers) if pair[0][0].startswith(name)]
-        calls = sum(len(run.split()) + 1 if " is " not in it else 24 for (it, run), _ in asked)
+        calls = sum(len(run.split()) + 1 if " is " not in it else 12 for (it, run), _ in asked)
         print(f"{name}: {len(asked)} lines, {calls} questions, {sum(a != b for (_, b), a in asked)} lines answered otherwise")
     wrong = differing(rows, answers)
     for it in wrong[:20]:

@@ -139,7 +139,7 @@ impl<Z: TimeZone> ZonedRule<Z> {
 }
 
 // The first second that begins no earlier than a date-time.
-fn first_second_from(utc: NaiveDateTime) -> i64
+pub(crate) fn first_second_from(utc: NaiveDateTime) -> i64
     ensures whole { utc.time.fraction ≡ 0 → result ≡ epoch_second utc }
     ensures within { 0 < utc.time.fraction → result ≡ epoch_second utc +ℤ pos 1 }
     ensures low { neg_ℤ (pos 8_334_601_228_800) ≤ℤ result }
