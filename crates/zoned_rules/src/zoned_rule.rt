@@ -123,6 +123,7 @@ impl<Z: TimeZone> ZonedRule<Z> {
     /// ```
     ///
     /// Every step counts the instances of a rule with COUNT from the rule's start on.
+    /// [`without_count`](ZonedRule::without_count) counts them once.
     pub fn after(&self, start: DateTime<Z>) -> ZonedInstances<Z>
         ensures value { result ≡ record { rule = self.now; last = Some start } }
         // No more seconds are left than that.
