@@ -16,6 +16,9 @@ use chrono_instant::Timestamp;
 use chrono_zoned::{DateTime, InZone, TimeZone};
 
 /// A rule in a zone: a rule of local times, the zone whose clock shows them, and COUNT or UNTIL.
+///
+/// Its instances are the instants that the local times stand for, from the start's instant on. Each is one instance, also where a gap moves
+/// a second local time onto it. A local time before the start's counts if a gap moves it behind the start's instant.
 #[derive(Clone, Copy)]
 pub struct ZonedRule<Z: TimeZone> {
     /// The local times.
