@@ -1,12 +1,12 @@
 //! `Bound`: COUNT and UNTIL, and the last second at which they let a rule recur.
-ghost use Rattle.std.specs.Prelude.{◌≡◌, ◌⊎◌, ℤ, pos, neg_ℤ, ◌+ℤ◌, ◌≤ℤ◌, ◌<ℤ◌, IfSome, IsFalse, IsTrue};
+ghost use Rattle.std.specs.Prelude.{◌≡◌, ◌↔◌, ◌⊎◌, ℤ, pos, neg_ℤ, ◌+ℤ◌, ◌≤ℤ◌, ◌<ℤ◌, IfSome, IsFalse, IsTrue};
 ghost use Rattle.chrono_instant.specs.Instants.{IsEpochSecond};
 ghost use Rattle.zoned_rules.specs.Recurs.{IsOneOf, IsWithin, Recurs, RecursWithin};
 ghost use Rattle.zoned_rules.specs.Private.{IsReached, IsReachedBack};
 
 use crate::zoned_rule::ZonedRule;
 use chrono_datetime::NaiveDateTime;
-use chrono_instant::Timestamp;
+use chrono_instant::{FromTimestamp, Timestamp};
 use chrono_zoned::TimeZone;
 
 // The last second of the last date, and the second before the first of the first date, in UTC.
@@ -26,6 +26,32 @@ pub enum Bound {
 }
 
 impl<Z: TimeZone> ZonedRule<Z> {
+    /// Returns a rule with the same instances that has UNTIL in place of COUNT.
+    ///
+    /// It counts the instances once, and the calls of the new rule count none.
+    ///
+    /// ```
+    /// use chrono_datetime::{AndTime, NaiveDate};
+    /// let start = NaiveDate::from_ymd_opt(2024, 1, 1)?.and_hms_opt(9, 30, 0)?;
+    /// let daily = LocalRule::new(Rule::new(Frequency::Daily), DayTimes::of_start(), start)?;
+    /// ZonedRule::new(daily, FixedOffset::east_opt(0)?, Bound::Count(2)).without_count().bound // Until(2024-01-02T09:30:00)
+    /// ```
+    pub fn without_count(&self) -> ZonedRule<Z>
+        ensures local { result.local ≡ self.now.local }
+        ensures zone { result.zone ≡ self.now.zone }
+        ensures same { (u : ℤ) → RecursWithin self.now.local (Z.ahead self.now.zone) result.bound u ↔ RecursWithin self.now.local (Z.ahead self.now.zone) self.now.bound u }
+    {
+        match NaiveDateTime::from_timestamp(self.last_second(), 0) {
+            Some(last) => ZonedRule {
+                local: self.local,
+                zone: self.zone,
+                bound: Bound::Until(last),
+            },
+            // (no instance is as early as UTC's dates)
+            None => *self,
+        }
+    }
+
     // The first second after another at which there is an instance.
     pub(crate) fn next_second(&self, start: i64) -> Option<i64>
         requires low { neg_ℤ (pos 8_334_601_300_000) ≤ℤ start }

@@ -16,9 +16,11 @@
 mod bound;
 mod day_times;
 pub mod law;
+mod listed_instants;
 mod local_instant;
 mod local_rule;
 mod search;
+mod zoned_recurrence;
 mod zoned_rule;
 
 pub use bound::Bound;
@@ -28,4 +30,5 @@ pub use day_times::DayTimes;
 pub use local_instant::instant_of;
 pub use local_rule::LocalRule;
 pub use search::zoned_instances::ZonedInstances;
+pub use zoned_recurrence::ZonedRecurrence;
 pub use zoned_rule::ZonedRule;

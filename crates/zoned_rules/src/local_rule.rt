@@ -34,6 +34,7 @@ impl LocalRule {
     /// Returns the rule that recurs on the days of `days` at the times of `times`, from the local time `start` on.
     ///
     /// COUNT and UNTIL of `days` are left out. A [`ZonedRule`](crate::ZonedRule) has its own.
+    /// A fraction of the start's second is left out too.
     ///
     /// Returns `None` if `days` has BYSETPOS and `times` lists a number. BYSETPOS would count date-times there, and a day may have several.
     /// With BYSETPOS the start alone says the time of day.
