@@ -1,7 +1,9 @@
 -- Recurrence sets in a zone (RFC 5545, section 3.8.5): the instances of a rule and instants beside them (RDATE), without exceptions (EXDATE).
--- What stands in quotation marks is from that section.
+-- What stands in quotation marks is from section 3.8.5.1.
 --
--- COUNT counts the instances that are excluded too, and an instant beside the rule uses up no COUNT. It is a part of the rule.
+-- COUNT is a part of the rule. So it counts the instances that are excluded too, and an instant beside the rule uses up none of it.
+--
+-- An instant before the start can be listed. The start itself is in the set only if the rule has it or the list does.
 use Rattle.std.specs.Prelude.{◌≡◌, ◌⊎◌, Bool, true, false, List, ℤ}
 use Rattle.std.specs.List.{list_any}
 use Rattle.std.specs.Ordering.{int_eq}
@@ -16,7 +18,7 @@ use Rattle.zoned_rules.specs.declared.bound.Bound.{Bound}
 abbrev pub lists_second : {Z : Type 0} → List (Zoned Z) → ℤ → Bool
 lists_second instants u = list_any (λ d. int_eq (epoch_second d.utc) u) instants
 
--- u is an instance of the rule, or listed beside it: "duplicate instances are ignored". UTC and the clock have a date there
+-- u is an instance of the rule, or listed beside it: "Duplicate instances are ignored". UTC and the clock have a date there
 pub record IsIncluded {Z : Type 0} (r : LocalParts) (ahead : ℤ → ℤ) (bound : Bound) (dates : List (Zoned Z)) (u : ℤ) : Type 0 where
   pub has_dates : HasDates ahead u
   pub included : RecursWithin r ahead bound u ⊎ (lists_second dates u ≡ true)

@@ -20,15 +20,18 @@ pub enum Bound {
     /// The rule never ends.
     Never,
     /// COUNT: the rule has at most this many instances. Two local times that stand for one instant count once.
+    /// The start counts only if it is an instance. Exceptions count too.
     Count(u32),
     /// UNTIL: no instance is after the instant at which UTC shows this. The instant itself can be one.
+    /// RFC 5545 asks for a time of UTC where the start has a time zone.
     Until(NaiveDateTime),
 }
 
 impl<Z: TimeZone> ZonedRule<Z> {
     /// Returns a rule with the same instances that has UNTIL in place of COUNT.
     ///
-    /// It counts the instances once, and the calls of the new rule count none.
+    /// It counts the instances once, and the calls of the new rule count none. A rule with UNTIL stays as it is. A rule without an end gets
+    /// the last second of the calendar as UNTIL. `Count(0)` stays, since no UNTIL leaves out every instant.
     ///
     /// ```
     /// use chrono_datetime::{AndTime, NaiveDate};

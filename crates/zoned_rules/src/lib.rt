@@ -11,6 +11,11 @@
 //!
 //! A [`LocalRule`] says at which local times a rule recurs. A [`ZonedRule`] is a local rule in a zone, with COUNT or UNTIL.
 //! The zone is any [`TimeZone`](chrono_zoned::TimeZone). A local time stands for the instant that [`instant_of`] finds.
+//!
+//! [`read_rule`] reads the rule of days. It refuses BYHOUR, BYMINUTE and BYSECOND, which go into [`DayTimes`]. It refuses HOURLY and the other
+//! frequencies below a day too.
+//!
+//! A local time that the clock skips gives an instance here. RFC 5545 (3.3.10) says in one place that it does, and in another that it does not.
 #![tactic(auto)]
 
 mod bound;

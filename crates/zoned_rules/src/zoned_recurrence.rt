@@ -17,7 +17,9 @@ use chrono_zoned::{DateTime, InZone, TimeZone};
 /// A rule in a zone, with extra instants (RDATE) and exceptions (EXDATE).
 ///
 /// It is the recurrence set of RFC 5545 (3.8.5.1 and 3.8.5.2). An instant that is both an instance and an extra one is in it once.
-/// COUNT counts the instances that are exceptions too. The lists may be in any order. A fraction of a second in them is left out.
+/// COUNT counts the instances that are exceptions too. An extra instant uses up none of it, and may lie before the start.
+///
+/// The lists may be in any order. Only their instants count, and not the zones. A fraction of a second in them is left out.
 #[derive(Clone, Copy)]
 pub struct ZonedRecurrence<'a, Z: TimeZone> {
     /// The rule in its zone.
@@ -29,7 +31,7 @@ pub struct ZonedRecurrence<'a, Z: TimeZone> {
 }
 
 impl<'a, Z: TimeZone> ZonedRecurrence<'a, Z> {
-    /// Returns whether `instant` is in the set.
+    /// Returns whether `instant` is in the set. An instant within a second is not, and neither is one in a leap second.
     ///
     /// ```
     /// use chrono_datetime::{AndTime, NaiveDate};
