@@ -141,7 +141,7 @@ impl<'a> Pattern<'a> {
         self.is_zoned
     }
 
-    /// Returns whether the pattern has a specifier of the time of day, such as `%H` or `%p`.
+    /// Returns whether the pattern has a specifier of the time of day, such as `%H` or `%p`. `%s` and `%+` have one too.
     ///
     /// ```
     /// Pattern::new(b"%d.%m.%y").ok()?.needs_time() // false
