@@ -1,7 +1,8 @@
 //! `Bound`: COUNT and UNTIL, and the last second at which they let a rule recur.
-ghost use Rattle.std.specs.Prelude.{◌≡◌, ◌↔◌, ◌⊎◌, ℤ, pos, neg_ℤ, ◌+ℤ◌, ◌≤ℤ◌, ◌<ℤ◌, IfSome, IsFalse, IsTrue};
+ghost use Rattle.std.specs.Prelude.{◌≡◌, ◌↔◌, ◌⊎◌, ℕ, ℤ, pos, neg_ℤ, ◌+ℤ◌, ◌≤ℤ◌, ◌<ℤ◌, IfSome, IsFalse, IsTrue};
 ghost use Rattle.chrono_instant.specs.Instants.{IsEpochSecond};
 ghost use Rattle.zoned_rules.specs.Recurs.{IsOneOf, IsWithin, Recurs, RecursWithin};
+ghost use Rattle.zoned_rules.specs.declared.bound.Bound.TheVariants.{Count};
 ghost use Rattle.zoned_rules.specs.Private.{IsReached, IsReachedBack};
 
 use crate::zoned_rule::ZonedRule;
@@ -43,6 +44,8 @@ impl<Z: TimeZone> ZonedRule<Z> {
         ensures local { result.local ≡ self.now.local }
         ensures zone { result.zone ≡ self.now.zone }
         ensures same { (u : ℤ) → RecursWithin self.now.local (Z.ahead self.now.zone) result.bound u ↔ RecursWithin self.now.local (Z.ahead self.now.zone) self.now.bound u }
+        // Where COUNT stays, there is no instance to count.
+        ensures uncounted { (count : ℕ) (u : ℤ) → result.bound ≡ Count count → ¬ RecursWithin self.now.local (Z.ahead self.now.zone) result.bound u }
     {
         match NaiveDateTime::from_timestamp(self.last_second(), 0) {
             Some(last) => ZonedRule {
