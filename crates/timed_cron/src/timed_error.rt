@@ -19,7 +19,7 @@ pub enum TimedError {
     /// The field of seconds cannot be read. `field` of the error is `None`, since this is none of the five.
     Seconds(ScheduleError),
     /// The five fields behind the seconds or the nickname cannot be read, or the string has other fields than these.
-    /// `TooFewFields` and `TooManyFields` speak of the five fields.
+    /// `TooFewFields` and `TooManyFields` speak of the five fields. So `* * * * *` has too few of them where seconds stand in front.
     Fields(ScheduleError),
 }
 
