@@ -20,7 +20,7 @@ import tempfile
 from outside import all_below, copy_crates, listed_crates
 
 TOP = os.path.dirname(os.path.dirname(os.path.abspath(__file__)))
-USED = ("chrono_datetime", "chrono_cron", "chrono_rules")
+USED = ("chrono_datetime", "chrono_cron", "chrono_pattern", "chrono_rules")
 # The requests that are refused: for the room, for more where there is some room, and one that no test makes.
 FIRST, SECOND, NONE = 1, 2, 40
 HEAD = """//! Values printed into texts that grow.
@@ -30,9 +30,16 @@ HEAD = """//! Values printed into texts that grow.
 mod tests {
     use chrono_cron::{ScheduleError, ScheduleFault, ScheduleField};
     use chrono_datetime::{Datelike, NaiveDate, NaiveDateTime, NaiveTime, OutOfRange, TimeDelta, Weekday, WeekdaySet};
+    use chrono_pattern::{DelayedFormat, Pattern};
     use chrono_rules::{Frequency, RuleError, RuleFault, RulePart};
     use std::fmt::Write;
+    use std::process::Abort;
     use std::test::Fail;
+
+    fn delayed(rt: &impl Abort) -> DelayedFormat<'static> {
+        let pattern = Pattern::new(b"%a, %F %T").ok().expect(rt, "a pattern");
+        pattern.delayed(NaiveDateTime::MAX).expect(rt, "a text")
+    }
 """
 TEST = """
     #[test]
@@ -54,6 +61,7 @@ TEXTS = [
     ("iso_weeks", "NaiveDate::MIN.iso_week(), NaiveDate::MAX.iso_week()", "{:?} {:?}", "-262143-W01 +262143-W01"),
     ("date_times", "NaiveDateTime::MIN, NaiveDateTime::MAX", "{} {:?}",
      "-262143-01-01 00:00:00 +262142-12-31T23:59:59.999999999"),
+    ("patterns", "delayed(&rt)", "{}", "Mon, +262142-12-31 23:59:59"),
 ]
 # What an error of a schedule says of each field and of each fault, and an error of a rule of each part and of each fault.
 FIELDS = {"Minute": "minute", "Hour": "hour", "Day": "day of the month", "Month": "month", "Weekday": "weekday"}
