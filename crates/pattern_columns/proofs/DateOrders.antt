@@ -3,7 +3,7 @@ use Rattle.std.proofs.Common.{◌≡◌, ◌≢◌, ◌∙◌, ◌↔◌, ℕ, s
 use Rattle.std.proofs.Math.Seq.{drop-cons}
 use Rattle.std.proofs.lemmas.List.{drop_all}
 use Rattle.chrono_text.specs.Text.{calendar_text, two_digits, year_text}
-use Rattle.pattern_columns.specs.Layouts.{NameSame, layout_text, ordered_text}
+use Rattle.pattern_columns.specs.Layouts.{NamesSame, layout_text, ordered_text}
 use Rattle.pattern_columns.specs.declared.layout.DateLayout.{DateLayout}
 use Rattle.pattern_columns.specs.declared.layout.DateOrder.{DateOrder}
 use Rattle.pattern_columns.specs.declared.layout.DateOrder.TheVariants.{YearMonthDay, DayMonthYear, MonthDayYear}
@@ -131,7 +131,7 @@ back h = record { year = sym h.year; month = sym h.month; day = sym h.day }
 
 -- a text and the ISO text made of it
 pub same_names : (layout : DateLayout) (o : DateOrder) (t r : List ℕ) → layout.order ≡ o → length t ≡ 10 → length r ≡ 10 → PartsAgree YearMonthDay r o t
-    → (get_or t (first_place o) 0 ≡ layout.separator) ↔ (get_or r 4 0 ≡ 45) → (get_or t (second_place o) 0 ≡ layout.separator) ↔ (get_or r 7 0 ≡ 45) → NameSame layout t r
+    → (get_or t (first_place o) 0 ≡ layout.separator) ↔ (get_or r 4 0 ≡ 45) → (get_or t (second_place o) 0 ≡ layout.separator) ↔ (get_or r 7 0 ≡ 45) → NamesSame (layout_text layout) t r
 same_names layout o t r is long also agree first second y m d = (
   laid_out layout o r t is also long agree (λ a b. (first.1 a, second.1 b)) y m d,
   λ e. in_order (year_text y) m d

@@ -1,37 +1,33 @@
--- What stands in a column for the text of a date in a layout, and for such a text, by what stands there for the ISO text.
+-- What stands in a column for the text of a date, and for such a text, by what stands there for the ISO text.
 use Rattle.std.proofs.Common.{◌≡◌, ℕ, ℤ, Bool, true, false, cond, List, replicate, Option, Some, None, sym}
 use Rattle.std.specs.Option.{option_and_then}
 use Rattle.chrono_calendar.specs.Days.{date_of_day, year_of, month_of, day_of}
 use Rattle.chrono_text.specs.Text.{calendar_text}
 use Rattle.chrono_columns.specs.Columns.{IsTextEntry, bytes_entry, has_four_digits, text_entry}
-use Rattle.pattern_columns.specs.Layouts.{IsLayoutEntry, NameSame, layout_entry, layout_text}
-use Rattle.pattern_columns.specs.declared.layout.DateLayout.{DateLayout}
+use Rattle.pattern_columns.specs.Layouts.{IsEntryBy, NamesSame, entry_by, text_or_zeros}
 
 -- the text of a date, if its year has four digits
-iso_if_short : ℤ → Option (List ℕ)
-iso_if_short d = cond (has_four_digits (year_of d)) (Some (calendar_text (year_of d) (month_of d) (day_of d))) None
+if_short : (ℤ → ℕ → ℕ → List ℕ) → ℤ → Option (List ℕ)
+if_short f d = cond (has_four_digits (year_of d)) (Some (f (year_of d) (month_of d) (day_of d))) None
 
-layout_if_short : DateLayout → ℤ → Option (List ℕ)
-layout_if_short layout d = cond (has_four_digits (year_of d)) (Some (layout_text layout (year_of d) (month_of d) (day_of d))) None
+by_test : (b : Bool) (size : ℕ) (iso other t r : List ℕ) → t ≡ bytes_entry (cond b (Some iso) None) → (iso ≡ t → other ≡ r) → (t ≡ replicate 10 0 → r ≡ replicate size 0) → r ≡ text_or_zeros size (cond b (Some other) None)
+by_test true size iso other t r e date none = sym (date (sym e))
+by_test false size iso other t r e date none = none e
 
-by_test : (b : Bool) (iso other t r : List ℕ) → t ≡ bytes_entry (cond b (Some iso) None) → (iso ≡ t → other ≡ r) → (t ≡ replicate 10 0 → r ≡ replicate 10 0) → r ≡ bytes_entry (cond b (Some other) None)
-by_test true iso other t r e date none = sym (date (sym e))
-by_test false iso other t r e date none = none e
+by_date : (size : ℕ) (f : ℤ → ℕ → ℕ → List ℕ) (o : Option ℤ) (t r : List ℕ) → t ≡ bytes_entry (option_and_then (if_short calendar_text) o)
+    → ((y : ℤ) → (m : ℕ) → (d : ℕ) → calendar_text y m d ≡ t → f y m d ≡ r) → (t ≡ replicate 10 0 → r ≡ replicate size 0) → r ≡ text_or_zeros size (option_and_then (if_short f) o)
+unfolding if_short
+by_date size f None t r e date none = none e
+by_date size f (Some d) t r e date none = by_test (has_four_digits (year_of d)) size _ _ t r e (date (year_of d) (month_of d) (day_of d)) none
 
-by_date : (layout : DateLayout) (o : Option ℤ) (t r : List ℕ) → t ≡ bytes_entry (option_and_then iso_if_short o)
-    → ((y : ℤ) → (m : ℕ) → (d : ℕ) → calendar_text y m d ≡ t → layout_text layout y m d ≡ r) → (t ≡ replicate 10 0 → r ≡ replicate 10 0) → r ≡ bytes_entry (option_and_then (layout_if_short layout) o)
-unfolding iso_if_short layout_if_short
-by_date layout None t r e date none = none e
-by_date layout (Some d) t r e date none = by_test (has_four_digits (year_of d)) _ _ t r e (date (year_of d) (month_of d) (day_of d)) none
+pub entry-rewritten : (size : ℕ) (f : ℤ → ℕ → ℕ → List ℕ) (n : ℤ) (t r : List ℕ) → t ≡ text_entry n
+    → ((y : ℤ) → (m : ℕ) → (d : ℕ) → calendar_text y m d ≡ t → f y m d ≡ r) → (t ≡ replicate 10 0 → r ≡ replicate size 0) → r ≡ entry_by size f n
+unfolding text_entry entry_by if_short
+entry-rewritten size f n t r e date none = by_date size f (date_of_day n) t r e date none
 
-pub entry-laid_out : (layout : DateLayout) (n : ℤ) (t r : List ℕ) → t ≡ text_entry n
-    → ((y : ℤ) → (m : ℕ) → (d : ℕ) → calendar_text y m d ≡ t → layout_text layout y m d ≡ r) → (t ≡ replicate 10 0 → r ≡ replicate 10 0) → r ≡ layout_entry layout n
-unfolding text_entry layout_entry iso_if_short layout_if_short
-entry-laid_out layout n t r e date none = by_date layout (date_of_day n) t r e date none
-
--- the date of the ISO text is that of the text in the layout
-pub entry-renamed : (layout : DateLayout) (t iso : List ℕ) (z : ℤ) → NameSame layout t iso → IsTextEntry iso z → IsLayoutEntry layout t z
-entry-renamed layout t iso z same p = record {
+-- the date of the ISO text is that of the other text
+pub entry-renamed : (f : ℤ → ℕ → ℕ → List ℕ) (t iso : List ℕ) (z : ℤ) → NamesSame f t iso → IsTextEntry iso z → IsEntryBy f t z
+entry-renamed f t iso z same p = record {
   read = λ some.
       let is = p.read some in
       record { year = is.year; month = is.month; day = is.day; names = is.names; written = (same is.year is.month is.day).0 is.written };

@@ -1,4 +1,4 @@
 -- All serve this crate's own proofs alone.
 mod DateOrders
-mod LayoutBlocks
+mod ColumnBlocks
 mod LayoutEntries

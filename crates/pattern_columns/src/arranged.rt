@@ -1,7 +1,7 @@
 //! The text of one date, from its ISO form to a layout and back.
 ghost use Rattle.std.specs.Prelude.{◌≡◌, ◌≢◌, ℕ, ℤ, replicate};
 ghost use Rattle.chrono_text.specs.Text.{calendar_text};
-ghost use Rattle.pattern_columns.specs.Layouts.{NameSame, layout_text};
+ghost use Rattle.pattern_columns.specs.Layouts.{NamesSame, layout_text};
 
 use crate::layout::{DateLayout, DateOrder};
 
@@ -38,7 +38,7 @@ pub(crate) fn from_iso(layout: DateLayout, text: [u8; 10]) -> [u8; 10]
 /// Returns the ISO text for the text of a date in a layout. For no date's text it returns none.
 #[inline]
 pub(crate) fn to_iso(layout: DateLayout, text: [u8; 10]) -> [u8; 10]
-    ensures { NameSame layout text result }
+    ensures { NamesSame (layout_text layout) text result }
 {
     let separator = layout.separator;
     match layout.order {

@@ -1,13 +1,28 @@
 //! Between a column of dates and one of their texts in a layout, of ten bytes each.
 ghost use Rattle.std.specs.Prelude.{◌≡◌, ℕ, ◌<◌, ◌≤◌, [], length, map, pos, slice_index_or};
-ghost use Rattle.pattern_columns.specs.Layouts.{IsLayoutEntry, NameSame, layout_entry};
+ghost use Rattle.pattern_columns.specs.Layouts.{IsEntryBy, NamesSame, entry_by, layout_text};
 
 use crate::arranged::{from_iso, to_iso};
 use crate::layout::DateLayout;
 use chrono_columns::{read_dates, write_dates};
 
-// How many texts are rewritten before their dates are read.
+// How many ISO texts are kept beside the column at once.
 const BLOCK: usize = 256;
+
+// The text of each date of a block, by the ISO texts of all of them.
+fn write_block(layout: DateLayout, dates: &[i32], texts: &mut [[u8; 10]])
+    requires few { length dates.now ≤ 256 }
+    requires texts { length texts.old ≡ length dates.now }
+    ensures { (i : ℕ) → i < length dates.now
+        → slice_index_or texts.new i [] ≡ entry_by 10 (layout_text layout) (slice_index_or dates.now i (pos 0)) }
+{
+    let count = dates.len();
+    let mut iso = [[0; 10]; BLOCK];
+    write_dates(dates, &mut iso[..count]);
+    for i in 0..count {
+        texts[i] = from_iso(layout, iso[i]);
+    }
+}
 
 /// Writes the text of each of `dates` in a layout, such as `29/02/2024`.
 ///
@@ -23,18 +38,20 @@ const BLOCK: usize = 256;
 /// ```
 pub fn write_layout_dates(layout: DateLayout, dates: &[i32], texts: &mut [[u8; 10]])
     requires { length texts.old ≡ length dates.now }
-    ensures { texts.new ≡ map (layout_entry layout) dates.now }
+    ensures { texts.new ≡ map (entry_by 10 (layout_text layout)) dates.now }
 {
-    write_dates(dates, texts);
-    for i in 0..texts.len() {
-        texts[i] = from_iso(layout, texts[i]);
+    let mut begun = 0;
+    while begun < dates.len() {
+        let end = begun + BLOCK.min(dates.len() - begun);
+        write_block(layout, &dates[begun..end], &mut texts[begun..end]);
+        begun = end;
     }
 }
 
 // The ISO text for each text.
 fn rewrite_texts(layout: DateLayout, texts: &[[u8; 10]], iso: &mut [[u8; 10]])
     requires { length iso.old ≡ length texts.now }
-    ensures { (i : ℕ) → i < length texts.now → NameSame layout (slice_index_or texts.now i []) (slice_index_or iso.new i []) }
+    ensures { (i : ℕ) → i < length texts.now → NamesSame (layout_text layout) (slice_index_or texts.now i []) (slice_index_or iso.new i []) }
 {
     for i in 0..texts.len() {
         iso[i] = to_iso(layout, texts[i]);
@@ -46,7 +63,7 @@ fn read_block(layout: DateLayout, texts: &[[u8; 10]], out: &mut [i32])
     requires few { length texts.now ≤ 256 }
     requires out { length out.old ≡ length texts.now }
     ensures { (i : ℕ) → i < length texts.now
-        → IsLayoutEntry layout (slice_index_or texts.now i []) (slice_index_or out.new i (pos 0)) }
+        → IsEntryBy (layout_text layout) (slice_index_or texts.now i []) (slice_index_or out.new i (pos 0)) }
 {
     let count = texts.len();
     let mut iso = [[0; 10]; BLOCK];
@@ -67,7 +84,7 @@ fn read_block(layout: DateLayout, texts: &[[u8; 10]], out: &mut [i32])
 pub fn read_layout_dates(layout: DateLayout, texts: &[[u8; 10]], out: &mut [i32])
     requires { length out.old ≡ length texts.now }
     ensures { (i : ℕ) → i < length texts.now
-        → IsLayoutEntry layout (slice_index_or texts.now i []) (slice_index_or out.new i (pos 0)) }
+        → IsEntryBy (layout_text layout) (slice_index_or texts.now i []) (slice_index_or out.new i (pos 0)) }
 {
     let mut begun = 0;
     while begun < texts.len() {

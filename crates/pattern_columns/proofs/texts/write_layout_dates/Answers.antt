@@ -1,16 +1,15 @@
-use Rattle.std.proofs.Common.{rules, pos, get_or}
-use Rattle.pattern_columns.proofs.LayoutBlocks.{half-begun, half-more, half-done}
-use Rattle.pattern_columns.proofs.LayoutEntries.{entry-laid_out}
+use Rattle.std.proofs.Common.{◌≡◌, ◌+◌, [], pos, rules, arith}
+use Rattle.pattern_columns.specs.Layouts.{entry_by, layout_text}
+use Rattle.pattern_columns.proofs.ColumnBlocks.{all-written, block-written}
 use Rattle.pattern_columns.proofs.texts.write_layout_dates.Goals as goal
 
-pub loop-i-init : goal.loop-i-init
-loop-i-init c = half-begun c.args.layout c.args.dates.now c.write_dates.new.texts c.write_dates.ensures
-
-pub loop-i-preserved : goal.loop-i-preserved
-loop-i-preserved c =
-    let half = c.loop-i.invariant in
-    half-more c.args.layout c.args.dates.now c.loop-i.texts c.loop-i.i _ (search rules) half
-    (entry-laid_out c.args.layout (get_or c.args.dates.now c.loop-i.i (pos 0)) _ _ (half.left c.loop-i.i (search rules) (search rules)) c.from_iso.ensures.date c.from_iso.ensures.none)
+pub loop-begun-preserved : goal.loop-begun-preserved
+loop-begun-preserved c =
+    let begun = c.loop-begun.begun in
+    record {
+      within = search rules;
+      written = block-written (λ n t. t ≡ entry_by 10 (layout_text c.args.layout) n) (pos 0) [] c.args.dates.now c.loop-begun.texts c.write_block.new.texts begun (begun + c.min.result) (omega arith) (search rules) (search rules) (search rules) c.loop-begun.invariant.written c.write_block.ensures;
+    }
 
 pub returns : goal.returns
-returns c = half-done c.args.layout c.args.dates.now c.loop-i.texts c.loop-i.i (search rules) (search rules) c.loop-i.invariant
+returns c = all-written 10 (layout_text c.args.layout) c.args.dates.now c.loop-begun.texts (search rules) (λ k h. c.loop-begun.invariant.written k (search rules))
