@@ -37,16 +37,16 @@ second_place DayMonthYear = 5
 second_place MonthDayYear = 5
 
 -- a text has these parts
-record HasParts (o : DateOrder) (s : ℕ) (y m d t : List ℕ) : Type 0 where
-  year : y ≡ year_bytes o t
-  month : m ≡ month_bytes o t
-  day : d ≡ day_bytes o t
-  first : get_or t (first_place o) 0 ≡ s
-  second : get_or t (second_place o) 0 ≡ s
+pub record HasParts (o : DateOrder) (s : ℕ) (y m d t : List ℕ) : Type 0 where
+  pub year : y ≡ year_bytes o t
+  pub month : m ≡ month_bytes o t
+  pub day : d ≡ day_bytes o t
+  pub first : get_or t (first_place o) 0 ≡ s
+  pub second : get_or t (second_place o) 0 ≡ s
 
 -- ---- a text and its parts
 
-next_byte : (t : List ℕ) (k : ℕ) (rest : List ℕ) → k < length t → drop (suc k) t ≡ rest → drop k t ≡ get_or t k 0 ∷ rest
+pub next_byte : (t : List ℕ) (k : ℕ) (rest : List ℕ) → k < length t → drop (suc k) t ≡ rest → drop k t ≡ get_or t k 0 ∷ rest
 next_byte t k rest h e = drop-cons t k 0 h ∙ ap (λ (r : List ℕ). get_or t k 0 ∷ r) e
 
 ten_bytes : (t : List ℕ) → length t ≡ 10 → t ≡ get_or t 0 0 ∷ get_or t 1 0 ∷ get_or t 2 0 ∷ get_or t 3 0 ∷ get_or t 4 0 ∷ get_or t 5 0 ∷ get_or t 6 0 ∷ get_or t 7 0 ∷ get_or t 8 0 ∷ get_or t 9 0 ∷ []
@@ -55,7 +55,7 @@ ten_bytes t l =
     next_byte t 0 _ (omega (arith, l)) (next_byte t 1 _ (omega (arith, l)) (next_byte t 2 _ (omega (arith, l)) (next_byte t 3 _ (omega (arith, l)) (next_byte t 4 _ (omega (arith, l))
     (next_byte t 5 _ (omega (arith, l)) (next_byte t 6 _ (omega (arith, l)) (next_byte t 7 _ (omega (arith, l)) (next_byte t 8 _ (omega (arith, l)) (next_byte t 9 _ (omega (arith, l)) end)))))))))
 
-four_bytes : (t : List ℕ) → length t ≡ 4 → t ≡ get_or t 0 0 ∷ get_or t 1 0 ∷ get_or t 2 0 ∷ get_or t 3 0 ∷ []
+pub four_bytes : (t : List ℕ) → length t ≡ 4 → t ≡ get_or t 0 0 ∷ get_or t 1 0 ∷ get_or t 2 0 ∷ get_or t 3 0 ∷ []
 four_bytes t l =
     let end : drop 4 t ≡ [] = drop_all 4 t (omega (arith, l)) in
     next_byte t 0 _ (omega (arith, l)) (next_byte t 1 _ (omega (arith, l)) (next_byte t 2 _ (omega (arith, l)) (next_byte t 3 _ (omega (arith, l)) end)))
@@ -71,10 +71,10 @@ length-ordered_text YearMonthDay s year m n d f = length-append year (s ∷ m �
 length-ordered_text DayMonthYear s year m n d f = omega arith
 length-ordered_text MonthDayYear s year m n d f = omega arith
 
-same_parts_as : (o : DateOrder) (s : ℕ) (year other month day t u : List ℕ) → year ≡ other → u ≡ t → HasParts o s other month day u → HasParts o s year month day t
+pub same_parts_as : (o : DateOrder) (s : ℕ) (year other month day t u : List ℕ) → year ≡ other → u ≡ t → HasParts o s other month day u → HasParts o s year month day t
 same_parts_as o s year other month day t u e g p = rw (e, ← g) p
 
-parts_of : (o : DateOrder) (s : ℕ) (year : List ℕ) (m n d f : ℕ) (t : List ℕ) → length t ≡ 10 → ordered_text o s year (m ∷ n ∷ []) (d ∷ f ∷ []) ≡ t → HasParts o s year (m ∷ n ∷ []) (d ∷ f ∷ []) t
+pub parts_of : (o : DateOrder) (s : ℕ) (year : List ℕ) (m n d f : ℕ) (t : List ℕ) → length t ≡ 10 → ordered_text o s year (m ∷ n ∷ []) (d ∷ f ∷ []) ≡ t → HasParts o s year (m ∷ n ∷ []) (d ∷ f ∷ []) t
 parts_of o s year m n d f t long e =
     let four : length year ≡ 4 = omega (arith, long, length-ordered_text o s year m n d f, ap (λ (l : List ℕ). length l) e) in
     let bytes = four_bytes year four in
@@ -85,7 +85,7 @@ parts_of o s year m n d f t long e =
 placed : (a b c d e f : List ℕ) (s x y : ℕ) → a ≡ d → b ≡ e → c ≡ f → x ≡ s → y ≡ s → a ++ (s ∷ (b ++ (s ∷ c))) ≡ d ++ (x ∷ (e ++ (y ∷ f)))
 placed a b c d e f s x y p q r g h = rw (p, q, r, g, h) refl
 
-text_of_parts : (o : DateOrder) (s : ℕ) (year month day t : List ℕ) → length t ≡ 10 → HasParts o s year month day t → ordered_text o s year month day ≡ t
+pub text_of_parts : (o : DateOrder) (s : ℕ) (year month day t : List ℕ) → length t ≡ 10 → HasParts o s year month day t → ordered_text o s year month day ≡ t
 text_of_parts YearMonthDay s year month day t l p = placed year month day _ _ _ s _ _ p.year p.month p.day p.first p.second ∙ sym (ten_bytes t l)
 text_of_parts DayMonthYear s year month day t l p = placed day month year _ _ _ s _ _ p.day p.month p.year p.first p.second ∙ sym (ten_bytes t l)
 text_of_parts MonthDayYear s year month day t l p = placed month day year _ _ _ s _ _ p.month p.day p.year p.first p.second ∙ sym (ten_bytes t l)
@@ -93,7 +93,7 @@ text_of_parts MonthDayYear s year month day t l p = placed month day year _ _ _ 
 -- ---- from one order to another
 
 -- the ISO text has the order of year, month and day, with `-` between
-in_order : (year : List ℕ) (m d : ℕ) → year ++ codes "-" ++ two_digits m ++ codes "-" ++ two_digits d ≡ ordered_text YearMonthDay 45 year (two_digits m) (two_digits d)
+pub in_order : (year : List ℕ) (m d : ℕ) → year ++ codes "-" ++ two_digits m ++ codes "-" ++ two_digits d ≡ ordered_text YearMonthDay 45 year (two_digits m) (two_digits d)
 in_order [] m d = refl
 in_order (x ∷ xs) m d = ap (λ (l : List ℕ). x ∷ l) (in_order xs m d)
 

@@ -1,4 +1,5 @@
 -- All serve this crate's own proofs alone.
-mod DateOrders
 mod ColumnBlocks
+mod CompactTexts
+mod DateOrders
 mod LayoutEntries

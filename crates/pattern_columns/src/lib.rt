@@ -1,4 +1,4 @@
-//! Columns of the texts of dates in layouts of fixed width, such as `29/02/2024`.
+//! Columns of the texts of dates in layouts of fixed width, such as `29/02/2024` and `20240229`.
 //!
 //! ```
 //! let layout = DateLayout { order: DateOrder::DayMonthYear, separator: b'/' };
@@ -12,8 +12,10 @@
 #![tactic(auto)]
 
 mod arranged;
+mod compact;
 mod layout;
 mod texts;
 
+pub use compact::{read_compact_dates, write_compact_dates};
 pub use layout::{DateLayout, DateOrder};
 pub use texts::{read_layout_dates, write_layout_dates};

@@ -7,7 +7,7 @@ use crate::layout::DateLayout;
 use chrono_columns::{read_dates, write_dates};
 
 // How many ISO texts are kept beside the column at once.
-const BLOCK: usize = 256;
+pub(crate) const BLOCK: usize = 256;
 
 // The text of each date of a block, by the ISO texts of all of them.
 fn write_block(layout: DateLayout, dates: &[i32], texts: &mut [[u8; 10]])
