@@ -13,6 +13,7 @@
 
 mod arranged;
 mod compact;
+pub mod law;
 mod layout;
 mod texts;
 
