@@ -7,8 +7,9 @@ use Rattle.std.proofs.lemmas.Slice.{take-put_mid}
 use Rattle.std.specs.List.{between}
 use borrow.Rule.Slice.PartMut.{put_mid}
 use Rattle.chrono_columns.specs.Columns.{IsTextEntry, text_entry}
-use Rattle.pattern_columns.specs.Layouts.{IsEntryBy, NamesSame, entry_by}
-use Rattle.pattern_columns.proofs.LayoutEntries.{entry-renamed}
+use Rattle.pattern_columns.specs.Layouts.{IsEntryBy, IsLaidOut, NamesSame, entry_by, layout_text}
+use Rattle.pattern_columns.specs.declared.layout.DateLayout.{DateLayout}
+use Rattle.pattern_columns.proofs.LayoutEntries.{entry-renamed, entry-rewritten}
 
 -- one element more is written
 pub more-written : {X Y : Type 0} (p : X → Y → Type 0) (x : X) (y : Y) (xs : List X) (out : List Y) (i : ℕ) (z : Y) → i < length out → ((k : ℕ) → k < i → p (get_or xs k x) (get_or out k y))
@@ -62,3 +63,14 @@ front-read f texts iso rest out n long also same read i h =
     let front : take n (iso ++ rest) ≡ iso = take_at iso rest n also in
     let here = (rw front at read) i (omega (arith, h, long, also)) in
     entry-renamed f (get_or texts i []) (get_or iso i []) (get_or out i (pos 0)) (same i h) here
+
+-- the texts of a block in a layout, by its ISO texts at the front of their room
+pub front-laid_out : (layout : DateLayout) (dates : List ℤ) (iso rest texts : List (List ℕ)) (n : ℕ) → length dates ≡ n → iso ≡ map text_entry dates
+    → ((i : ℕ) → i < length (take n (iso ++ rest)) → IsLaidOut layout (get_or (take n (iso ++ rest)) i []) (get_or texts i []))
+    → (i : ℕ) → i < length dates → get_or texts i [] ≡ entry_by 10 (layout_text layout) (get_or dates i (pos 0))
+front-laid_out layout dates iso rest texts n long e each i h =
+    let also : length iso ≡ n = ap (λ (l : List (List ℕ)). length l) e ∙ length-map dates text_entry ∙ long in
+    let front : take n (iso ++ rest) ≡ iso = take_at iso rest n also in
+    let here = (rw front at each) i (omega (arith, h, long, also)) in
+    entry-rewritten 10 (layout_text layout) (get_or dates i (pos 0)) (get_or iso i []) (get_or texts i [])
+    (ap (λ l. get_or l i []) e ∙ get_or-map text_entry dates i (pos 0) [] h) here.date here.none

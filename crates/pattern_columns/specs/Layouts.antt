@@ -47,3 +47,8 @@ pub record IsEntryBy (f : ℤ → ℕ → ℕ → List ℕ) (text : List ℕ) (n
 -- a text by f and an ISO text that name the same
 abbrev pub NamesSame : (ℤ → ℕ → ℕ → List ℕ) → List ℕ → List ℕ → Type 0
 NamesSame f text iso = (y : ℤ) → (m d : ℕ) → (calendar_text y m d ≡ iso) ↔ (f y m d ≡ text)
+
+-- the text in a layout for the ISO text of a date, and zero bytes for zero bytes
+pub record IsLaidOut (layout : DateLayout) (iso text : List ℕ) : Type 0 where
+  pub date : (y : ℤ) → (m d : ℕ) → calendar_text y m d ≡ iso → layout_text layout y m d ≡ text
+  pub none : iso ≡ replicate 10 0 → text ≡ replicate 10 0

@@ -1,13 +1,46 @@
 //! Between a column of dates and one of their texts in a layout, of ten bytes each.
 ghost use Rattle.std.specs.Prelude.{◌≡◌, ℕ, ◌<◌, ◌≤◌, [], length, map, pos, slice_index_or};
-ghost use Rattle.pattern_columns.specs.Layouts.{IsEntryBy, NamesSame, entry_by, layout_text};
+ghost use Rattle.pattern_columns.specs.Layouts.{IsEntryBy, IsLaidOut, NamesSame, entry_by, layout_text};
 
 use crate::arranged::{from_iso, to_iso};
-use crate::layout::DateLayout;
+use crate::layout::{DateLayout, DateOrder};
 use chrono_columns::{read_dates, write_dates};
 
 // How many ISO texts are kept beside the column at once.
 pub(crate) const BLOCK: usize = 256;
+
+// The text in a layout for each ISO text.
+#[inline]
+fn lay_out_each(layout: DateLayout, iso: &[[u8; 10]], texts: &mut [[u8; 10]])
+    requires { length texts.old ≡ length iso.now }
+    ensures { (i : ℕ) → i < length iso.now → IsLaidOut layout (slice_index_or iso.now i []) (slice_index_or texts.new i []) }
+{
+    for i in 0..iso.len() {
+        texts[i] = from_iso(layout, iso[i]);
+    }
+}
+
+// The same by a loop for each order, which does not ask for the order.
+fn lay_out_texts(layout: DateLayout, iso: &[[u8; 10]], texts: &mut [[u8; 10]])
+    requires { length texts.old ≡ length iso.now }
+    ensures { (i : ℕ) → i < length iso.now → IsLaidOut layout (slice_index_or iso.now i []) (slice_index_or texts.new i []) }
+{
+    let separator = layout.separator;
+    match layout.order {
+        DateOrder::YearMonthDay => {
+            let order = DateOrder::YearMonthDay;
+            lay_out_each(DateLayout { order, separator }, iso, texts);
+        }
+        DateOrder::DayMonthYear => {
+            let order = DateOrder::DayMonthYear;
+            lay_out_each(DateLayout { order, separator }, iso, texts);
+        }
+        DateOrder::MonthDayYear => {
+            let order = DateOrder::MonthDayYear;
+            lay_out_each(DateLayout { order, separator }, iso, texts);
+        }
+    }
+}
 
 // The text of each date of a block, by the ISO texts of all of them.
 fn write_block(layout: DateLayout, dates: &[i32], texts: &mut [[u8; 10]])
@@ -19,9 +52,7 @@ fn write_block(layout: DateLayout, dates: &[i32], texts: &mut [[u8; 10]])
     let count = dates.len();
     let mut iso = [[0; 10]; BLOCK];
     write_dates(dates, &mut iso[..count]);
-    for i in 0..count {
-        texts[i] = from_iso(layout, iso[i]);
-    }
+    lay_out_texts(layout, &iso[..count], texts);
 }
 
 /// Writes the text of each of `dates` in a layout, such as `29/02/2024`.
@@ -49,12 +80,35 @@ pub fn write_layout_dates(layout: DateLayout, dates: &[i32], texts: &mut [[u8; 1
 }
 
 // The ISO text for each text.
-fn rewrite_texts(layout: DateLayout, texts: &[[u8; 10]], iso: &mut [[u8; 10]])
+#[inline]
+fn rewrite_each(layout: DateLayout, texts: &[[u8; 10]], iso: &mut [[u8; 10]])
     requires { length iso.old ≡ length texts.now }
     ensures { (i : ℕ) → i < length texts.now → NamesSame (layout_text layout) (slice_index_or texts.now i []) (slice_index_or iso.new i []) }
 {
     for i in 0..texts.len() {
         iso[i] = to_iso(layout, texts[i]);
+    }
+}
+
+// The same by a loop for each order, which does not ask for the order.
+fn rewrite_texts(layout: DateLayout, texts: &[[u8; 10]], iso: &mut [[u8; 10]])
+    requires { length iso.old ≡ length texts.now }
+    ensures { (i : ℕ) → i < length texts.now → NamesSame (layout_text layout) (slice_index_or texts.now i []) (slice_index_or iso.new i []) }
+{
+    let separator = layout.separator;
+    match layout.order {
+        DateOrder::YearMonthDay => {
+            let order = DateOrder::YearMonthDay;
+            rewrite_each(DateLayout { order, separator }, texts, iso);
+        }
+        DateOrder::DayMonthYear => {
+            let order = DateOrder::DayMonthYear;
+            rewrite_each(DateLayout { order, separator }, texts, iso);
+        }
+        DateOrder::MonthDayYear => {
+            let order = DateOrder::MonthDayYear;
+            rewrite_each(DateLayout { order, separator }, texts, iso);
+        }
     }
 }
 
