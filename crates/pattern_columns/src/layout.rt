@@ -14,6 +14,7 @@ pub enum DateOrder {
 /// The layout of a date in ten bytes: four digits of the year, two of the month and two of the day.
 ///
 /// With the separator `/` the three orders are the patterns `%Y/%m/%d`, `%d/%m/%Y` and `%m/%d/%Y`.
+/// With `.` the second is `%d.%m.%Y`.
 ///
 /// ```
 /// DateLayout { order: DateOrder::DayMonthYear, separator: b'.' }.separator // 46
