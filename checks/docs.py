@@ -58,7 +58,7 @@ ABSENT = {
     "read from the environment": "CALENDAR_FOLDER CMAKE_PREFIX_PATH PKG_CONFIG_PATH TZ TZDIR",
     "of chrono, and left out here": """timestamp_nanos parse_and_remainder ParseMonthError ParseWeekdayError format_with_items
         format_localized format_localized_with_items and_utc and_local_timezone
-        BEFORE_MIN AFTER_MAX UNIX_EPOCH MIN_UTC MAX_UTC timestamp_millis_opt from_timestamp_secs as_seconds_f64 as_seconds_f32 from_std to_std OutOfRangeError
+        DateTime::format DateTime::parse_from_str BEFORE_MIN AFTER_MAX UNIX_EPOCH MIN_UTC MAX_UTC timestamp_millis_opt from_timestamp_secs as_seconds_f64 as_seconds_f32 from_std to_std OutOfRangeError
         from_isoywd from_num_days_from_ce from_hms
         from_num_seconds_from_midnight and_hms NaiveDate::succ NaiveDate::pred""",
     "files and modules of chrono": "naive internals ",

@@ -13,7 +13,7 @@ import sys
 
 TOP = os.path.dirname(os.path.dirname(os.path.abspath(__file__)))
 # The crates that no library lists.
-APART = re.compile(r"(tests|rows|timed)_|chrono_uses|zoned_uses|chrono_internals")
+APART = re.compile(r"(tests|rows)_|timed_(?!cron$)|chrono_uses|zoned_uses|chrono_internals")
 DEFINITION = re.compile(r"^(?:(?:abbrev|unfoldable) )?pub (?:(?:record|data|ruleset) )?(?!use\b)([^\s:(]+)", re.M)
 TYPE = re.compile(r"^pub (?:struct|enum|trait) (\w+)", re.M)
 # The root of a crate's definitions, which only names the other files.

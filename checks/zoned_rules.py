@@ -1,11 +1,12 @@
 #!/usr/bin/env python3
 """Holds zoned_rules to dateutil's rules over local times, which two sentences of RFC 5545 lead to instants by Python's zoneinfo.
 
-    checks/zoned_rules.py [--zones N] [--years N]      (6 zones and 1 year of each, if left out)
+    checks/zoned_rules.py [--zones N] [--years N]      (2 zones of six and 1 year of each, if left out)
 
 dateutil's `rrule` gives the local times of a rule, with no zone. Each stands for an instant by RFC 5545, 3.3.5: the first at which the clock
 shows it, or by the offset before the gap. Instants that are one count once, and those before the start's instant do not count.
-COUNT and UNTIL are held to the instants here, not to the local times. The zones have gaps and folds of half an hour, of one hour and of two, four
+COUNT and UNTIL are held to the instants here, not to the local times. Of some rules one instant is made an exception, and the instant ten
+minutes behind it is set beside the rule. The zones have gaps and folds of half an hour, of one hour and of two, four
 changes in a year, and a day that the clock skips. Some days around each change are gone through by `next_after` and by `prev_before`, and
 some hours by `is_instance` at each quarter of an hour. `rt try` runs a small program unproved, in a copy of the crates.
 """
@@ -19,7 +20,7 @@ import zoneinfo
 from outside import answers_in_parts, put_program
 
 # The lines of one run.
-LINES = 12
+LINES = 6
 QUARTER = 900
 HOUR = 3_600
 DAY = 86_400
@@ -49,7 +50,7 @@ use chrono_instant::{FromTimestamp, Timestamp};
 use chrono_sets::NumberSet;
 use std::io::{self, BufRead, BufReader};
 use zone_database::{Zone, system_database};
-use zoned_rules::{Bound, DateTime, DayTimes, InZone, LocalRule, ZonedRule, instant_of, read_rule};
+use zoned_rules::{Bound, DateTime, DayTimes, InZone, LocalRule, ZonedRecurrence, ZonedRule, instant_of, read_rule};
 
 fn main(rt: HostRuntime) -> io::Result<()> {
     let Ok(database) = system_database(&rt) else {
@@ -107,6 +108,7 @@ fn answer(rt: &HostRuntime, zone: &Zone, words: &str) -> io::Result<()> {
         },
         _ => Bound::Never,
     };
+    let except: i64 = number.parse().unwrap_or(0);
     let times = DayTimes {
         hours: listed(hours),
         minutes: listed(minutes),
@@ -138,6 +140,37 @@ fn answer(rt: &HostRuntime, zone: &Zone, words: &str) -> io::Result<()> {
                     if start <= prev.timestamp() {
                         print!(rt; "{} ", prev.timestamp())?;
                         from = Some(prev);
+                    }
+                }
+            }
+        }
+        "set" => {
+            // (the bound's number is the exception)
+            let (Some(left_out), Some(beside)) = (zone.timestamp_opt(except, 0), zone.timestamp_opt(except + 600, 0)) else {
+                return println!(rt; "no instants");
+            };
+            let set = ZonedRecurrence {
+                rule,
+                dates: &[beside],
+                exceptions: &[left_out],
+            };
+            let mut from = zone.timestamp_opt(start - 1, 999_999_999);
+            while let Some(instant) = from {
+                from = None;
+                if let Some(next) = set.next_after(instant) {
+                    if next.timestamp() < end && set.is_instance(next) {
+                        print!(rt; "{} ", next.timestamp())?;
+                        from = Some(next);
+                    }
+                }
+            }
+            let mut to = zone.timestamp_opt(end - 1, 1);
+            while let Some(instant) = to {
+                to = None;
+                if let Some(prev) = set.prev_before(instant) {
+                    if start <= prev.timestamp() {
+                        print!(rt; "{} ", prev.timestamp())?;
+                        to = Some(prev);
                     }
                 }
             }
@@ -239,26 +272,43 @@ def of_change(known, change):
     yield f"local {near - 4 * HOUR} {near + 4 * HOUR} 0 - 0 - - - FREQ=DAILY", " ".join(map(str, shown))
     day = EPOCH + datetime.timedelta(days=near // DAY)
     for number, rule in enumerate(RULES):
-        for back, clock in zip((0, 1, 9), STARTS[number % 3:]):
+        for back, clock in zip((1, 0, 9), STARTS[number % 3:]):
             start = (day - datetime.timedelta(days=back)).replace(hour=clock[0], minute=clock[1], second=clock[2])
-            yield from of_rule(known, rule, start, change)
+            yield from of_rule(known, rule, start, change, back == 1)
 
 
-def of_rule(known, rule, start, change):
-    """Questions on a rule around a change, with no end, with COUNT and with UNTIL."""
+def of_rule(known, rule, start, change, all_bounds):
+    """Questions on a rule around a change: with no end, or with COUNT, with UNTIL, and with an exception and an instant beside it, too."""
     found = instances(known, rule, start, change + 4 * DAY)
     some = [it for it in found if it < change + DAY]
     bounds = [("-", 0, found), ("count", len(some), some)]
     if some:
         bounds.append(("until", some[-1], some))
         bounds.append(("until", some[-1] - 1, some[:-1]))
+    if not all_bounds:
+        bounds = bounds[:1]
+    near = [it for it in found if change - 2 * DAY <= it < change + 2 * DAY]
+    if all_bounds and near:
+        number = near[len(near) // 3]
+        within = sorted({*(it for it in found if it != number), number + 600})
+        low, high = number - 6 * HOUR, number + DAY
+        listed = [it for it in within if low <= it < high]
+        yield line_of("set", low, high, start, "-", number, rule), " ".join(map(str, listed + listed[::-1]))
     for bound, number, within in bounds:
-        for call, before, behind in (("next", 2 * DAY, 3 * DAY), ("prev", 2 * DAY, 3 * DAY), ("is", 3 * HOUR, 3 * HOUR)):
+        # (a call with COUNT counts from the start on, so that few are asked)
+        wide = (2 * DAY, 2 * DAY) if bound == "-" and len(found) < 60 else (3 * HOUR, DAY) if bound != "count" else (HOUR, 3 * HOUR)
+        for call, (before, behind) in (("next", wide), ("prev", wide), ("is", (HOUR, 2 * HOUR))):
+            if call == "is" and bound != "-":
+                continue
             low, high = change - before, change + behind
             listed = [it for it in within if low <= it < high and (call != "is" or (it - low) % QUARTER == 0)]
-            parts = " ".join(f"{it}," if it else "-" for it in rule[1:])
-            line = f"{call} {low} {high} {seconds_of(start)} {bound} {number} {parts} {rule[0]}"
-            yield line, " ".join(map(str, listed[::-1] if call == "prev" else listed))
+            yield line_of(call, low, high, start, bound, number, rule), " ".join(map(str, listed[::-1] if call == "prev" else listed))
+
+
+def line_of(call, low, high, start, bound, number, rule):
+    """A question as the program reads it."""
+    parts = " ".join(f"{it}," if it else "-" for it in rule[1:])
+    return f"{call} {low} {high} {seconds_of(start)} {bound} {number} {parts} {rule[0]}"
 
 
 def differing(rows, answers):
@@ -267,7 +317,7 @@ def differing(rows, answers):
 
 def main():
     parser = argparse.ArgumentParser(description=__doc__.partition("\n")[0])
-    parser.add_argument("--zones", type=int, default=len(ZONES))
+    parser.add_argument("--zones", type=int, default=2)
     parser.add_argument("--years", type=int, default=1)
     options = parser.parse_args()
     zones = ZONES[:options.zones]
@@ -286,7 +336,7 @@ def main():
         answers = [it.strip() for it in answers_in_parts(room, folder, [it for it, _ in rows], LINES)]
     for name, _ in zones:
         asked = [pair for pair in zip(rows, answers) if pair[0][0].startswith(name)]
-        calls = sum(len(run.split()) + 1 if " is " not in it else 24 for (it, run), _ in asked)
+        calls = sum(len(run.split()) + 1 if " is " not in it else 12 for (it, run), _ in asked)
         print(f"{name}: {len(asked)} lines, {calls} questions, {sum(a != b for (_, b), a in asked)} lines answered otherwise")
     wrong = differing(rows, answers)
     for it in wrong[:20]:

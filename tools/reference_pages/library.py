@@ -6,7 +6,7 @@ import re
 from . import sources, specs
 
 # Libraries that are no library of the calendar's: tests and their rows, measures, a user's functions, and the programs.
-LEFT_OUT = re.compile(r"(?:tests|rows|timed)_\w+|\w+_uses|caltool|dates")
+LEFT_OUT = re.compile(r"(?:tests|rows)_\w+|timed_(?!cron$)\w+|\w+_uses|caltool|dates")
 NO_TRAIT_OF_USERS = ("Model", "Drop")
 
 

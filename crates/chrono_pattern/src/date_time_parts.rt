@@ -29,8 +29,8 @@ impl Parsed {
     /// - by its date and its time of day, as [`Parsed::to_date`] and [`Parsed::to_time`] say;
     /// - by the seconds from 1970. They are of UTC, and so is the date-time.
     ///
-    /// With the seconds from 1970 any other parts may be given or not. Second 60 names the leap second in front of the minute, and the
-    /// seconds from 1970 are then those of second 59 or of the next minute. An offset makes no difference.
+    /// With the seconds from 1970 any other parts may be given or not. They have to agree with UTC, whatever offset is given: an offset makes
+    /// no difference. Second 60 is a leap second. The seconds from 1970 are then those of second 59, or of the next minute's beginning.
     ///
     /// # Errors
     ///

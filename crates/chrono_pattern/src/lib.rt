@@ -8,8 +8,8 @@
 //! Pattern::new(b"%e %B %Y").ok()?.parse_date(b"29 february 2024").ok() // Some(2024-02-29)
 //! ```
 //!
-//! The specifiers, listed at [`Pattern::new`], are chrono's. They have the same texts, with English names. A pattern borrows its bytes, and
-//! nothing here allocates.
+//! The specifiers, listed at [`Pattern::new`], are chrono's. They have the same texts, with English names. But `%Z` writes an offset
+//! for every zone, and no name such as `UTC` or `CET`. A pattern borrows its bytes, and nothing here allocates.
 #![tactic(auto)]
 
 mod class;

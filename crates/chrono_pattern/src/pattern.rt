@@ -91,8 +91,9 @@ impl<'a> Pattern<'a> {
     ///
     /// Before a number, `-` asks for no padding, `_` for spaces, and `0` for zeros: `%-d`. They change nothing at `%s`.
     ///
-    /// What is smaller than the last number of an offset is left out, as GNU date does. Such an offset keeps its sign: half a minute behind
-    /// UTC is `-0000`. In chrono a pattern with `%#z` only reads. Here it writes too, so that each pattern writes each zoned date-time.
+    /// What is smaller than the last number of an offset is left out. GNU date does so too, but not for `%:::z`, where it writes what there is.
+    /// Such an offset keeps its sign: half a minute behind UTC is `-0000`. So the text of `%+` names another instant if the offset has seconds.
+    /// In chrono a pattern with `%#z` only reads. Here it writes too, so that each pattern writes each zoned date-time.
     pub fn new(bytes: &'a [u8]) -> Result<Pattern<'a>, PatternError>
         ensures bytes { IfOk result (λ p. p ≡ bytes.now) }
         ensures exists { IsOk result ↔ IsPattern bytes.now }
@@ -109,7 +110,7 @@ impl<'a> Pattern<'a> {
 
     /// Returns the text of `moment`. Returns `None` if the pattern needs an offset, or if the text has more than `N` bytes.
     ///
-    /// The seconds from 1970, `%s`, are those of UTC where the date-time is of UTC.
+    /// `%s` counts the seconds from 1970 as if `moment` were of UTC.
     ///
     /// ```
     /// use chrono_datetime::{AndTime, NaiveDate};
@@ -140,7 +141,7 @@ impl<'a> Pattern<'a> {
         self.is_zoned
     }
 
-    /// Returns whether the pattern has a specifier of the time of day, such as `%H` or `%p`.
+    /// Returns whether the pattern has a specifier of the time of day, such as `%H` or `%p`. `%s` and `%+` have one too.
     ///
     /// ```
     /// Pattern::new(b"%d.%m.%y").ok()?.needs_time() // false
@@ -202,9 +203,9 @@ impl<'a> Pattern<'a> {
     /// - Names are in letters of any case. `%B` and `%A` read three letters too.
     /// - `%z` and `%:z` are a sign, hours of two digits, and minutes below 60 of two digits. Any colons and blanks may be between them, and
     ///   none have to be. `%::z` also reads a colon and seconds, if a colon is there. `%:::z` and `%#z` may have no minutes: if no digit is
-    ///   behind the colons and blanks, these are left alone. An offset is less than a day.
+    ///   behind the colons and blanks, these are left alone. So `%:::z %H` reads the 09 of `+05 09` as minutes. An offset is less than a day.
     /// - `%#z` also reads `Z` or `z`, which is UTC. `%Z` reads all bytes up to a blank, and gives nothing.
-    /// - `%s` may have a sign. It has any digits, at most 18, and is a second of some date.
+    /// - `%s` may have a sign. It has all digits that stand there, at most 18. UTC has a date at that second.
     /// - `%+` is read as `%F`, then `T`, `t` or a space, then `%T%.f%:z`. `Z`, `z` or `UTC` in any case may be in place of the offset.
     /// - A field that stands twice has the same value in both places.
     ///

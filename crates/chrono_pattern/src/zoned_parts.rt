@@ -37,7 +37,7 @@ impl Parsed {
         }
     }
 
-    /// Returns the date-time with its offset that fits all parts.
+    /// Returns the date-time with its offset that fits all parts, as chrono's `to_datetime` does.
     ///
     /// It has to be named in one of these ways:
     ///
@@ -48,7 +48,8 @@ impl Parsed {
     ///
     /// # Errors
     ///
-    /// Returns `NotEnough` if no such date-time is named, which is told by the fields alone. Returns `Impossible` if none fits.
+    /// Returns `NotEnough` if no such date-time is named, which is told by the fields alone. Returns `Impossible` if none fits, or if UTC has
+    /// no date at that instant.
     ///
     /// ```
     /// let parsed = Pattern::new(b"%F %R %z").ok()?.read_parts(b"2024-02-29 09:30 +0530").ok()?;

@@ -1,3 +1,5 @@
 mod MinuteOrder
 mod TextWords
 mod SixFields
+mod Laws
+mod TimedDueLists

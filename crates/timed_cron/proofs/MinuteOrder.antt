@@ -60,7 +60,7 @@ pub record IsDueSecond (s : TimedSchedule) (q : Moment) : Type 0 where
   pub second : has s.seconds (q.time.second % 60) ≡ true
   pub fraction : q.time.fraction ≡ 0
 
-second_parts : (s : TimedSchedule) (q : Moment) → is_due_at_second s q ≡ true → IsDueSecond s q
+pub second_parts : (s : TimedSchedule) (q : Moment) → is_due_at_second s q ≡ true → IsDueSecond s q
 unfolding is_due_at_second
 second_parts s q due =
     let minute = and_parts (is_due s.schedule.sets (begun q)) (has s.seconds (q.time.second % 60) && q.time.fraction == 0) due in

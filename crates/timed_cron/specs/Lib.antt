@@ -1,4 +1,6 @@
 pub mod DueSeconds
+pub mod KnownSeconds
 pub mod Private
+pub mod TimedDueLists
 pub mod TimedErrors
 pub mod TimedTexts

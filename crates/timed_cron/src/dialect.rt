@@ -11,7 +11,8 @@ pub enum Dialect {
     Crontab,
     /// Six fields, of which the first is the second, 0 to 59. The others are those of [`Crontab`](Dialect::Crontab).
     ///
-    /// The option `cron.Second` of Go's library robfig/cron, and the cron triggers of Quartz, have seconds in this place. Of Quartz its `?` is not
-    /// read, nor its years, nor its weekdays from 1 for Sunday: here 0 and 7 are Sunday.
+    /// The option `cron.Second` of Go's library robfig/cron, and the cron triggers of Quartz, have seconds in this place. Their `?` is not
+    /// read, and neither is a step behind a number alone, such as `5/10`. Years, which Quartz has, are not read either. Quartz counts weekdays
+    /// from 1 for Sunday. Here 0 and 7 are Sunday.
     Seconds,
 }

@@ -2,14 +2,17 @@
 //!
 //! ```
 //! use chrono_datetime::{AndTime, NaiveDate};
-//! let schedule = TimedSchedule::new(read_schedule(b"30 4 * * *").ok()?, NumberSet::from_array([0, 30]));
-//! schedule.next_after(NaiveDate::from_ymd_opt(2024, 3, 1)?.and_hms_opt(4, 30, 0)?) // Some(2024-03-01T04:30:30)
+//! let schedule = read_timed_schedule(Dialect::Seconds, b"*/15 30 4 * * *").ok()?;
+//! schedule.next_after(NaiveDate::from_ymd_opt(2024, 3, 1)?.and_hms_opt(4, 30, 0)?) // Some(2024-03-01T04:30:15)
 //! ```
 //!
+//! [`read_timed_schedule`] parses a schedule in a [`Dialect`], with five fields or with six.
 //! A [`TimedSchedule`] is a schedule of `chrono_cron` and the seconds of a minute at which it is due. As there, date-times are naive.
 #![tactic(auto)]
 
 mod dialect;
+pub mod law;
+mod timed_dues;
 mod timed_error;
 mod timed_reader;
 mod timed_schedule;
@@ -18,6 +21,7 @@ mod words;
 pub use chrono_cron::{Schedule, read_schedule};
 pub use chrono_sets::NumberSet;
 pub use dialect::Dialect;
+pub use timed_dues::TimedDues;
 pub use timed_error::TimedError;
 pub use timed_reader::read_timed_schedule;
 pub use timed_schedule::TimedSchedule;

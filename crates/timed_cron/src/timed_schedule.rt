@@ -1,12 +1,16 @@
 //! `TimedSchedule`: a schedule that is due at seconds, and the next and the last of them.
-ghost use Rattle.std.specs.Prelude.{◌≡◌, ◌+◌, ◌/◌, ◌%◌, ◌<◌, ◌≤◌, ℕ, IfSome, IfNone, IsTrue};
+ghost use Rattle.std.specs.Prelude.{◌≡◌, ◌+◌, ◌/◌, ◌%◌, ◌<◌, ◌≤◌, ℕ, length, IfSome, IfNone, IsTrue};
+ghost use Rattle.std.specs.Iterator.{YieldsFirst};
+ghost use Rattle.std.specs.Iterator.Runs.{YieldsInOrder};
 ghost use Rattle.chrono_datetime.specs.Moment.{IsBefore};
 ghost use Rattle.chrono_datetime.specs.Time.{IsEarlier, IsPlain, time_at};
 ghost use Rattle.chrono_sets.specs.FiniteSets.{has};
 ghost use Rattle.chrono_cron.specs.Due.{is_due};
 ghost use Rattle.timed_cron.specs.DueSeconds.{NoSecondAfter, NoSecondBefore, NoSecondBetween, is_due_at_second, second_in_minute};
 ghost use Rattle.timed_cron.specs.Private.{NoSecondIn};
+ghost use Rattle.timed_cron.specs.TimedDueLists.{timed_dues_after, timed_dues_left};
 
+use crate::timed_dues::TimedDues;
 use chrono_cron::Schedule;
 use chrono_datetime::law::date_times_exist;
 use chrono_datetime::{NaiveDateTime, NaiveTime, Timelike};
@@ -133,6 +137,32 @@ impl TimedSchedule {
         Some(second_in_minute(previous, second))
     }
 
+    /// Returns an iterator over the moments after `start` at which the schedule is due.
+    ///
+    /// They come in order, to the end of the calendar.
+    ///
+    /// ```
+    /// use chrono_datetime::{AndTime, NaiveDate};
+    /// let schedule = read_timed_schedule(Dialect::Seconds, b"15,45 0 9 * * *").ok()?;
+    /// let mut moments = schedule.after(NaiveDate::from_ymd_opt(2024, 2, 29)?.and_hms_opt(9, 0, 30)?);
+    /// (moments.next(), moments.next()) // (Some(2024-02-29T09:00:45), Some(2024-03-01T09:00:15))
+    /// ```
+    #[inline]
+    pub fn after(&self, start: NaiveDateTime) -> TimedDues
+        ensures schedule { result.schedule ≡ self.now }
+        ensures start { result.last ≡ start }
+        // There are no more seconds than that in all.
+        ensures few { length (timed_dues_after self.now start) ≤ 16_544_868_105_600 }
+        // Any calls of `next` give the list's moments in order: what chains of iterators are proved by.
+        ensures runs { YieldsInOrder (YieldsFirst timed_dues_left) timed_dues_left }
+    {
+        date_times_exist(start);
+        TimedDues {
+            schedule: *self,
+            last: start,
+        }
+    }
+
     // The first second of a minute, from that one on, at which the schedule is due.
     fn second_from(&self, minute: NaiveDateTime, from: u32) -> Option<u32>
         requires { from ≤ 60 }
@@ -159,11 +189,10 @@ impl TimedSchedule {
         ensures greatest { IfSome result (λ k. NoSecondIn self.now minute (k + 1) end) }
         ensures none { IfNone result (NoSecondIn self.now minute 0 end) }
     {
-        if self.schedule.is_due(minute) {
-            self.seconds.last_in(0, end)
-        } else {
-            None
+        if !self.schedule.is_due(minute) {
+            return None;
         }
+        self.seconds.last_in(0, end)
     }
 }
 

@@ -1,10 +1,11 @@
--- Texts of schedules with the name of a time zone in front, as cronie's crontab(5) and other crons write it: `CRON_TZ=NAME` or `TZ=NAME`.
+-- Texts of schedules with the name of a time zone in front: `CRON_TZ=NAME` or `TZ=NAME`, as Go's library robfig/cron has them. In cronie's
+-- crontab(5), `CRON_TZ=NAME` is a line of its own, for all lines behind it.
 use Rattle.std.specs.Prelude.{◌≡◌, ℕ, ◌+◌, if◌then◌else◌, ◌==◌, List, codes, drop, take, refl}
 use Rattle.std.specs.List.{position_or_len}
 use Rattle.chrono_text.specs.Lists.{begins_alike, is_blank}
 use Rattle.chrono_cron.specs.declared.text.schedule_error.ScheduleError.{ScheduleError}
 
--- how many bytes in front say that a name follows, in letters of either case; none do if no name follows
+-- how many bytes in front say that a name follows, in letters of either case: 0 if the text does not begin so. The name may be empty
 unfoldable pub mark_len : List ℕ → ℕ
 mark_len text = if begins_alike (codes "CRON_TZ=") text then 8 else if begins_alike (codes "TZ=") text then 3 else 0
 
@@ -12,7 +13,7 @@ mark_len text = if begins_alike (codes "CRON_TZ=") text then 8 else if begins_al
 abbrev pub zone_name : List ℕ → List ℕ
 zone_name text = let named = drop (mark_len text) text in take (position_or_len is_blank named) named
 
--- how many bytes stand in front of the schedule
+-- how many bytes the mark and the name have in front of the schedule
 abbrev pub zone_len : List ℕ → ℕ
 zone_len text = if mark_len text == 0 then 0 else mark_len text + position_or_len is_blank (drop (mark_len text) text)
 

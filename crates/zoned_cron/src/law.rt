@@ -34,9 +34,10 @@ pub fn each_planned_time_fires_once()
         → (l : ℤ) → (u : ℤ) × IsOnly (Takes once_each ahead l) u }
 {}
 
-/// On a local day of which the clock skips no minute, a schedule with fixed times fires exactly as often as it plans minutes.
+/// For a local day of which the clock skips no minute, a schedule with fixed times has exactly as many firings as planned minutes.
 ///
 /// Each planned minute fires at one instant, and no two at the same. Each moment at which the schedule is due is the beginning of one of them.
+/// A minute that the clock skips at the end of the day before may fire on this day besides.
 pub fn a_day_fires_as_often_as_planned()
     ensures day { (s : FieldSets) (ahead : ℤ → ℤ) → ((u : ℤ) → IsOffset (ahead u)) → ((k : ℤ) → (found : MappedLocalTime ℤ) × IsMapped ahead k found)
         → (n : ℤ) → ShowsMinutes ahead n → (fired : List ℤ) × FireOnceEach ahead n (planned_minutes s n) fired × AreDifferent fired }
@@ -44,7 +45,7 @@ pub fn a_day_fires_as_often_as_planned()
         → (k : ℕ) × (m ≡ minute_of_day m.date k) × Contains (planned_minutes s m.date) k }
 {}
 
-/// Planned local times that one gap skips have their firing in common.
+/// By the policy of a schedule with fixed times, planned local times that one gap skips have their firing in common.
 pub fn one_gap_fires_once()
     ensures { (ahead : ℤ → ℤ) (l k u : ℤ) → l ≤ℤ k → ((j : ℤ) → l ≤ℤ j → j ≤ℤ k → IsGap ahead j) → Takes once_each ahead l u
         → Takes once_each ahead k u }

@@ -28,7 +28,10 @@ pub struct ZonedText<'a> {
 /// Reads a schedule with the name of a time zone in front: `CRON_TZ=NAME` or `TZ=NAME`, and then what [`read_schedule`] reads.
 ///
 /// The name ends at the first space or tab. It may be any bytes, or none: this function asks no database. A text with no such word in front
-/// is read as a schedule alone. The letters `CRON_TZ` and `TZ` may have either case.
+/// is read as a schedule alone. A blank in front of the word makes it part of the schedule, which [`read_schedule`] then refuses. The letters
+/// `CRON_TZ` and `TZ` may have either case.
+///
+/// Go's library robfig/cron has schedules of this form. In a table of cronie `CRON_TZ=NAME` is a line of its own.
 ///
 /// # Errors
 ///

@@ -11,7 +11,7 @@ use Rattle.zoned_rules.specs.declared.bound.Bound.{Bound}
 use Rattle.zoned_rules.specs.declared.zoned_rule.ZonedRule.{ZonedRule}
 use Rattle.zoned_rules.specs.declared.search.zoned_instances.ZonedInstances.{ZonedInstances}
 use Rattle.zoned_rules.specs.Recurs.{IsInstanceAt}
-use Rattle.zoned_rules.specs.ZonedInstanceLists.{AreZonedInstances, GivesInstance, IsNextInstance, seconds_behind, zoned_instances_left}
+use Rattle.zoned_rules.specs.ZonedInstanceLists.{AreZonedInstances, GivesInstance, IsNextInstance, seconds_until_end, zoned_instances_left}
 
 -- an instant that begins a second, and comes later, lies in a later second
 later_instance : (start m : Moment) → IsMoment start → m.time.fraction ≡ 0 → IsBefore start m → epoch_second start <ℤ epoch_second m
@@ -24,7 +24,7 @@ goes_on r clock bound it start None was is found later = record { on = λ _. tt;
 goes_on {Z} r clock bound it start (Some d) was is found later =
     let lt = later_instance start.utc d.utc is found.0 later in
     let fewer : unsigned_abs (pos 8_210_266_876_799 -ℤ epoch_second d.utc) < unsigned_abs (pos 8_210_266_876_799 -ℤ epoch_second start.utc) = omega (arith, casts, lt, found.1.recurs.recurs.dates.utc.1) in
-    let less : seconds_behind (Some d) < seconds_behind it.last = subst (λ (o : Option (Zoned Z)). seconds_behind (Some d) < seconds_behind o) (sym was) fewer in
+    let less : seconds_until_end (Some d) < seconds_until_end it.last = subst (λ (o : Option (Zoned Z)). seconds_until_end (Some d) < seconds_until_end o) (sym was) fewer in
     record { on = λ _. (tt, tt, less); keeps = tt; rests = λ _. tt }
 
 -- what a call gave is the next instance after the last one

@@ -3,6 +3,7 @@ mod Fitting
 mod ListedTimes
 mod Reached
 mod Numbered
+mod InstantLists
 mod PublicCalls
 mod Laws
 mod GivenInstances

@@ -1,5 +1,6 @@
 pub mod LocalTimes
 pub mod LocalInstants
 pub mod Recurs
+pub mod ZonedSets
 pub mod ZonedInstanceLists
 pub mod Private

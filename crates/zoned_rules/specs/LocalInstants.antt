@@ -8,7 +8,7 @@ use Rattle.chrono_instant.specs.Instants.{IsEpochSecond}
 use Rattle.chrono_zoned.specs.Zones.{Shows}
 
 -- u is the first instant at which the clock shows l.
--- "If the local time described occurs more than one time", the value "refers to the first occurrence of the referenced time"
+-- If "the local time described occurs more than one time", the value "refers to the first occurrence of the referenced time"
 pub record IsFirstOccurrence (ahead : ℤ → ℤ) (l u : ℤ) : Type 0 where
   pub shown : Shows ahead l u
   pub first : (v : ℤ) → Shows ahead l v → u ≤ℤ v

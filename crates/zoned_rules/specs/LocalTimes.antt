@@ -33,7 +33,8 @@ abbrev pub names_number : FiniteSet → ℕ → ℕ → Bool
 names_number set own k = if is_empty set then k == own else has set k
 
 -- The second k of a day is one of the times, where the start lies in the second `start` of its day. BYHOUR is a list of "hours of the day".
--- BYMINUTE is one of "minutes within an hour". BYSECOND is one of "seconds within a minute".
+-- BYMINUTE is one of "minutes within an hour". BYSECOND is one of "seconds within a minute". It may list 60 there. No second of a day has that
+-- number, so here it names none. Section 3.3.12 advises calendars without leap seconds to read it as 59.
 unfoldable pub is_time : DayTimes → ℕ → ℕ → Bool
 is_time times start k =
     names_number times.hours (start / 3_600) (k / 3_600)

@@ -10,7 +10,9 @@ use Rattle.zoned_rules.specs.declared.bound.Bound.TheVariants.{Never, Count, Unt
 
 -- In what follows a clock is `ahead u` seconds ahead of UTC at the second u. Seconds count from 1 January 1970.
 
--- the local time `planned` is one of the rule's, and it stands for the instant u
+-- The local time `planned` is one of the rule's, and it stands for the instant u. An instance whose local time "does not exist, or occurs more
+-- than once" is "interpreted in the same manner as an explicit DATE-TIME value", which is what `IsInstantOf` says. The same section asks that
+-- instances of a "nonexistent local time" be ignored, and so contradicts itself. Here they count.
 pub record RecursFor (r : LocalParts) (ahead : ℤ → ℤ) (planned : Moment) (u : ℤ) : Type 0 where
   pub dates : HasDates ahead u
   pub exists : IsMoment planned
@@ -18,7 +20,8 @@ pub record RecursFor (r : LocalParts) (ahead : ℤ → ℤ) (planned : Moment) (
   pub stands : IsInstantOf ahead (epoch_second planned) u
 
 -- the rule recurs at u, if COUNT and UNTIL are left out: one of its local times stands for u, and u is not before the start's instant.
--- Two local times may stand for one instant, since a gap moves one onto another. It is one instant all the same
+-- Two local times may stand for one instant, since a gap moves one onto another. It is one instant all the same.
+-- DTSTART "always counts as the first occurrence". Here that holds of a start that is one of the rule's local times
 pub record Recurs (r : LocalParts) (ahead : ℤ → ℤ) (u : ℤ) : Type 0 where
   pub planned : Moment
   pub recurs : RecursFor r ahead planned u

@@ -29,10 +29,10 @@ module _ {Z : Type 0} (ahead : Z → ℤ → ℤ) where
     pub next : MatchOption it.last (given ≡ None) (λ start. IsNextInstance it.rule start.utc given)
 
 -- how many seconds begin after an instant, up to the end of UTC's last date
-abbrev pub seconds_behind : {Z : Type 0} → Option (Zoned Z) → ℕ
-seconds_behind None = 0
-seconds_behind (Some d) = unsigned_abs (pos 8_210_266_876_799 -ℤ epoch_second d.utc)
+abbrev pub seconds_until_end : {Z : Type 0} → Option (Zoned Z) → ℕ
+seconds_until_end None = 0
+seconds_until_end (Some d) = unsigned_abs (pos 8_210_266_876_799 -ℤ epoch_second d.utc)
 
 -- no more instances come than that
 abbrev pub zoned_instances_left : {Z : Type 0} → ZonedInstances Z → Count
-zoned_instances_left it = at_most (seconds_behind it.last)
+zoned_instances_left it = at_most (seconds_until_end it.last)

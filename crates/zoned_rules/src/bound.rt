@@ -1,12 +1,13 @@
 //! `Bound`: COUNT and UNTIL, and the last second at which they let a rule recur.
-ghost use Rattle.std.specs.Prelude.{◌≡◌, ◌⊎◌, ℤ, pos, neg_ℤ, ◌+ℤ◌, ◌≤ℤ◌, ◌<ℤ◌, IfSome, IsFalse, IsTrue};
+ghost use Rattle.std.specs.Prelude.{◌≡◌, ◌↔◌, ◌⊎◌, ℕ, ℤ, pos, neg_ℤ, ◌+ℤ◌, ◌≤ℤ◌, ◌<ℤ◌, IfSome, IsFalse, IsTrue};
 ghost use Rattle.chrono_instant.specs.Instants.{IsEpochSecond};
 ghost use Rattle.zoned_rules.specs.Recurs.{IsOneOf, IsWithin, Recurs, RecursWithin};
+ghost use Rattle.zoned_rules.specs.declared.bound.Bound.TheVariants.{Count};
 ghost use Rattle.zoned_rules.specs.Private.{IsReached, IsReachedBack};
 
 use crate::zoned_rule::ZonedRule;
 use chrono_datetime::NaiveDateTime;
-use chrono_instant::Timestamp;
+use chrono_instant::{FromTimestamp, Timestamp};
 use chrono_zoned::TimeZone;
 
 // The last second of the last date, and the second before the first of the first date, in UTC.
@@ -20,12 +21,43 @@ pub enum Bound {
     /// The rule never ends.
     Never,
     /// COUNT: the rule has at most this many instances. Two local times that stand for one instant count once.
+    /// The start counts only if it is an instance. Exceptions count too.
     Count(u32),
     /// UNTIL: no instance is after the instant at which UTC shows this. The instant itself can be one.
+    /// RFC 5545 asks for a time of UTC where the start has a time zone.
     Until(NaiveDateTime),
 }
 
 impl<Z: TimeZone> ZonedRule<Z> {
+    /// Returns a rule with the same instances that has UNTIL in place of COUNT.
+    ///
+    /// It counts the instances once, and the calls of the new rule count none. A rule with UNTIL stays as it is. A rule without an end gets
+    /// the last second of the calendar as UNTIL. `Count(0)` stays, since no UNTIL leaves out every instant.
+    ///
+    /// ```
+    /// use chrono_datetime::{AndTime, NaiveDate};
+    /// let start = NaiveDate::from_ymd_opt(2024, 1, 1)?.and_hms_opt(9, 30, 0)?;
+    /// let daily = LocalRule::new(Rule::new(Frequency::Daily), DayTimes::of_start(), start)?;
+    /// ZonedRule::new(daily, FixedOffset::east_opt(0)?, Bound::Count(2)).without_count().bound // Until(2024-01-02T09:30:00)
+    /// ```
+    pub fn without_count(&self) -> ZonedRule<Z>
+        ensures local { result.local ≡ self.now.local }
+        ensures zone { result.zone ≡ self.now.zone }
+        ensures same { (u : ℤ) → RecursWithin self.now.local (Z.ahead self.now.zone) result.bound u ↔ RecursWithin self.now.local (Z.ahead self.now.zone) self.now.bound u }
+        // Where COUNT stays, there is no instance to count.
+        ensures uncounted { (count : ℕ) (u : ℤ) → result.bound ≡ Count count → ¬ RecursWithin self.now.local (Z.ahead self.now.zone) result.bound u }
+    {
+        match NaiveDateTime::from_timestamp(self.last_second(), 0) {
+            Some(last) => ZonedRule {
+                local: self.local,
+                zone: self.zone,
+                bound: Bound::Until(last),
+            },
+            // (no instance is as early as UTC's dates)
+            None => *self,
+        }
+    }
+
     // The first second after another at which there is an instance.
     pub(crate) fn next_second(&self, start: i64) -> Option<i64>
         requires low { neg_ℤ (pos 8_334_601_300_000) ≤ℤ start }

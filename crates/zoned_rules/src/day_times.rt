@@ -7,7 +7,8 @@ use chrono_sets::NumberSet;
 /// BYHOUR, BYMINUTE and BYSECOND: the times of day at which a rule recurs.
 ///
 /// A part with an empty set is one that the rule does not have. It takes the number of the start.
-/// A number that a part cannot have, such as the hour 24, names no time. So does the second 60.
+/// A number that a part cannot have, such as the hour 24, names no time. Nor does the second 60, which RFC 5545 lets BYSECOND list.
+/// So a part that lists such numbers alone leaves the rule without instances.
 #[derive(Clone, Copy, PartialEq, Eq, Debug)]
 pub struct DayTimes {
     /// BYHOUR: the hours, 0 to 23.

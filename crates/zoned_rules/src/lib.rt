@@ -11,14 +11,21 @@
 //!
 //! A [`LocalRule`] says at which local times a rule recurs. A [`ZonedRule`] is a local rule in a zone, with COUNT or UNTIL.
 //! The zone is any [`TimeZone`](chrono_zoned::TimeZone). A local time stands for the instant that [`instant_of`] finds.
+//!
+//! [`read_rule`] reads the rule of days. It refuses BYHOUR, BYMINUTE and BYSECOND, which go into [`DayTimes`]. It refuses HOURLY and the other
+//! frequencies below a day too.
+//!
+//! A local time that the clock skips gives an instance here. RFC 5545 (3.3.10) says in one place that it does, and in another that it does not.
 #![tactic(auto)]
 
 mod bound;
 mod day_times;
 pub mod law;
+mod listed_instants;
 mod local_instant;
 mod local_rule;
 mod search;
+mod zoned_recurrence;
 mod zoned_rule;
 
 pub use bound::Bound;
@@ -28,4 +35,5 @@ pub use day_times::DayTimes;
 pub use local_instant::instant_of;
 pub use local_rule::LocalRule;
 pub use search::zoned_instances::ZonedInstances;
+pub use zoned_recurrence::ZonedRecurrence;
 pub use zoned_rule::ZonedRule;

@@ -34,6 +34,7 @@ impl LocalRule {
     /// Returns the rule that recurs on the days of `days` at the times of `times`, from the local time `start` on.
     ///
     /// COUNT and UNTIL of `days` are left out. A [`ZonedRule`](crate::ZonedRule) has its own.
+    /// A fraction of the start's second makes no difference to the times. The start is one of them only if its day and its time of day pass.
     ///
     /// Returns `None` if `days` has BYSETPOS and `times` lists a number. BYSETPOS would count date-times there, and a day may have several.
     /// With BYSETPOS the start alone says the time of day.
@@ -70,7 +71,9 @@ impl LocalRule {
         self.start
     }
 
-    /// Returns whether the rule recurs at the local time `local`, be it before the start on its day.
+    /// Returns whether `local` is one of the local times at which the rule recurs.
+    ///
+    /// A time of the start's day counts even if it is before the start. A time within a second is none, and neither is one in a leap second.
     ///
     /// ```
     /// use chrono_datetime::{AndTime, NaiveDate};

@@ -4,7 +4,7 @@ ghost use Rattle.std.specs.Iterator.{Drains};
 ghost use Rattle.chrono_datetime.specs.Moment.{IsBefore, IsMoment};
 ghost use Rattle.chrono_instant.specs.Instants.{epoch_second};
 ghost use Rattle.chrono_zoned.specs.Zoned.{Zoned};
-ghost use Rattle.zoned_rules.specs.ZonedInstanceLists.{AreZonedInstances, GivesInstance, seconds_behind};
+ghost use Rattle.zoned_rules.specs.ZonedInstanceLists.{AreZonedInstances, GivesInstance, seconds_until_end};
 ghost use Rattle.zoned_rules.specs.Recurs.{IsInstanceAt, NoInstanceAfter, NoInstanceBefore, NoInstanceBetween};
 
 use crate::bound::Bound;
@@ -16,6 +16,10 @@ use chrono_instant::Timestamp;
 use chrono_zoned::{DateTime, InZone, TimeZone};
 
 /// A rule in a zone: a rule of local times, the zone whose clock shows them, and COUNT or UNTIL.
+///
+/// Its instances are the instants that the local times stand for, from the start's instant on. Each is one instance, also where a gap moves
+/// a second local time onto it. A local time of the start's day that is before the start counts if a gap moves it behind the start's instant.
+/// The start's instant is an instance only if a local time stands for it.
 #[derive(Clone, Copy)]
 pub struct ZonedRule<Z: TimeZone> {
     /// The local times.
@@ -123,10 +127,11 @@ impl<Z: TimeZone> ZonedRule<Z> {
     /// ```
     ///
     /// Every step counts the instances of a rule with COUNT from the rule's start on.
+    /// [`without_count`](ZonedRule::without_count) counts them once.
     pub fn after(&self, start: DateTime<Z>) -> ZonedInstances<Z>
         ensures value { result ≡ record { rule = self.now; last = Some start } }
         // No more seconds are left than that.
-        ensures few { seconds_behind result.last ≤ 16_544_868_105_599 }
+        ensures few { seconds_until_end result.last ≤ 16_544_868_105_599 }
         // What calls of `next` give, up to the first `None`, is the instances in order.
         ensures runs { (given : List (Zoned Z)) → Drains (GivesInstance Z.ahead) result given → AreZonedInstances Z.ahead self.now start.utc given }
     {
@@ -139,7 +144,7 @@ impl<Z: TimeZone> ZonedRule<Z> {
 }
 
 // The first second that begins no earlier than a date-time.
-fn first_second_from(utc: NaiveDateTime) -> i64
+pub(crate) fn first_second_from(utc: NaiveDateTime) -> i64
     ensures whole { utc.time.fraction ≡ 0 → result ≡ epoch_second utc }
     ensures within { 0 < utc.time.fraction → result ≡ epoch_second utc +ℤ pos 1 }
     ensures low { neg_ℤ (pos 8_334_601_228_800) ≤ℤ result }

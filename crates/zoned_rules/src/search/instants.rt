@@ -134,7 +134,7 @@ fn later_of(one: i64, other: i64) -> i64
 }
 
 // Whether UTC and the clock have a date at a second.
-fn has_dates<Z: TimeZone>(zone: Z, second: i64) -> bool
+pub(crate) fn has_dates<Z: TimeZone>(zone: Z, second: i64) -> bool
     ensures { IsTrue result ↔ HasDates (Z.ahead zone) second }
 {
     zone.timestamp_opt(second, 0).is_some()
@@ -163,7 +163,7 @@ fn may_follow(local: NaiveDateTime, best: Option<i64>) -> bool
 }
 
 // The earlier of two instants, if there is one.
-fn earlier(one: Option<i64>, other: Option<i64>) -> Option<i64>
+pub(crate) fn earlier(one: Option<i64>, other: Option<i64>) -> Option<i64>
     ensures least { (u : ℤ) → IsReached one u ⊎ IsReached other u → IsReached result u }
     ensures either { (result ≡ one) ⊎ (result ≡ other) }
 {
@@ -175,7 +175,7 @@ fn earlier(one: Option<i64>, other: Option<i64>) -> Option<i64>
 }
 
 // The later of two instants, if there is one.
-fn later(one: Option<i64>, other: Option<i64>) -> Option<i64>
+pub(crate) fn later(one: Option<i64>, other: Option<i64>) -> Option<i64>
     ensures greatest { (u : ℤ) → IsReachedBack one u ⊎ IsReachedBack other u → IsReachedBack result u }
     ensures either { (result ≡ one) ⊎ (result ≡ other) }
 {

@@ -1,7 +1,7 @@
 use Rattle.std.proofs.Common.{◌≡◌, ℕ, List, ◌∷◌, length, drop, arith, inl, inr, ap, ◌∙◌, sym, None}
 use Rattle.chrono_cron.specs.FieldTexts.{field_lists}
 use Rattle.chrono_cron.specs.PlacedWords.{placed_words}
-use Rattle.chrono_cron.specs.ScheduleErrors.{schedule_error_at}
+use Rattle.chrono_cron.specs.ScheduleErrors.{front_fault, front_or, schedule_error_at, told_or}
 use Rattle.chrono_cron.specs.declared.text.number_names.Names.TheVariants.{Numbers}
 use Rattle.timed_cron.specs.Private.{IsWordAt}
 use Rattle.timed_cron.specs.TimedErrors.{error_with_seconds, four_fault, timed_error, unless_seconds}
@@ -84,6 +84,8 @@ returns-in-Err-clause-error c =
     let next = second_word text minute.place minute.end in
     let others = placed_words minute.end (drop minute.end text) in
     let words = two_words text second.place second.end minute.place minute.end c.in-Some.ensures.some c.in-Some-next_word.ensures.some in
-    rw c.in-Err.ensures.fault at c.number_error.ensures.error
-    ∙ ap (λ fault. InFields (schedule_error_at None fault)) (told_in_front first next others (four_fault (length text) others))
-    ∙ sym (ap (error_with_seconds text) words ∙ error_of_number text first next others c.in-Err.ensures.others)
+    let told : c.number_error.result ≡ InFields (schedule_error_at None (told_or first.0 (front_fault first.1) (four_fault (length text) others))) =
+    rw c.in-Err.ensures.fault at c.number_error.ensures.error in
+    let number : error_with_seconds text (placed_words 0 text) ≡ InFields (schedule_error_at None (front_or (first ∷ next ∷ others) (four_fault (length text) others))) =
+    ap (error_with_seconds text) words ∙ error_of_number text first next others c.in-Err.ensures.others in
+    told ∙ ap (λ fault. InFields (schedule_error_at None fault)) (told_in_front first next others (four_fault (length text) others)) ∙ sym number
