@@ -1,8 +1,9 @@
 -- The text of a pattern of ASCII bytes is ASCII.
-use Rattle.std.proofs.Common.{◌≡◌, ℕ, suc, ◌-◌, ◌/◌, ◌%◌, ◌^◌, ◌<◌, ◌==◌, nat_lt, Bool, true, false, ◌&&◌, if◌then◌else◌, List, [], ◌∷◌, ◌++◌, codes, take, length, Option, None, Some, ℤ, pos, refl, sym, subst, arith}
+use Rattle.std.proofs.Common.{◌≡◌, ℕ, suc, ◌-◌, ◌/◌, ◌%◌, ◌^◌, ◌<◌, ◌==◌, nat_lt, Bool, true, false, ◌&&◌, if◌then◌else◌, List, [], ◌∷◌, ◌++◌, codes, take, length, Option, None, Some, ℤ, pos, refl, ap, sym, ◌∙◌, subst, arith}
 use Rattle.std.proofs.lemmas.Bool.{and_parts, ltb-true}
 use Rattle.std.proofs.lemmas.Fmt.{IsAscii-decimal}
-use Rattle.std.proofs.lemmas.Str.{IsAscii-append, IsAscii-take}
+use Rattle.std.proofs.Math.Seq.{drop-append_seam, take-append_seam}
+use Rattle.std.proofs.lemmas.Str.{IsAscii-append, IsAscii-drop, IsAscii-take}
 use Rattle.std.proofs.lemmas.Str.Ascii.{IsAscii-cons, IsAscii-nil}
 use Rattle.std.specs.Fmt.{decimal}
 use Rattle.std.specs.Int.RustNames.{int_lt}
@@ -419,3 +420,12 @@ text_ascii (c ∷ bytes) m x near are date time s =
 
 pub ascii_text : (bytes : List ℕ) (m : Moment) (x : ℤ) → IsOffset x → IsAscii bytes → IsDate m.date → IsTime m.time → IsAscii (text_at_offset bytes m x)
 ascii_text bytes m x near are date time = text_ascii bytes m x near are date time Outside
+
+-- ---- a part of a text
+
+pub part_ascii : (done piece rest total : List ℕ) → (done ++ piece) ++ rest ≡ total → IsAscii total → IsAscii piece
+part_ascii done piece rest total whole are =
+    let front : IsAscii (done ++ piece) =
+    subst IsAscii (ap (λ (l : List ℕ). take (length (done ++ piece)) l) (sym whole) ∙ take-append_seam (done ++ piece) rest)
+    (IsAscii-take total (length (done ++ piece)) are) in
+    subst IsAscii (drop-append_seam done piece) (IsAscii-drop (done ++ piece) (length done) front)

@@ -11,10 +11,10 @@ ghost use Rattle.chrono_pattern.specs.Groups.{group_text};
 ghost use Rattle.chrono_pattern.specs.Words.{half_text};
 
 use crate::item::GroupField;
-use crate::number::{put_spaced, put_two, put_year};
+use crate::number::{clock_second, put_spaced, put_two, put_year};
 use crate::word::{half, month_name};
 use chrono_datetime::{Datelike, NaiveDate, NaiveDateTime, NaiveTime, Timelike};
-use chrono_text::{NANOS_PER_SEC, Text};
+use chrono_text::Text;
 
 // Puts the numbers and the words of a group.
 #[tactic(auto, unfolding(crate::specs::Groups::group_text, crate::specs::Numbers::field_text, crate::specs::Words::word_text, crate::specs::GroupParts::two, crate::specs::GroupParts::spaced, crate::specs::GroupParts::padded_year, crate::specs::GroupParts::clock_at, crate::specs::GroupParts::letters_of_month))]
@@ -120,11 +120,7 @@ fn put_clock<const N: usize>(text: &mut Text<N>, hour: u32, time: NaiveTime)
     ensures fits { length text.new ≤ length text.old + 8 }
 {
     put_hour_minute(text, hour, time);
-    put_behind(
-        text,
-        b':',
-        time.second() + time.nanosecond() / NANOS_PER_SEC,
-    );
+    put_behind(text, b':', clock_second(time));
 }
 
 // Puts a time of day on the clock of twelve hours.

@@ -5,6 +5,7 @@
 //! let pattern = Pattern::new(b"%a %e %B %Y, %H:%M").ok()?;
 //! let moment = NaiveDate::from_ymd_opt(2024, 2, 29)?.and_hms_opt(9, 30, 0)?;
 //! pattern.format::<64>(moment)?.as_bytes().len() // 28
+//! pattern.delayed(moment)?.to_string(rt.alloc()).ok()? // "Thu 29 February 2024, 09:30"
 //! Pattern::new(b"%e %B %Y").ok()?.parse_date(b"29 february 2024").ok() // Some(2024-02-29)
 //! ```
 //!
@@ -15,6 +16,7 @@
 mod class;
 mod date_parts;
 mod date_time_parts;
+mod delayed_format;
 mod error;
 mod front_item;
 mod group;
@@ -42,6 +44,7 @@ mod zoned;
 mod zoned_parts;
 mod zoned_piece;
 
+pub use delayed_format::DelayedFormat;
 pub use error::{PatternError, PatternFault, PatternReadError, ReadFault};
 pub use parsed::Parsed;
 pub use pattern::Pattern;

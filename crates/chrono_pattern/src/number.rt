@@ -1,19 +1,50 @@
 //! Writes the numbers of a date-time.
-ghost use Rattle.std.specs.Prelude.{◌≡◌, ◌+◌, ◌<◌, ◌≤◌, ◌++◌, ◌∷◌, [], length, true};
+ghost use Rattle.std.specs.Prelude.{◌≡◌, ◌+◌, ◌/◌, ◌<◌, ◌≤◌, ◌++◌, ◌∷◌, [], length, true};
 ghost use Rattle.std.specs.Str.{byte};
+ghost use Rattle.chrono_datetime.specs.Duration.{nanos_per_second};
+ghost use Rattle.chrono_datetime.specs.Time.{second_of};
 ghost use Rattle.chrono_pattern.specs.GroupParts.{padded_year, spaced, two};
 ghost use Rattle.chrono_pattern.specs.Numbers.{least_digits, field_text, padded, padding_of, sign_of, size_of, year_sign};
 ghost use Rattle.chrono_pattern.specs.declared.item.Padding.TheVariants.{Zeros};
 
 use crate::item::{NumberField, Padding};
 use crate::year_week::{week_from_monday, week_from_sunday};
-use chrono_datetime::{Datelike, NaiveDateTime, Timelike};
+use chrono_datetime::{Datelike, NaiveDateTime, NaiveTime, Timelike};
 use chrono_text::{NANOS_PER_SEC, Text};
 
-// Puts a number of a date-time.
-#[tactic(auto, unfolding(crate::specs::Numbers::field_text))]
+// Puts a number of a date-time. The usual ones come first.
 #[inline(never)]
+#[tactic(auto, unfolding(crate::specs::Numbers::field_text, crate::specs::GroupParts::two, crate::specs::GroupParts::padded_year))]
 pub(crate) fn put_number<const N: usize>(
+    text: &mut Text<N>,
+    field: NumberField,
+    padding: Padding,
+    moment: NaiveDateTime,
+)
+    requires room { length text.old + 11 ≤ N }
+    ensures text { text.new ≡ text.old ++ field_text field padding moment }
+    ensures fits { length text.new ≤ length text.old + 11 }
+{
+    match padding {
+        Padding::Usual => match field {
+            NumberField::Year => put_year(text, moment.date().year()),
+            NumberField::Month => put_two(text, moment.date().month()),
+            NumberField::Day => put_two(text, moment.date().day()),
+            NumberField::Hour => put_two(text, moment.time().hour()),
+            NumberField::Minute => put_two(text, moment.time().minute()),
+            NumberField::Second => put_two(text, clock_second(moment.time())),
+            _ => put_any_number(text, field, padding, moment),
+        },
+        Padding::Nothing | Padding::Spaces | Padding::Zeros => put_any_number(
+            text, field, padding, moment,
+        ),
+    }
+}
+
+// The same by the padding, the sign and the size of the number.
+#[inline(never)]
+#[tactic(auto, unfolding(crate::specs::Numbers::field_text))]
+fn put_any_number<const N: usize>(
     text: &mut Text<N>,
     field: NumberField,
     padding: Padding,
@@ -216,6 +247,15 @@ fn sign_of(field: NumberField, moment: NaiveDateTime) -> &'static [u8]
     }
 }
 
+// The second of the minute, and 60 in a leap second.
+#[inline(always)]
+pub(crate) fn clock_second(time: NaiveTime) -> u32
+    ensures value { result ≡ second_of time + time.fraction / nanos_per_second }
+    ensures small { result ≤ 60 }
+{
+    time.second() + time.nanosecond() / NANOS_PER_SEC
+}
+
 // The size of a number.
 fn size_of(field: NumberField, moment: NaiveDateTime) -> u32
     ensures { result ≡ size_of field moment }
@@ -240,7 +280,7 @@ fn size_of(field: NumberField, moment: NaiveDateTime) -> u32
         NumberField::Hour | NumberField::SpacedHour => time.hour(),
         NumberField::HalfHour | NumberField::SpacedHalfHour => time.hour12().1,
         NumberField::Minute => time.minute(),
-        NumberField::Second => time.second() + time.nanosecond() / NANOS_PER_SEC,
+        NumberField::Second => clock_second(time),
         NumberField::Nanosecond => time.nanosecond() % NANOS_PER_SEC,
     }
 }

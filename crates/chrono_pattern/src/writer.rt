@@ -122,6 +122,47 @@ fn put_piece<const N: usize>(
     true
 }
 
+// Puts any item.
+#[inline(always)]
+pub(crate) fn put_any_item<const N: usize>(
+    text: &mut Text<N>,
+    item: Item,
+    moment: NaiveDateTime,
+    offset: FixedOffset,
+)
+    requires room { length text.old + 155 ≤ N }
+    ensures text { text.new ≡ text.old ++ text_of_item item moment offset }
+{
+    match item {
+        Item::Zoned(ZonedField::Iso8601) => put_iso(text, moment, offset),
+        _ => put_item(text, item, moment, offset),
+    }
+}
+
+// Puts a date, a time of day with its fraction and an offset.
+#[inline(never)]
+#[tactic(auto, unfolding(crate::specs::ZonedPieces::iso_piece))]
+fn put_iso<const N: usize>(text: &mut Text<N>, moment: NaiveDateTime, offset: FixedOffset)
+    requires room { length text.old + 155 ≤ N }
+    ensures text { text.new ≡ text.old ++ iso_piece moment offset }
+{
+    put_item(text, Item::Group(GroupField::YearMonthDay), moment, offset);
+    put_item(text, Item::Byte(b'T'), moment, offset);
+    put_item(
+        text,
+        Item::Group(GroupField::HourMinuteSecond),
+        moment,
+        offset,
+    );
+    put_item(text, Item::Subsecond(true, 0), moment, offset);
+    put_item(
+        text,
+        Item::Zoned(ZonedField::Offset(OffsetForm::Colon)),
+        moment,
+        offset,
+    );
+}
+
 // Puts an item of at most 31 bytes.
 #[inline(always)]
 fn put_item<const N: usize>(

@@ -1,0 +1,178 @@
+//! `DelayedFormat`: the text of a date-time by a pattern, written where it is printed.
+ghost use Rattle.std.specs.Prelude.{◌≡◌, ◌↔◌, List, ℕ, false, Some, IfSome, IsSome};
+ghost use Rattle.std.specs.Fmt.{WritesOnOk, WritesStyledOnOk};
+ghost use Rattle.std.specs.Str.{IsAscii};
+ghost use Rattle.chrono_datetime.specs.Moment.{IsMoment, moment};
+ghost use Rattle.chrono_datetime.specs.Time.{TimeOfDay};
+ghost use Rattle.chrono_instant.specs.Offsets.{IsOffset};
+ghost use Rattle.chrono_zoned.specs.Zoned.{local_at, offset_at};
+ghost use Rattle.chrono_pattern.specs.Needs.{needs_offset, needs_time};
+ghost use Rattle.chrono_pattern.specs.Patterns.{pattern_text, text_at_offset};
+
+use crate::front_item::front_item;
+use crate::pattern::Pattern;
+use crate::writer::put_any_item;
+use chrono_datetime::{NaiveDate, NaiveDateTime, NaiveTime};
+use chrono_text::Text;
+use chrono_zoned::{DateTime, FixedOffset, TimeZone};
+use std::fmt;
+use std::marker::Model;
+
+// How many bytes are written in one piece at most.
+const PIECE: usize = 256;
+
+// The room that any item has space in.
+const ROOM: usize = 155;
+
+/// The text of a date-time by a pattern, which is written where it is printed. chrono's `format` gives such a value.
+///
+/// A contract sees it as its text. It borrows the bytes of the pattern and allocates nothing. The text may have any length.
+///
+/// ```
+/// use chrono_datetime::{AndTime, NaiveDate};
+/// let moment = NaiveDate::from_ymd_opt(2024, 2, 29)?.and_hms_opt(9, 30, 0)?;
+/// let text = Pattern::new(b"%A, %e %B %Y").ok()?.delayed(moment)?;
+/// text.to_string(rt.alloc()).ok()? // "Thursday, 29 February 2024"
+/// ```
+#[derive(Drop)]
+pub struct DelayedFormat<'a> {
+    bytes: &'a [u8],
+    moment: NaiveDateTime,
+    offset: FixedOffset,
+}
+
+impl<'a> Model for DelayedFormat<'a> {
+    ghost Value = { List ℕ };
+
+    ghost view = { λ d. text_at_offset d.bytes.now d.moment d.offset };
+
+    ghost invariant = { λ d. IsAscii (text_at_offset d.bytes.now d.moment d.offset) };
+}
+
+impl<'a> Pattern<'a> {
+    /// Returns the text of `moment` as a value that writes it where it is printed. Returns `None` if the pattern needs an offset, or if
+    /// one of its bytes is not ASCII.
+    ///
+    /// The text is that of [`format`](Self::format), and may have any length.
+    ///
+    /// ```
+    /// use chrono_datetime::{AndTime, NaiveDate};
+    /// let moment = NaiveDate::from_ymd_opt(2024, 2, 29)?.and_hms_opt(9, 30, 0)?;
+    /// Pattern::new(b"%F %R").ok()?.delayed(moment)?.to_string(rt.alloc()).ok()? // "2024-02-29 09:30"
+    /// Pattern::new(b"%R%z").ok()?.delayed(moment).is_none() // true
+    /// Pattern::new("%d\u{b7}%m".as_bytes()).ok()?.delayed(moment).is_none() // true
+    /// ```
+    pub fn delayed(&self, moment: NaiveDateTime) -> Option<DelayedFormat<'a>>
+        ensures text { IfSome result (λ text. text ≡ pattern_text self.now moment) }
+        ensures exists { IsSome result ↔ ((needs_offset self.now ≡ false) × IsAscii self.now) }
+    {
+        if self.needs_offset() {
+            return None;
+        }
+        delayed_text(self.bytes, moment, FixedOffset::east_opt(0).unwrap())
+    }
+
+    /// Returns the text of `moment` as a value that writes it where it is printed: that of [`format_zoned`](Self::format_zoned). Returns
+    /// `None` if a byte of the pattern is not ASCII.
+    ///
+    /// ```
+    /// use chrono_zoned::{FixedOffset, InZone};
+    /// let india = FixedOffset::east_opt(19_800)?;
+    /// let moment = india.with_ymd_and_hms(2024, 2, 29, 9, 30, 0).single()?;
+    /// Pattern::new(b"%F %R %z").ok()?.delayed_zoned(moment)?.to_string(rt.alloc()).ok()? // "2024-02-29 09:30 +0530"
+    /// ```
+    pub fn delayed_zoned<Z: TimeZone>(&self, moment: DateTime<Z>) -> Option<DelayedFormat<'a>>
+        ensures text { IfSome result (λ text. text
+            ≡ text_at_offset self.now (local_at (Z.ahead moment.zone) moment.utc) (offset_at (Z.ahead moment.zone) moment.utc)) }
+        ensures exists { IsSome result ↔ IsAscii self.now }
+    {
+        delayed_text(self.bytes, moment.naive_local(), moment.offset())
+    }
+
+    /// Returns the text of `date` as a value that writes it where it is printed: that of [`format_date`](Self::format_date). Returns `None`
+    /// if the pattern needs a time of day or an offset, or if one of its bytes is not ASCII.
+    ///
+    /// ```
+    /// use chrono_datetime::NaiveDate;
+    /// let date = NaiveDate::from_ymd_opt(2024, 2, 29)?;
+    /// Pattern::new(b"%d/%m/%Y").ok()?.delayed_date(date)?.to_string(rt.alloc()).ok()? // "29/02/2024"
+    /// Pattern::new(b"%d/%m/%Y %H").ok()?.delayed_date(date).is_none() // true
+    /// ```
+    pub fn delayed_date(&self, date: NaiveDate) -> Option<DelayedFormat<'a>>
+        // The text is the same at each time of the day.
+        ensures text { IfSome result (λ text. (t : TimeOfDay) → text ≡ pattern_text self.now (moment date t)) }
+        ensures exists { IsSome result ↔ ((needs_time self.now ≡ false) × (needs_offset self.now ≡ false) × IsAscii self.now) }
+    {
+        if self.needs_time() {
+            return None;
+        }
+        self.delayed(NaiveDateTime::new(date, NaiveTime::MIN))
+    }
+}
+
+impl fmt::Display for DelayedFormat<'_> {
+    ghost output = { λ text. Some text };
+
+    ghost styled_output = { λ text _. Some text };
+
+    /// Writes the text.
+    ///
+    /// A width, a fill, an alignment, a sign or a precision makes no difference. chrono pads the text to a width.
+    fn fmt<W: fmt::Write>(&self, f: &mut fmt::Formatter<W>) -> fmt::Result {
+        write_items(self.bytes, self.moment, self.offset, f)
+    }
+}
+
+// The text of a local date-time with its offset by the bytes of a pattern, if all of them are ASCII.
+fn delayed_text<'a>(
+    bytes: &'a [u8],
+    moment: NaiveDateTime,
+    offset: FixedOffset,
+) -> Option<DelayedFormat<'a>>
+    ensures text { IfSome result (λ text. text ≡ text_at_offset bytes.now moment offset) }
+    ensures exists { IsSome result ↔ IsAscii bytes.now }
+{
+    if !bytes.is_ascii() {
+        return None;
+    }
+    state_ranges(moment, offset);
+    Some(DelayedFormat {
+        bytes,
+        moment,
+        offset,
+    })
+}
+
+// States that a date-time and an offset are in range, as all values of their types are. What the calls return is not used.
+#[inline(always)]
+fn state_ranges(moment: NaiveDateTime, offset: FixedOffset)
+    ensures moment { IsMoment moment }
+    ensures offset { IsOffset offset }
+{
+    moment.signed_duration_since(moment);
+    offset.local_minus_utc();
+}
+
+// Writes a text that is ASCII, in pieces.
+fn write_items<W: fmt::Write>(
+    bytes: &[u8],
+    moment: NaiveDateTime,
+    offset: FixedOffset,
+    f: &mut fmt::Formatter<W>,
+) -> fmt::Result
+    requires { IsAscii (text_at_offset bytes.now moment offset) }
+    ensures writes { WritesOnOk W.write_str_gives f.old result (text_at_offset bytes.now moment offset) f.new }
+    ensures styled { WritesStyledOnOk W.write_str_gives f.old result (text_at_offset bytes.now moment offset) f.new }
+{
+    let mut piece = Text::<PIECE>::new();
+    let mut rest = bytes;
+    while let Some((item, behind)) = front_item(rest) {
+        if piece.room() < ROOM {
+            piece.print(f)?;
+            piece.clear();
+        }
+        put_any_item(&mut piece, item, moment, offset);
+        rest = behind;
+    }
+    piece.print(f)
+}
