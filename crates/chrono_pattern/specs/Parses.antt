@@ -68,15 +68,15 @@ pub record IsZonedInFront (bytes text : List ℕ) (m : Moment) (x : ℤ) (rest :
 
 -- the error of a text that gives no value: where the reading stops, or else at the end of the text. There it says that the parts do not suffice,
 -- if they name no value, and only then
-abbrev pub IsTextError : (Parsed → Bool) → List ℕ → List ℕ → PatternReadError → Type 0
-IsTextError names bytes text e =
+abbrev pub IsParseError : (Parsed → Bool) → List ℕ → List ℕ → PatternReadError → Type 0
+IsParseError names bytes text e =
     MatchResult (text_read bytes text)
     (λ parts. (e.byte ≡ length text) × ((e.cause ≡ NotEnough) ↔ (names parts ≡ false)))
     (λ stop. e ≡ read_error text stop)
 
 -- the same of the front of a text, at whose end the error then stands
-abbrev pub IsFrontError : (Parsed → Bool) → List ℕ → List ℕ → PatternReadError → Type 0
-IsFrontError names bytes text e =
+abbrev pub IsFrontParseError : (Parsed → Bool) → List ℕ → List ℕ → PatternReadError → Type 0
+IsFrontParseError names bytes text e =
     MatchResult (front_read bytes text)
     (λ front. (e.byte ≡ length text - length front.rest) × ((e.cause ≡ NotEnough) ↔ (names front.parsed ≡ false)))
     (λ stop. e ≡ read_error text stop)

@@ -4,7 +4,7 @@ ghost use Rattle.chrono_datetime.specs.Days.{IsDate};
 ghost use Rattle.chrono_datetime.specs.Moment.{Moment};
 ghost use Rattle.chrono_datetime.specs.Time.{TimeOfDay};
 ghost use Rattle.chrono_pattern.specs.DateParts.{names_date};
-ghost use Rattle.chrono_pattern.specs.Parses.{IsDateBy, IsDateInFront, IsFrontError, IsTextError, IsMomentBy, IsMomentInFront, IsTimeBy, IsTimeInFront};
+ghost use Rattle.chrono_pattern.specs.Parses.{IsDateBy, IsDateInFront, IsFrontParseError, IsParseError, IsMomentBy, IsMomentInFront, IsTimeBy, IsTimeInFront};
 ghost use Rattle.chrono_pattern.specs.TimeParts.{IsClockTime, names_time};
 ghost use Rattle.chrono_pattern.specs.ZonedParts.{names_moment};
 
@@ -27,7 +27,7 @@ impl<'a> Pattern<'a> {
     pub fn parse_date(&self, text: &[u8]) -> Result<NaiveDate, PatternReadError>
         ensures date { IfOk result (λ n. IsDateBy self.now text.now n) }
         ensures every { (n : ℤ) → IsDate n → IsDateBy self.now text.now n → result ≡ Ok n }
-        ensures error { IfErr result (IsTextError names_date self.now text.now) }
+        ensures error { IfErr result (IsParseError names_date self.now text.now) }
     {
         match self.read_parts(text) {
             Ok(parts) => match parts.to_date() {
@@ -53,7 +53,7 @@ impl<'a> Pattern<'a> {
     pub fn parse_time(&self, text: &[u8]) -> Result<NaiveTime, PatternReadError>
         ensures time { IfOk result (λ t. IsTimeBy self.now text.now t) }
         ensures every { (t : TimeOfDay) → IsClockTime t → IsTimeBy self.now text.now t → result ≡ Ok t }
-        ensures error { IfErr result (IsTextError names_time self.now text.now) }
+        ensures error { IfErr result (IsParseError names_time self.now text.now) }
     {
         match self.read_parts(text) {
             Ok(parts) => match parts.to_time() {
@@ -81,7 +81,7 @@ impl<'a> Pattern<'a> {
     pub fn parse_date_time(&self, text: &[u8]) -> Result<NaiveDateTime, PatternReadError>
         ensures moment { IfOk result (λ m. IsMomentBy self.now text.now m) }
         ensures every { (m : Moment) → IsDate m.date → IsClockTime m.time → IsMomentBy self.now text.now m → result ≡ Ok m }
-        ensures error { IfErr result (IsTextError names_moment self.now text.now) }
+        ensures error { IfErr result (IsParseError names_moment self.now text.now) }
     {
         let mut reader = reader_of(text);
         match self.read_into(&mut reader) {
@@ -115,7 +115,7 @@ impl<'a> Pattern<'a> {
         ensures exists { (n : ℤ) → (rest : List ℕ) → IsDate n → IsDateInFront self.now text.now n rest → IsOk result }
         ensures only { (n : ℤ) → (rest : List ℕ) → IsDate n → IsDateInFront self.now text.now n rest
             → IfOk result (λ r. (r.0 ≡ n) × (r.1.now ≡ rest)) }
-        ensures error { IfErr result (IsFrontError names_date self.now text.now) }
+        ensures error { IfErr result (IsFrontParseError names_date self.now text.now) }
     {
         match self.read_front(text) {
             Ok((parts, rest)) => match parts.to_date() {
@@ -148,7 +148,7 @@ impl<'a> Pattern<'a> {
         ensures exists { (t : TimeOfDay) → (rest : List ℕ) → IsClockTime t → IsTimeInFront self.now text.now t rest → IsOk result }
         ensures only { (t : TimeOfDay) → (rest : List ℕ) → IsClockTime t → IsTimeInFront self.now text.now t rest
             → IfOk result (λ r. (r.0 ≡ t) × (r.1.now ≡ rest)) }
-        ensures error { IfErr result (IsFrontError names_time self.now text.now) }
+        ensures error { IfErr result (IsFrontParseError names_time self.now text.now) }
     {
         match self.read_front(text) {
             Ok((parts, rest)) => match parts.to_time() {
@@ -183,7 +183,7 @@ impl<'a> Pattern<'a> {
             → IsOk result }
         ensures only { (m : Moment) → (rest : List ℕ) → IsDate m.date → IsClockTime m.time → IsMomentInFront self.now text.now m rest
             → IfOk result (λ r. (r.0 ≡ m) × (r.1.now ≡ rest)) }
-        ensures error { IfErr result (IsFrontError names_moment self.now text.now) }
+        ensures error { IfErr result (IsFrontParseError names_moment self.now text.now) }
     {
         match self.read_front(text) {
             Ok((parts, rest)) => match parts.to_date_time() {
