@@ -1,11 +1,13 @@
 -- The values of a text by a pattern: its parts name one, and it fits them.
-use Rattle.std.specs.Prelude.{◌≡◌, ℕ, ℤ, pos, List, true, Ok}
+use Rattle.std.specs.Prelude.{◌≡◌, ◌↔◌, ◌-◌, ℕ, ℤ, pos, Bool, List, length, true, false, Ok, MatchResult}
 use Rattle.chrono_datetime.specs.Moment.{Moment}
 use Rattle.chrono_datetime.specs.Time.{TimeOfDay}
 use Rattle.chrono_pattern.specs.DateParts.{date_fits, names_date}
-use Rattle.chrono_pattern.specs.Reads.{front_read, text_read}
+use Rattle.chrono_pattern.specs.Reads.{front_read, read_error, text_read}
 use Rattle.chrono_pattern.specs.TimeParts.{names_time, time_fits}
 use Rattle.chrono_pattern.specs.ZonedParts.{moment_fits, names_moment, names_zoned, zoned_fits}
+use Rattle.chrono_pattern.specs.declared.error.PatternReadError.{PatternReadError}
+use Rattle.chrono_pattern.specs.declared.error.ReadFault.TheVariants.{NotEnough}
 use Rattle.chrono_pattern.specs.declared.parsed.Parsed.{Parsed}
 
 -- the text is of the date, by the pattern
@@ -63,3 +65,18 @@ pub record IsZonedInFront (bytes text : List ℕ) (m : Moment) (x : ℤ) (rest :
   pub read : front_read bytes text ≡ Ok (record { rest = rest; parsed = parts })
   pub named : names_zoned parts ≡ true
   pub fits : zoned_fits parts m x ≡ true
+
+-- the error of a text that gives no value: where the reading stops, or else at the end of the text. There it says that the parts do not suffice,
+-- if they name no value, and only then
+abbrev pub IsParseError : (Parsed → Bool) → List ℕ → List ℕ → PatternReadError → Type 0
+IsParseError names bytes text e =
+    MatchResult (text_read bytes text)
+    (λ parts. (e.byte ≡ length text) × ((e.cause ≡ NotEnough) ↔ (names parts ≡ false)))
+    (λ stop. e ≡ read_error text stop)
+
+-- the same of the front of a text, at whose end the error then stands
+abbrev pub IsFrontParseError : (Parsed → Bool) → List ℕ → List ℕ → PatternReadError → Type 0
+IsFrontParseError names bytes text e =
+    MatchResult (front_read bytes text)
+    (λ front. (e.byte ≡ length text - length front.rest) × ((e.cause ≡ NotEnough) ↔ (names front.parsed ≡ false)))
+    (λ stop. e ≡ read_error text stop)

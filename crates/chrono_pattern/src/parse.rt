@@ -1,10 +1,12 @@
 //! Reads dates, times of day and date-times by patterns.
-ghost use Rattle.std.specs.Prelude.{◌≡◌, ℕ, ℤ, List, Ok, IfOk, IsOk};
+ghost use Rattle.std.specs.Prelude.{◌≡◌, ℕ, ℤ, List, Ok, IfErr, IfOk, IsOk};
 ghost use Rattle.chrono_datetime.specs.Days.{IsDate};
 ghost use Rattle.chrono_datetime.specs.Moment.{Moment};
 ghost use Rattle.chrono_datetime.specs.Time.{TimeOfDay};
-ghost use Rattle.chrono_pattern.specs.Parses.{IsDateBy, IsDateInFront, IsMomentBy, IsMomentInFront, IsTimeBy, IsTimeInFront};
-ghost use Rattle.chrono_pattern.specs.TimeParts.{IsClockTime};
+ghost use Rattle.chrono_pattern.specs.DateParts.{names_date};
+ghost use Rattle.chrono_pattern.specs.Parses.{IsDateBy, IsDateInFront, IsFrontParseError, IsParseError, IsMomentBy, IsMomentInFront, IsTimeBy, IsTimeInFront};
+ghost use Rattle.chrono_pattern.specs.TimeParts.{IsClockTime, names_time};
+ghost use Rattle.chrono_pattern.specs.ZonedParts.{names_moment};
 
 use crate::error::PatternReadError;
 use crate::pattern::{Pattern, read_error};
@@ -25,6 +27,7 @@ impl<'a> Pattern<'a> {
     pub fn parse_date(&self, text: &[u8]) -> Result<NaiveDate, PatternReadError>
         ensures date { IfOk result (λ n. IsDateBy self.now text.now n) }
         ensures every { (n : ℤ) → IsDate n → IsDateBy self.now text.now n → result ≡ Ok n }
+        ensures error { IfErr result (IsParseError names_date self.now text.now) }
     {
         match self.read_parts(text) {
             Ok(parts) => match parts.to_date() {
@@ -50,6 +53,7 @@ impl<'a> Pattern<'a> {
     pub fn parse_time(&self, text: &[u8]) -> Result<NaiveTime, PatternReadError>
         ensures time { IfOk result (λ t. IsTimeBy self.now text.now t) }
         ensures every { (t : TimeOfDay) → IsClockTime t → IsTimeBy self.now text.now t → result ≡ Ok t }
+        ensures error { IfErr result (IsParseError names_time self.now text.now) }
     {
         match self.read_parts(text) {
             Ok(parts) => match parts.to_time() {
@@ -77,6 +81,7 @@ impl<'a> Pattern<'a> {
     pub fn parse_date_time(&self, text: &[u8]) -> Result<NaiveDateTime, PatternReadError>
         ensures moment { IfOk result (λ m. IsMomentBy self.now text.now m) }
         ensures every { (m : Moment) → IsDate m.date → IsClockTime m.time → IsMomentBy self.now text.now m → result ≡ Ok m }
+        ensures error { IfErr result (IsParseError names_moment self.now text.now) }
     {
         let mut reader = reader_of(text);
         match self.read_into(&mut reader) {
@@ -110,6 +115,7 @@ impl<'a> Pattern<'a> {
         ensures exists { (n : ℤ) → (rest : List ℕ) → IsDate n → IsDateInFront self.now text.now n rest → IsOk result }
         ensures only { (n : ℤ) → (rest : List ℕ) → IsDate n → IsDateInFront self.now text.now n rest
             → IfOk result (λ r. (r.0 ≡ n) × (r.1.now ≡ rest)) }
+        ensures error { IfErr result (IsFrontParseError names_date self.now text.now) }
     {
         match self.read_front(text) {
             Ok((parts, rest)) => match parts.to_date() {
@@ -142,6 +148,7 @@ impl<'a> Pattern<'a> {
         ensures exists { (t : TimeOfDay) → (rest : List ℕ) → IsClockTime t → IsTimeInFront self.now text.now t rest → IsOk result }
         ensures only { (t : TimeOfDay) → (rest : List ℕ) → IsClockTime t → IsTimeInFront self.now text.now t rest
             → IfOk result (λ r. (r.0 ≡ t) × (r.1.now ≡ rest)) }
+        ensures error { IfErr result (IsFrontParseError names_time self.now text.now) }
     {
         match self.read_front(text) {
             Ok((parts, rest)) => match parts.to_time() {
@@ -176,6 +183,7 @@ impl<'a> Pattern<'a> {
             → IsOk result }
         ensures only { (m : Moment) → (rest : List ℕ) → IsDate m.date → IsClockTime m.time → IsMomentInFront self.now text.now m rest
             → IfOk result (λ r. (r.0 ≡ m) × (r.1.now ≡ rest)) }
+        ensures error { IfErr result (IsFrontParseError names_moment self.now text.now) }
     {
         match self.read_front(text) {
             Ok((parts, rest)) => match parts.to_date_time() {

@@ -1,12 +1,12 @@
 //! Writes date-times in a zone by patterns, and reads them.
-ghost use Rattle.std.specs.Prelude.{◌≡◌, ◌↔◌, ◌≤◌, ℕ, ℤ, List, Ok, IfOk, IfSome, IsOk, IsSome, length};
+ghost use Rattle.std.specs.Prelude.{◌≡◌, ◌↔◌, ◌≤◌, ℕ, ℤ, List, Ok, IfErr, IfOk, IfSome, IsOk, IsSome, length};
 ghost use Rattle.chrono_datetime.specs.Days.{IsDate};
 ghost use Rattle.chrono_datetime.specs.Moment.{IsMoment};
 ghost use Rattle.chrono_instant.specs.Offsets.{IsOffset, moment_ahead};
 ghost use Rattle.chrono_zoned.specs.Zoned.{Zoned, local_at, offset_at};
 ghost use Rattle.chrono_pattern.specs.DateParts.{is_present};
 ghost use Rattle.chrono_pattern.specs.NamedParts.{named_parts};
-ghost use Rattle.chrono_pattern.specs.Parses.{IsZonedBy, IsZonedInFront};
+ghost use Rattle.chrono_pattern.specs.Parses.{IsFrontParseError, IsParseError, IsZonedBy, IsZonedInFront};
 ghost use Rattle.chrono_pattern.specs.Patterns.{text_at_offset};
 ghost use Rattle.chrono_pattern.specs.TimeParts.{IsClockTime};
 ghost use Rattle.chrono_pattern.specs.ZonedParts.{names_zoned};
@@ -81,6 +81,7 @@ impl<'a> Pattern<'a> {
         ensures zoned { IfOk result (λ d. IsZonedBy self.now text.now (moment_ahead d.utc d.zone) d.zone) }
         ensures every { (d : Zoned ℤ) → IsMoment d.utc → IsOffset d.zone → IsDate (moment_ahead d.utc d.zone).date
             → IsClockTime (moment_ahead d.utc d.zone).time → IsZonedBy self.now text.now (moment_ahead d.utc d.zone) d.zone → result ≡ Ok d }
+        ensures error { IfErr result (IsParseError names_zoned self.now text.now) }
     {
         match self.read_parts(text) {
             Ok(parts) => match parts.to_zoned() {
@@ -117,6 +118,7 @@ impl<'a> Pattern<'a> {
         ensures only { (d : Zoned ℤ) → (rest : List ℕ) → IsMoment d.utc → IsOffset d.zone → IsDate (moment_ahead d.utc d.zone).date
             → IsClockTime (moment_ahead d.utc d.zone).time → IsZonedInFront self.now text.now (moment_ahead d.utc d.zone) d.zone rest
             → IfOk result (λ r. (r.0 ≡ d) × (r.1.now ≡ rest)) }
+        ensures error { IfErr result (IsFrontParseError names_zoned self.now text.now) }
     {
         match self.read_front(text) {
             Ok((parts, rest)) => match parts.to_zoned() {

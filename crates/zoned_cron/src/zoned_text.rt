@@ -46,6 +46,8 @@ pub struct ZonedText<'a> {
 /// ```
 pub fn read_zoned_text(text: &[u8]) -> Result<ZonedText<'_>, ScheduleError>
     ensures read { IfOk result (λ z. IsScheduleText (schedule_part text.now) z.schedule.sets) }
+    // Whatever sets the schedule lists are the answer's: it has one meaning.
+    ensures every { (s : FieldSets) → IsScheduleText (schedule_part text.now) s → IfOk result (λ z. z.schedule.sets ≡ s) }
     ensures found { IsErr result ↔ ((s : FieldSets) → ¬ IsScheduleText (schedule_part text.now) s) }
     ensures error { IfErr result (λ e. e ≡ error_behind (zone_len text.now) (schedule_error (schedule_part text.now))) }
     ensures zone { IfOk result (λ z. IsSome z.zone ↔ (0 < mark_len text.now)) }

@@ -32,6 +32,8 @@ pub fn instant_of<Z: TimeZone>(zone: Z, local: NaiveDateTime) -> Option<DateTime
     ensures fraction { IfSome result (λ d. d.utc.time.fraction ≡ local.time.fraction) }
     ensures zone { IfSome result (λ d. d.zone ≡ zone) }
     ensures none { IfNone result ((u : ℤ) → IsInstantOf (Z.ahead zone) (epoch_second local) u → ¬ HasDates (Z.ahead zone) u) }
+    // It stands for an instant then too, which has no date.
+    ensures without_date { IfNone result ((u : ℤ) × IsInstantOf (Z.ahead zone) (epoch_second local) u) }
 {
     let utc = local.checked_sub_offset(offset_of(zone, local))?;
     zone.from_utc_datetime(&utc)

@@ -26,3 +26,14 @@ returns-in-Err-read_schedule-clause-found c =
     let part : schedule_part c.args.text.now ≡ c.split_at-2.result.1.now
     = part_is c.args.text.now c.split_at.result.1.now c.split_at-2.result.1.now c.mark_len-mark.result c.name_len.result c.mark_len-mark.ensures.value c.if-mark-eq0.false c.split_at.ensures.back c.name_len.ensures.value c.split_at-2.ensures.back in
     subst (λ (t : List ℕ). (true ≡ true) ↔ ((s : FieldSets) → ¬ IsScheduleText t s)) (sym part) c.in-Err-read_schedule.ensures.found
+
+pub returns-in-Ok-clause-every : goal.returns-in-Ok-clause-every
+returns-in-Ok-clause-every c =
+    let part : schedule_part c.args.text.now ≡ c.args.text.now = search rules in
+    subst (λ (t : List ℕ). (s : FieldSets) → IsScheduleText t s → c.in-Ok.schedule.sets ≡ s) (sym part) c.in-Ok.ensures.sets
+
+pub returns-in-Ok-read_schedule-clause-every : goal.returns-in-Ok-read_schedule-clause-every
+returns-in-Ok-read_schedule-clause-every c =
+    let part : schedule_part c.args.text.now ≡ c.split_at-2.result.1.now
+    = part_is c.args.text.now c.split_at.result.1.now c.split_at-2.result.1.now c.mark_len-mark.result c.name_len.result c.mark_len-mark.ensures.value c.if-mark-eq0.false c.split_at.ensures.back c.name_len.ensures.value c.split_at-2.ensures.back in
+    subst (λ (t : List ℕ). (s : FieldSets) → IsScheduleText t s → c.in-Ok-read_schedule.schedule.sets ≡ s) (sym part) c.in-Ok-read_schedule.ensures.sets

@@ -1,0 +1,5 @@
+-- All serve this crate's own proofs alone.
+mod ColumnBlocks
+mod CompactTexts
+mod DateOrders
+mod LayoutEntries

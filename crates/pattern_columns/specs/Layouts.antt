@@ -1,0 +1,54 @@
+-- The texts of dates in layouts of fixed width, and what stands in a column for a date and for such a text.
+use Rattle.std.specs.Prelude.{◌≡◌, ◌≢◌, ◌↔◌, ℕ, ℤ, if◌then◌else◌, List, ◌∷◌, ◌++◌, replicate, Option, Some, None}
+use Rattle.std.specs.Option.{option_and_then}
+use Rattle.chrono_calendar.specs.Days.{date_of_day, date_of_ymd, year_of, month_of, day_of}
+use Rattle.chrono_text.specs.Text.{calendar_text, two_digits, year_text}
+use Rattle.chrono_columns.specs.Columns.{has_four_digits, number_entry}
+use Rattle.pattern_columns.specs.declared.layout.DateLayout.{DateLayout}
+use Rattle.pattern_columns.specs.declared.layout.DateOrder.{DateOrder}
+use Rattle.pattern_columns.specs.declared.layout.DateOrder.TheVariants.{YearMonthDay, DayMonthYear, MonthDayYear}
+
+-- the parts of a date's text in an order, with the separator s between them
+abbrev pub ordered_text : DateOrder → ℕ → List ℕ → List ℕ → List ℕ → List ℕ
+ordered_text YearMonthDay s year month day = year ++ (s ∷ (month ++ (s ∷ day)))
+ordered_text DayMonthYear s year month day = day ++ (s ∷ (month ++ (s ∷ year)))
+ordered_text MonthDayYear s year month day = month ++ (s ∷ (day ++ (s ∷ year)))
+
+-- a year, a month and a day in a layout: `%Y`, `%m` and `%d` of chrono, where a year from 0 to 9999 has four digits
+abbrev pub layout_text : DateLayout → ℤ → ℕ → ℕ → List ℕ
+layout_text layout y m d = ordered_text layout.order layout.separator (year_text y) (two_digits m) (two_digits d)
+
+-- a year, a month and a day with nothing between them: `%Y%m%d` of chrono (ISO 8601 basic format)
+abbrev pub compact_text : ℤ → ℕ → ℕ → List ℕ
+compact_text y m d = year_text y ++ (two_digits m ++ two_digits d)
+
+-- a text of so many bytes, and for none as many zero bytes
+abbrev pub text_or_zeros : ℕ → Option (List ℕ) → List ℕ
+text_or_zeros size (Some text) = text
+text_or_zeros size None = replicate size 0
+
+-- what f writes for the year, the month and the day of the date n, if the year has four digits
+unfoldable pub entry_by : ℕ → (ℤ → ℕ → ℕ → List ℕ) → ℤ → List ℕ
+entry_by size f n = text_or_zeros size (option_and_then (λ d. if has_four_digits (year_of d) then Some (f (year_of d) (month_of d) (day_of d)) else None) (date_of_day n))
+
+-- a text of the date n: what f writes for the year, the month and the day that name it
+pub record IsTextBy (f : ℤ → ℕ → ℕ → List ℕ) (text : List ℕ) (n : ℤ) : Type 0 where
+  pub year : ℤ
+  pub month : ℕ
+  pub day : ℕ
+  pub names : date_of_ymd year month day ≡ Some n
+  pub written : f year month day ≡ text
+
+-- the date whose text it is by f, and for a text of no date what stands for none
+pub record IsEntryBy (f : ℤ → ℕ → ℕ → List ℕ) (text : List ℕ) (n : ℤ) : Type 0 where
+  pub read : n ≢ number_entry None → IsTextBy f text n
+  pub every : (m : ℤ) → IsTextBy f text m → n ≡ m
+
+-- a text by f and an ISO text that name the same
+abbrev pub NamesSame : (ℤ → ℕ → ℕ → List ℕ) → List ℕ → List ℕ → Type 0
+NamesSame f text iso = (y : ℤ) → (m d : ℕ) → (calendar_text y m d ≡ iso) ↔ (f y m d ≡ text)
+
+-- the text in a layout for the ISO text of a date, and zero bytes for zero bytes
+pub record IsLaidOut (layout : DateLayout) (iso text : List ℕ) : Type 0 where
+  pub date : (y : ℤ) → (m d : ℕ) → calendar_text y m d ≡ iso → layout_text layout y m d ≡ text
+  pub none : iso ≡ replicate 10 0 → text ≡ replicate 10 0

@@ -1,0 +1,111 @@
+//! Between a column of dates and one of their texts of eight digits.
+ghost use Rattle.std.specs.Prelude.{◌≡◌, ℕ, ℤ, ◌<◌, ◌≤◌, [], length, map, pos, replicate, slice_index_or};
+ghost use Rattle.chrono_text.specs.Text.{calendar_text};
+ghost use Rattle.pattern_columns.specs.Layouts.{IsEntryBy, NamesSame, compact_text, entry_by};
+
+use crate::texts::BLOCK;
+use chrono_columns::{read_dates, write_dates};
+
+// The eight digits of an ISO text. For ten zero bytes it returns eight of them.
+#[inline]
+fn digits_of_iso(text: [u8; 10]) -> [u8; 8]
+    ensures date { (y : ℤ) → (m : ℕ) → (d : ℕ) → calendar_text y m d ≡ text → compact_text y m d ≡ result }
+    ensures none { text ≡ replicate 10 0 → result ≡ replicate 8 0 }
+{
+    [
+        text[0], text[1], text[2], text[3], text[5], text[6], text[8], text[9],
+    ]
+}
+
+// The ISO text for a text of eight digits. For no date's text it returns none.
+#[inline]
+fn iso_of_digits(text: [u8; 8]) -> [u8; 10]
+    ensures { NamesSame compact_text text result }
+{
+    [
+        text[0], text[1], text[2], text[3], b'-', text[4], text[5], b'-', text[6], text[7],
+    ]
+}
+
+// The text of each date of a block, by the ISO texts of all of them.
+fn write_compact_block(dates: &[i32], texts: &mut [[u8; 8]])
+    requires few { length dates.now ≤ 256 }
+    requires texts { length texts.old ≡ length dates.now }
+    ensures { (i : ℕ) → i < length dates.now
+        → slice_index_or texts.new i [] ≡ entry_by 8 compact_text (slice_index_or dates.now i (pos 0)) }
+{
+    let count = dates.len();
+    let mut iso = [[0; 10]; BLOCK];
+    write_dates(dates, &mut iso[..count]);
+    for i in 0..count {
+        texts[i] = digits_of_iso(iso[i]);
+    }
+}
+
+/// Writes the text of each of `dates` in eight digits, such as `20240229`: the pattern `%Y%m%d`.
+///
+/// It writes eight zero bytes where the date is missing or its year is not from 0 to 9999.
+/// Requires that `texts` is as long as `dates`.
+///
+/// ```
+/// let mut texts = [[0; 8]; 2];
+/// write_compact_dates(&[738_945, chrono_columns::NONE], &mut texts);
+/// texts[0] == *b"20240229" // true
+/// texts[1] // [0, 0, 0, 0, 0, 0, 0, 0]
+/// ```
+pub fn write_compact_dates(dates: &[i32], texts: &mut [[u8; 8]])
+    requires { length texts.old ≡ length dates.now }
+    ensures { texts.new ≡ map (entry_by 8 compact_text) dates.now }
+{
+    let mut begun = 0;
+    while begun < dates.len() {
+        let end = begun + BLOCK.min(dates.len() - begun);
+        write_compact_block(&dates[begun..end], &mut texts[begun..end]);
+        begun = end;
+    }
+}
+
+// The ISO text for each text.
+fn rewrite_compact_texts(texts: &[[u8; 8]], iso: &mut [[u8; 10]])
+    requires { length iso.old ≡ length texts.now }
+    ensures { (i : ℕ) → i < length texts.now → NamesSame compact_text (slice_index_or texts.now i []) (slice_index_or iso.new i []) }
+{
+    for i in 0..texts.len() {
+        iso[i] = iso_of_digits(texts[i]);
+    }
+}
+
+// The date of each text of a block, by the ISO texts of all of them.
+fn read_compact_block(texts: &[[u8; 8]], out: &mut [i32])
+    requires few { length texts.now ≤ 256 }
+    requires out { length out.old ≡ length texts.now }
+    ensures { (i : ℕ) → i < length texts.now
+        → IsEntryBy compact_text (slice_index_or texts.now i []) (slice_index_or out.new i (pos 0)) }
+{
+    let count = texts.len();
+    let mut iso = [[0; 10]; BLOCK];
+    rewrite_compact_texts(texts, &mut iso[..count]);
+    read_dates(&iso[..count], out);
+}
+
+/// Writes the date that each of `texts` is the text of in eight digits, such as `20240229`: the pattern `%Y%m%d`.
+///
+/// It writes [`NONE`](chrono_columns::NONE) where a text is no date. Requires that `out` is as long as `texts`.
+///
+/// ```
+/// let mut out = [0; 2];
+/// read_compact_dates(&[*b"20240229", *b"20230229"], &mut out);
+/// out // [738945, -2147483648]
+/// ```
+pub fn read_compact_dates(texts: &[[u8; 8]], out: &mut [i32])
+    requires { length out.old ≡ length texts.now }
+    ensures { (i : ℕ) → i < length texts.now
+        → IsEntryBy compact_text (slice_index_or texts.now i []) (slice_index_or out.new i (pos 0)) }
+{
+    let mut begun = 0;
+    while begun < texts.len() {
+        let end = begun + BLOCK.min(texts.len() - begun);
+        read_compact_block(&texts[begun..end], &mut out[begun..end]);
+        begun = end;
+    }
+}

@@ -1,0 +1,149 @@
+//! Between a column of dates and one of their texts in a layout, of ten bytes each.
+ghost use Rattle.std.specs.Prelude.{◌≡◌, ℕ, ◌<◌, ◌≤◌, [], length, map, pos, slice_index_or};
+ghost use Rattle.pattern_columns.specs.Layouts.{IsEntryBy, IsLaidOut, NamesSame, entry_by, layout_text};
+
+use crate::arranged::{from_iso, to_iso};
+use crate::layout::{DateLayout, DateOrder};
+use chrono_columns::{read_dates, write_dates};
+
+// How many ISO texts are kept beside the column at once.
+pub(crate) const BLOCK: usize = 256;
+
+// The text in a layout for each ISO text.
+#[inline]
+fn lay_out_each(layout: DateLayout, iso: &[[u8; 10]], texts: &mut [[u8; 10]])
+    requires { length texts.old ≡ length iso.now }
+    ensures { (i : ℕ) → i < length iso.now → IsLaidOut layout (slice_index_or iso.now i []) (slice_index_or texts.new i []) }
+{
+    for i in 0..iso.len() {
+        texts[i] = from_iso(layout, iso[i]);
+    }
+}
+
+// The same by a loop for each order, which does not ask for the order.
+fn lay_out_texts(layout: DateLayout, iso: &[[u8; 10]], texts: &mut [[u8; 10]])
+    requires { length texts.old ≡ length iso.now }
+    ensures { (i : ℕ) → i < length iso.now → IsLaidOut layout (slice_index_or iso.now i []) (slice_index_or texts.new i []) }
+{
+    let separator = layout.separator;
+    match layout.order {
+        DateOrder::YearMonthDay => {
+            let order = DateOrder::YearMonthDay;
+            lay_out_each(DateLayout { order, separator }, iso, texts);
+        }
+        DateOrder::DayMonthYear => {
+            let order = DateOrder::DayMonthYear;
+            lay_out_each(DateLayout { order, separator }, iso, texts);
+        }
+        DateOrder::MonthDayYear => {
+            let order = DateOrder::MonthDayYear;
+            lay_out_each(DateLayout { order, separator }, iso, texts);
+        }
+    }
+}
+
+// The text of each date of a block, by the ISO texts of all of them.
+fn write_block(layout: DateLayout, dates: &[i32], texts: &mut [[u8; 10]])
+    requires few { length dates.now ≤ 256 }
+    requires texts { length texts.old ≡ length dates.now }
+    ensures { (i : ℕ) → i < length dates.now
+        → slice_index_or texts.new i [] ≡ entry_by 10 (layout_text layout) (slice_index_or dates.now i (pos 0)) }
+{
+    let count = dates.len();
+    let mut iso = [[0; 10]; BLOCK];
+    write_dates(dates, &mut iso[..count]);
+    lay_out_texts(layout, &iso[..count], texts);
+}
+
+/// Writes the text of each of `dates` in a layout, such as `29/02/2024`.
+///
+/// It writes ten zero bytes where the date is missing or its year is not from 0 to 9999.
+/// Requires that `texts` is as long as `dates`.
+///
+/// ```
+/// let layout = DateLayout { order: DateOrder::DayMonthYear, separator: b'/' };
+/// let mut texts = [[0; 10]; 2];
+/// write_layout_dates(layout, &[738_945, chrono_columns::NONE], &mut texts);
+/// texts[0] == *b"29/02/2024" // true
+/// texts[1] // [0, 0, 0, 0, 0, 0, 0, 0, 0, 0]
+/// ```
+pub fn write_layout_dates(layout: DateLayout, dates: &[i32], texts: &mut [[u8; 10]])
+    requires { length texts.old ≡ length dates.now }
+    ensures { texts.new ≡ map (entry_by 10 (layout_text layout)) dates.now }
+{
+    let mut begun = 0;
+    while begun < dates.len() {
+        let end = begun + BLOCK.min(dates.len() - begun);
+        write_block(layout, &dates[begun..end], &mut texts[begun..end]);
+        begun = end;
+    }
+}
+
+// The ISO text for each text.
+#[inline]
+fn rewrite_each(layout: DateLayout, texts: &[[u8; 10]], iso: &mut [[u8; 10]])
+    requires { length iso.old ≡ length texts.now }
+    ensures { (i : ℕ) → i < length texts.now → NamesSame (layout_text layout) (slice_index_or texts.now i []) (slice_index_or iso.new i []) }
+{
+    for i in 0..texts.len() {
+        iso[i] = to_iso(layout, texts[i]);
+    }
+}
+
+// The same by a loop for each order, which does not ask for the order.
+fn rewrite_texts(layout: DateLayout, texts: &[[u8; 10]], iso: &mut [[u8; 10]])
+    requires { length iso.old ≡ length texts.now }
+    ensures { (i : ℕ) → i < length texts.now → NamesSame (layout_text layout) (slice_index_or texts.now i []) (slice_index_or iso.new i []) }
+{
+    let separator = layout.separator;
+    match layout.order {
+        DateOrder::YearMonthDay => {
+            let order = DateOrder::YearMonthDay;
+            rewrite_each(DateLayout { order, separator }, texts, iso);
+        }
+        DateOrder::DayMonthYear => {
+            let order = DateOrder::DayMonthYear;
+            rewrite_each(DateLayout { order, separator }, texts, iso);
+        }
+        DateOrder::MonthDayYear => {
+            let order = DateOrder::MonthDayYear;
+            rewrite_each(DateLayout { order, separator }, texts, iso);
+        }
+    }
+}
+
+// The date of each text of a block, by the ISO texts of all of them.
+fn read_block(layout: DateLayout, texts: &[[u8; 10]], out: &mut [i32])
+    requires few { length texts.now ≤ 256 }
+    requires out { length out.old ≡ length texts.now }
+    ensures { (i : ℕ) → i < length texts.now
+        → IsEntryBy (layout_text layout) (slice_index_or texts.now i []) (slice_index_or out.new i (pos 0)) }
+{
+    let count = texts.len();
+    let mut iso = [[0; 10]; BLOCK];
+    rewrite_texts(layout, texts, &mut iso[..count]);
+    read_dates(&iso[..count], out);
+}
+
+/// Writes the date that each of `texts` is the text of in a layout.
+///
+/// It writes [`NONE`](chrono_columns::NONE) where a text is no date. Requires that `out` is as long as `texts`.
+///
+/// ```
+/// let layout = DateLayout { order: DateOrder::MonthDayYear, separator: b'/' };
+/// let mut out = [0; 2];
+/// read_layout_dates(layout, &[*b"02/29/2024", *b"02/29/2023"], &mut out);
+/// out // [738945, -2147483648]
+/// ```
+pub fn read_layout_dates(layout: DateLayout, texts: &[[u8; 10]], out: &mut [i32])
+    requires { length out.old ≡ length texts.now }
+    ensures { (i : ℕ) → i < length texts.now
+        → IsEntryBy (layout_text layout) (slice_index_or texts.now i []) (slice_index_or out.new i (pos 0)) }
+{
+    let mut begun = 0;
+    while begun < texts.len() {
+        let end = begun + BLOCK.min(texts.len() - begun);
+        read_block(layout, &texts[begun..end], &mut out[begun..end]);
+        begun = end;
+    }
+}
