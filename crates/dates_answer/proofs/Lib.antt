@@ -3,6 +3,5 @@ mod FarMoves
 mod Distances
 mod SequenceLemmas
 mod PartLemmas
-mod RowLemmas
 mod CellLemmas
 mod KnownParts
