@@ -1,7 +1,6 @@
 mod Ground
 mod FarMoves
 mod Distances
-mod SequenceLemmas
 mod PartLemmas
 mod CellLemmas
 mod KnownParts

@@ -1,7 +1,7 @@
 //! Lines of answers, as texts or as objects of JSON (RFC 8259).
 ghost use Rattle.std.specs.Prelude.{◌≡◌, Some};
 ghost use Rattle.std.specs.Fmt.{WritesOnOk};
-ghost use Rattle.dates_answer.specs.Lines.{reply_object, reply_text, day_object, key_text, line_text, months_days_text, names_object, numbers_in_object, parts_object, parts_text};
+ghost use Rattle.dates_answer.specs.Lines.{reply_object, reply_text, day_object, key_text, line_text, names_object, numbers_in_object, parts_object, parts_text};
 
 use crate::form::OutputForm;
 use crate::names::{DayNames, OrdinalName, WeekName};
@@ -121,47 +121,22 @@ impl fmt::Display for Parts {
     ghost output = { λ parts. Some (parts_text parts) };
 
     /// Writes years, months and days as `1y 2m 3d`: those that are 0 are left out, and all are `0d`.
-    #[tactic(auto, unfolding(crate::specs::Lines::parts_text))]
+    #[tactic(auto, unfolding(crate::specs::Lines::parts_text, crate::specs::Lines::months_days_text))]
     fn fmt<W: fmt::Write>(&self, f: &mut fmt::Formatter<W>) -> fmt::Result {
         let Parts {
             years,
             months,
             days,
         } = *self;
-        let rest = MonthsAndDays { months, days };
-        if years == 0 {
-            return write!(f, "{rest}");
+        match (years, months, days) {
+            (0, 0, _) => write!(f, "{days}d"),
+            (0, _, 0) => write!(f, "{months}m"),
+            (0, _, _) => write!(f, "{months}m {days}d"),
+            (_, 0, 0) => write!(f, "{years}y"),
+            (_, 0, _) => write!(f, "{years}y {days}d"),
+            (_, _, 0) => write!(f, "{years}y {months}m"),
+            _ => write!(f, "{years}y {months}m {days}d"),
         }
-        if months == 0 && days == 0 {
-            return write!(f, "{years}y");
-        }
-        write!(f, "{years}y {rest}")
-    }
-}
-
-/// Months and days.
-#[derive(Clone, Copy)]
-pub struct MonthsAndDays {
-    /// The months.
-    pub months: i64,
-    /// The days.
-    pub days: i64,
-}
-
-impl fmt::Display for MonthsAndDays {
-    ghost output = { λ rest. Some (months_days_text rest.months rest.days) };
-
-    /// Writes months and days as `2m 3d`: one that is 0 is left out, and both are `0d`.
-    #[tactic(auto, unfolding(crate::specs::Lines::months_days_text))]
-    fn fmt<W: fmt::Write>(&self, f: &mut fmt::Formatter<W>) -> fmt::Result {
-        let MonthsAndDays { months, days } = *self;
-        if months == 0 {
-            return write!(f, "{days}d");
-        }
-        if days == 0 {
-            return write!(f, "{months}m");
-        }
-        write!(f, "{months}m {days}d")
     }
 }
 

@@ -1,5 +1,5 @@
 use Rattle.dates_answer.proofs.Ground.{pos, ◌*ℤ◌, w64, rules, to_z-of_z}
-use Rattle.dates_answer.proofs.SequenceLemmas.{none_so_far}
+use Rattle.dates_answer.proofs.FarMoves.{none_so_far}
 use Rattle.dates_answer.proofs.sequence.moved_times.Goals as goal
 
 pub returns-in_default : goal.returns-in_default
