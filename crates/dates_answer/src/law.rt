@@ -35,6 +35,7 @@ pub fn known_moves()
 {}
 
 /// States that the years, months and days between two days are unique.
+#[tactic(auto, using(crate::proofs::KnownParts::one_of_parts))]
 pub fn parts_are_the_only_ones()
     ensures { (from to : ℤ) (p q : parts.Parts) → IsPartsBetween from to p → IsPartsBetween from to q → (p.years ≡ q.years) × (p.months ≡ q.months) × (p.days ≡ q.days) }
 {}

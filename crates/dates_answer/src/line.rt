@@ -106,6 +106,7 @@ impl fmt::Display for DayObject {
     ghost output = { λ day. Some (day_object day.date day.is_open) };
 
     /// Writes the day with its week and its weekday, and whether it is open.
+    #[tactic(auto, unfolding(crate::specs::Lines::day_object))]
     fn fmt<W: fmt::Write>(&self, f: &mut fmt::Formatter<W>) -> fmt::Result {
         let DayObject { date, is_open } = *self;
         let week = WeekName { date };
@@ -189,6 +190,7 @@ fn write_object<W: fmt::Write>(reply: &Reply, f: &mut fmt::Formatter<W>) -> fmt:
 }
 
 // Years, months and days as an object.
+#[tactic(auto, unfolding(crate::specs::Lines::parts_object))]
 fn write_parts<W: fmt::Write>(parts: Parts, f: &mut fmt::Formatter<W>) -> fmt::Result
     ensures writes { WritesOnOk W.write_str_gives f.old result (parts_object parts) f.new }
 {
@@ -204,6 +206,7 @@ fn write_parts<W: fmt::Write>(parts: Parts, f: &mut fmt::Formatter<W>) -> fmt::R
 }
 
 // A day by its names as an object.
+#[tactic(auto, unfolding(crate::specs::Lines::names_object))]
 fn write_names<W: fmt::Write>(date: NaiveDate, f: &mut fmt::Formatter<W>) -> fmt::Result
     ensures writes { WritesOnOk W.write_str_gives f.old result (names_object date) f.new }
 {

@@ -21,6 +21,7 @@ impl fmt::Display for Quoted<'_> {
     ghost output = { λ q. Some (quoted q.text.now) };
 
     /// Writes the text between quotation marks.
+    #[tactic(auto, unfolding(crate::specs::Quoted::quoted))]
     fn fmt<W: fmt::Write>(&self, f: &mut fmt::Formatter<W>) -> fmt::Result {
         let characters = Characters { text: self.text };
         write!(f, "\"{characters}\"")

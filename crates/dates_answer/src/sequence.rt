@@ -21,6 +21,7 @@ pub fn sequence_day(first: NaiveDate, end: NaiveDate, step: Span, place: u32) ->
 }
 
 // The date moved by so many spans at once.
+#[tactic(auto, using(crate::proofs::FarMoves::none_so_far))]
 fn moved_times(first: NaiveDate, step: Span, place: u32) -> Option<NaiveDate>
     ensures { result ≡ moved_times first step place }
 {
