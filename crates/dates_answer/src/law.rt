@@ -21,6 +21,7 @@ ghost use Rattle.dates_answer.specs.Sheets.{cells_of_row, row_text, sheet_day, w
 /// In year 1, a month after 31 January is 28 February, and two weeks after 1 January is the 15th. A day before 1 January is day 0.
 /// A year after 29 February of year 4 is 28 February. A week later and then a day earlier than 1 January is the 7th. A day earlier and
 /// then two days later than the last date is out of range.
+#[tactic(auto, unfolding(crate::specs::Sequences::days_up_to, crate::specs::Moves::moved_from, crate::specs::Moves::unit_move, chrono_calendar::specs::Days::date_of_day, chrono_calendar::specs::MonthMoves::month_move, chrono_calendar::specs::Days::days_before_year, chrono_calendar::specs::Days::days_of_years, chrono_calendar::specs::Days::days_of_months_in, chrono_calendar::specs::Days::ordinal_name_of, chrono_calendar::specs::Days::days_after_zero, chrono_calendar::specs::Days::days_before_zero, chrono_calendar::specs::Days::month_of_ordinal, chrono_calendar::specs::Days::day_of_ordinal))]
 pub fn known_moves()
     ensures month { unit_move Months (pos 31) (pos 1) ≡ Some (pos 59) }
     ensures weeks { unit_move Weeks (pos 1) (pos 2) ≡ Some (pos 15) }

@@ -64,6 +64,7 @@ impl MonthSheet {
     }
 
     /// Whether a row has a day of the month.
+    #[tactic(auto, using(crate::proofs::CellLemmas::ends_empty))]
     pub fn has_days(&self, row: u32) -> bool
         ensures { result ≡ false ↔ IsEmptyRow self.now.month self.now.start row }
     {

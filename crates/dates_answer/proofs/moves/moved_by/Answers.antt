@@ -1,5 +1,4 @@
-use Rattle.dates_answer.proofs.Ground.{pos, ◌*ℤ◌, inl, inr, arith, w64, rules, to_z-of_z, FitsSigned, signed, IsDate, unit_move}
-use Rattle.dates_answer.proofs.FarMoves.{unit_move_far}
+use Rattle.dates_answer.proofs.Ground.{pos, ◌*ℤ◌, w64, rules, to_z-of_z, FitsSigned, unit_move}
 use Rattle.dates_answer.proofs.moves.moved_by.Goals as goal
 
 pub returns-in-Years : goal.returns-in-Years
