@@ -38,28 +38,19 @@ last_days : (m to days : ℤ) → IsDate to → days ≡ to -ℤ m → unit_move
 unfolding unit_move
 last_days m to days date e = ap date_of_day (omega (arith, signed, e)) ∙ date_of_day-Some to date
 
-comes_to : (from y m to years months days : ℤ) → IsDate to → unit_move Years from years ≡ Some y → unit_move Months y months ≡ Some m → days ≡ to -ℤ m
-    → moved_from (record { count = years; unit = Years } ∷ record { count = months; unit = Months } ∷ record { count = days; unit = Days } ∷ []) from ≡ Some to
-unfolding moved_from
-comes_to from y m to years months days date first second e =
-    let last : unit_move Days m days ≡ Some to = last_days m to days date e in
-    rw (first, second, last) refl
-
 -- years, months and days that are read one after another
-pub record AreRead (from to years months days : ℤ) : Type 0 where
-  pub is : IsPartsBetween from to (record { years = years; months = months; days = days })
-  pub adds_up : moved_from (record { count = years; unit = Years } ∷ record { count = months; unit = Months } ∷ record { count = days; unit = Days } ∷ []) from ≡ Some to
-
 pub are_read : (from to years months days y m : ℤ) (o p : Option ℤ) → IsDate y → IsDate to → IsUnitsBetween Years from to years → o ≡ unit_move Years from years → y ≡ unwrap_or o to → IsMonthsLeft y to months
-    → p ≡ unit_move Months y months → m ≡ unwrap_or p to → days ≡ to -ℤ m → AreRead from to years months days
+    → p ≡ unit_move Months y months → m ≡ unwrap_or p to → days ≡ to -ℤ m → IsPartsBetween from to (record { years = years; months = months; days = days })
+    × (moved_from (record { count = years; unit = Years } ∷ record { count = months; unit = Months } ∷ record { count = days; unit = Days } ∷ []) from ≡ Some to)
+unfolding moved_from
 are_read from to years months days y m o p middle date most e out left f last e_days =
     let first = reads Years from years to y o (years_come from to years most) e out in
     let second = reads Months y months to m p (months_come y to months middle date left) f last in
-    record {
-      is = record {
+    let third : unit_move Days m days ≡ Some to = last_days m to days date e_days in (
+      record {
         years = most;
         months = at_unit Years from years y (λ k. IsMonthsLeft k to months) first left;
         days = at_unit Years from years y (λ k. IsSomeAnd (unit_move Months k months) (λ l. days ≡ to -ℤ l)) first (at_unit Months y months m (λ l. days ≡ to -ℤ l) second e_days);
-      };
-      adds_up = comes_to from y m to years months days date first second e_days;
-    }
+      },
+      rw (first, second, third) refl,
+    )
