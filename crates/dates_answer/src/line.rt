@@ -1,7 +1,7 @@
 //! Lines of answers, as texts or as objects of JSON (RFC 8259).
 ghost use Rattle.std.specs.Prelude.{◌≡◌, Some};
 ghost use Rattle.std.specs.Fmt.{WritesOnOk};
-ghost use Rattle.dates_answer.specs.Lines.{reply_object, reply_text, day_object, key_text, line_text, names_object, numbers_in_object, parts_object, parts_text};
+ghost use Rattle.dates_answer.specs.Lines.{reply_object, reply_text, day_object, key_text, line_text, names_object, numbers_in_object, parts_text};
 
 use crate::form::OutputForm;
 use crate::names::{DayNames, OrdinalName, WeekName};
@@ -158,15 +158,13 @@ fn write_text<W: fmt::Write>(reply: &Reply, f: &mut fmt::Formatter<W>) -> fmt::R
         Reply::Whether(_, false) => f.write_str("no"),
         Reply::Parts(parts) => write!(f, "{parts}"),
         Reply::Week(first, last) => write!(f, "{first} {last}"),
-        Reply::Nothing(_) => f.write_str("none"),
-        Reply::NoParts => f.write_str("none"),
-        Reply::NoWeek(_) => f.write_str("none"),
+        Reply::Nothing(_) | Reply::NoParts | Reply::NoWeek(_) => f.write_str("none"),
         Reply::Version => f.write_str("dates 0.1.0"),
     }
 }
 
 // An answer as an object.
-#[tactic(auto, unfolding(crate::specs::Lines::reply_object))]
+#[tactic(auto, unfolding(crate::specs::Lines::reply_object, crate::specs::Lines::parts_object))]
 fn write_object<W: fmt::Write>(reply: &Reply, f: &mut fmt::Formatter<W>) -> fmt::Result
     ensures writes { WritesOnOk W.write_str_gives f.old result (reply_object reply.now) f.new }
 {
@@ -179,7 +177,16 @@ fn write_object<W: fmt::Write>(reply: &Reply, f: &mut fmt::Formatter<W>) -> fmt:
         Reply::Duration(duration) => write!(f, "{{\"duration\":\"{duration}\"}}"),
         Reply::Number(key, number) => write!(f, "{{\"{}\":{number}}}", key_name(key)),
         Reply::Whether(key, yes) => write!(f, "{{\"{}\":{yes}}}", key_name(key)),
-        Reply::Parts(parts) => write_parts(parts, f),
+        Reply::Parts(
+            Parts {
+                years,
+                months,
+                days,
+            },
+        ) => write!(
+            f,
+            "{{\"years\":{years},\"months\":{months},\"days\":{days}}}"
+        ),
         Reply::Week(first, last) => { write!(f, "{{\"first\":\"{first}\",\"last\":\"{last}\"}}") }
         Reply::Nothing(key) => write!(f, "{{\"{}\":null}}", key_name(key)),
         Reply::NoParts => f.write_str("{\"years\":null,\"months\":null,\"days\":null}"),
@@ -187,22 +194,6 @@ fn write_object<W: fmt::Write>(reply: &Reply, f: &mut fmt::Formatter<W>) -> fmt:
         Reply::NoWeek(Some(first)) => write!(f, "{{\"first\":\"{first}\",\"last\":null}}"),
         Reply::Version => f.write_str("{\"version\":\"0.1.0\"}"),
     }
-}
-
-// Years, months and days as an object.
-#[tactic(auto, unfolding(crate::specs::Lines::parts_object))]
-fn write_parts<W: fmt::Write>(parts: Parts, f: &mut fmt::Formatter<W>) -> fmt::Result
-    ensures writes { WritesOnOk W.write_str_gives f.old result (parts_object parts) f.new }
-{
-    let Parts {
-        years,
-        months,
-        days,
-    } = parts;
-    write!(
-        f,
-        "{{\"years\":{years},\"months\":{months},\"days\":{days}}}"
-    )
 }
 
 // A day by its names as an object.
