@@ -34,6 +34,9 @@ const BEGIN: &str = "()\n{\n    local IFS=$'\\n' word=${COMP_WORDS[COMP_CWORD]}\
     local command=$((COMP_CWORD > 1)); command=${COMP_WORDS[command]}\n    \
     case $command:${COMP_WORDS[COMP_CWORD - 1]} in\n";
 
+// What it does last.
+const END: &str = "    esac\n}\ncomplete -o default -F _";
+
 // How bash offers words: what stands in front of them, and what behind.
 const OFFER: &str = "COMPREPLY=($(compgen -W $'";
 
@@ -59,11 +62,7 @@ fn put_bash(out: &mut String, program: &Program<'_>) -> Put {
         put(out, &[command.name, WORD])?;
     }
     put_names(out, program.alone)?;
-    put(
-        out,
-        &[OFFERED, CASE, "    esac\n}\ncomplete -o default -F _"],
-    )?;
-    put(out, &[name, " ", name, "\n"])
+    put(out, &[OFFERED, CASE, END, name, " ", name, "\n"])
 }
 
 // What bash offers behind a command.
@@ -98,19 +97,19 @@ fn put_case(out: &mut String, command: &str, word: &str, values: &'static [&'sta
 // What bash offers where a command has an operand or an option.
 fn put_words(out: &mut String, command: &CommandRow) -> Put {
     out.push_str(OFFER)?;
-    let mut files = "";
     for operand in command.operands {
-        if operand.name == "FILE" {
-            files = "; ";
-        }
         if operand.keyword.is_empty() {
             put_each(out, operand.values, WORD)?;
         }
     }
     put_names(out, command.options)?;
     out.push_str(OFFERED)?;
-    if !files.is_empty() {
-        put(out, &[files, FILES])?;
+    if command
+        .operands
+        .iter()
+        .any(|operand| operand.name == "FILE")
+    {
+        put(out, &["; ", FILES])?;
     }
     out.push_str(CASE)
 }
@@ -129,11 +128,8 @@ fn put_fish(out: &mut String, program: &Program<'_>) -> Put {
     for command in program.commands {
         let word = command.name;
         if !word.is_empty() {
-            put(
-                out,
-                &["complete -c ", name, " -n __fish_use_subcommand -a ", word],
-            )?;
-            put(out, &[" -d '", command.help, "'\n"])?;
+            put(out, &["complete -c ", name, " -n __fish_use_subcommand"])?;
+            put(out, &[" -a ", word, " -d '", command.help, "'\n"])?;
             for option in command.options {
                 put_fish_option(out, name, word, option)?;
             }
@@ -147,14 +143,9 @@ fn put_fish_option(out: &mut String, name: &'static str, word: &'static str, opt
     let long = option.name.strip_prefix("--").unwrap_or("");
     put(
         out,
-        &[
-            "complete -c ",
-            name,
-            " -n '__fish_seen_subcommand_from ",
-            word,
-        ],
+        &["complete -c ", name, " -n '__fish_seen_subcommand_from "],
     )?;
-    put(out, &["' -l ", long])?;
+    put(out, &[word, "' -l ", long])?;
     if !option.value.is_empty() {
         out.push_str(" -r -a '")?;
         put_each(out, option.values, " ")?;

@@ -1,7 +1,7 @@
 //! What a program asks of the words that are read.
 ghost use Rattle.std.specs.Prelude.{◌≡◌, map};
-ghost use Rattle.std.specs.Option.{option_and_then, option_map};
-ghost use Rattle.command_words.specs.Arguments.{default_of, first_value, is_given, missing, named, pair, seen, value_named};
+ghost use Rattle.std.specs.Option.{option_map};
+ghost use Rattle.command_words.specs.Arguments.{first_value, is_given, missing, pair, seen, value_named};
 
 use crate::table::{CommandRow, Operand, Opt};
 use crate::words::{Arguments, GivenOption, Word, is_given, option_named};
@@ -11,9 +11,14 @@ impl<'a> Arguments<'a> {
     pub fn value(&self, table: &'static [Opt], name: &str) -> Option<Word<'a>>
         ensures { option_map seen result ≡ value_named name.now table.now (map pair self.now.options.items) }
     {
-        match first_value(self.options.as_slice(), name) {
-            Some(value) => Some(value),
-            None => default_in(table, name),
+        if let Some(value) = first_value(self.options.as_slice(), name) {
+            return Some(value);
+        }
+        let text = option_named(table, name)?.default;
+        if text.is_empty() {
+            None
+        } else {
+            Some(Word { place: 0, text })
         }
     }
 
@@ -28,62 +33,36 @@ impl<'a> Arguments<'a> {
     pub fn missing(&self, table: &'static [Opt]) -> Option<Opt>
         ensures { result ≡ missing (map pair self.now.options.items) table.now }
     {
-        let mut rest = table;
-        while let [option, others @ ..] = rest {
-            if option.required && !is_given(self.options.as_slice(), option.name) {
-                return Some(*option);
-            }
-            rest = others;
+        let [option, others @ ..] = table else {
+            return None;
+        };
+        if option.required && !is_given(self.options.as_slice(), option.name) {
+            return Some(*option);
         }
-        None
+        self.missing(others)
     }
 
     /// Returns the operand at a place, counted from 0.
     pub fn operand(&self, place: usize) -> Option<Word<'a>> {
-        match self.operands.get(place) {
-            Some(word) => Some(*word),
-            None => None,
-        }
+        self.operands.get(place).copied()
     }
 
     /// Returns the first operand that has to be there by the command's row and is not.
     pub fn missing_operand(&self, command: &CommandRow) -> Option<Operand> {
-        let mut left = self.operands.len();
-        for operand in command.operands {
-            if operand.required {
-                if left == 0 {
-                    return Some(*operand);
-                }
-                left -= 1;
-            }
-        }
-        None
+        let mut required = command.operands.iter().filter(|operand| operand.required);
+        required.nth(self.operands.len()).copied()
     }
 
     /// Returns the first operand for which the command's row has no place.
     pub fn extra_operand(&self, command: &CommandRow) -> Option<Word<'a>> {
-        let mut places: usize = 0;
-        for operand in command.operands {
-            if operand.many {
-                return None;
-            }
-            let words = if operand.keyword.is_empty() { 1 } else { 2 };
-            places = places.saturating_add(words);
+        if command.operands.iter().any(|operand| operand.many) {
+            return None;
         }
-        self.operand(places)
-    }
-}
-
-// The default of the option with that name, as a word at place 0.
-fn default_in<'a>(table: &'static [Opt], name: &str) -> Option<Word<'a>>
-    ensures { option_map seen result ≡ option_and_then default_of (named name.now table.now) }
-{
-    match option_named(table, name) {
-        Some(option) if !option.default.is_empty() => Some(Word {
-            place: 0,
-            text: option.default,
-        }),
-        _ => None,
+        let with_keyword = command
+            .operands
+            .iter()
+            .filter(|operand| !operand.keyword.is_empty());
+        self.operand(with_keyword.count().saturating_add(command.operands.len()))
     }
 }
 

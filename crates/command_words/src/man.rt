@@ -6,19 +6,9 @@ use crate::table::Program;
 
 /// Puts a man page behind a text, as troff takes it: the help of the program and of each command as it stands.
 pub fn put_man_page(out: &mut String, program: &Program<'_>) -> Put {
-    let (name, help) = (program.name, program.help);
-    put(
-        out,
-        &[
-            ".TH ",
-            name,
-            " 1\n.SH NAME\n",
-            name,
-            " \\- ",
-            help,
-            "\n.SH DESCRIPTION",
-        ],
-    )?;
+    let name = program.name;
+    put(out, &[".TH ", name, " 1\n.SH NAME\n", name, " \\- "])?;
+    put(out, &[program.help, "\n.SH DESCRIPTION"])?;
     put_page(out, program, ".SH ", "\n.nf\n.eo\n", ".ec\n.fi\n")
 }
 

@@ -1,7 +1,7 @@
 //! Reading the words of a command line: operands, and options with their values in any order.
 ghost use Rattle.std.specs.Prelude.{◌≡◌, ◌||◌, [], map, Ok, Err, IfOk, MatchResult};
 ghost use Rattle.std.specs.Option.{option_map};
-ghost use Rattle.command_words.specs.Arguments.{IsStep, attached, free, got, is_flag, is_given, is_option, may_be, mode_of, name_in, named, pair, read, seen, step, step_of_option, value_in, valued};
+ghost use Rattle.command_words.specs.Arguments.{IsStep, attached, free, got, is_given, mode_of, name_in, named, pair, read, seen, step, step_of_option, value_in, valued};
 
 use crate::given::first_value;
 use crate::table::Opt;
@@ -78,6 +78,7 @@ type Step<'a> = Result<Result<Mode<'a>, Wrong<'a>>, AllocError>;
 /// A word with one hyphen is an operand too, since numbers may be negative.
 ///
 /// Returns the first word that breaks the table as an error.
+#[tactic(auto, using(crate::proofs::ReadLemmas::read_wrong, crate::proofs::ReadLemmas::read_more, crate::proofs::ReadLemmas::read_end))]
 pub fn read_words<'a>(
     alloc: Global,
     table: &'static [Opt],
@@ -103,8 +104,7 @@ pub fn read_words<'a>(
     let why = Why::NoValue;
     match mode {
         Mode::Begun(_, word) => Ok(Err(Wrong { word, why })),
-        Mode::Free => Ok(Ok(found)),
-        Mode::Ended => Ok(Ok(found)),
+        _ => Ok(Ok(found)),
     }
 }
 
@@ -119,7 +119,7 @@ fn read_word<'a>(
 {
     match mode {
         Mode::Begun(option, _) => put_value(found, option, word),
-        Mode::Free if is_option(word.text) => read_option(table, found, word),
+        Mode::Free if word.text.as_bytes().starts_with(b"--") => read_option(table, found, word),
         _ => {
             found.operands.push(word)?;
             Ok(Ok(mode))
@@ -158,9 +158,9 @@ fn put_option<'a>(
     let place = word.place;
     let why = Why::Flag;
     match value {
-        Some(_) if is_flag(option) => Ok(Err(Wrong { word, why })),
+        Some(_) if option.value.is_empty() => Ok(Err(Wrong { word, why })),
         Some(text) => put_value(found, option, Word { place, text }),
-        None if is_flag(option) => put_value(found, option, Word { place, text: "" }),
+        None if option.value.is_empty() => put_value(found, option, Word { place, text: "" }),
         None => Ok(Ok(Mode::Begun(option, word))),
     }
 }
@@ -169,26 +169,12 @@ fn put_option<'a>(
 fn put_value<'a>(found: &mut Arguments<'a>, option: Opt, value: Word<'a>) -> Step<'a>
     ensures { IfOk result (λ r. IsStep (valued option (got found.old.operands.items found.old.options.items) (seen value.entry)) r (got found.new.operands.items found.new.options.items)) }
 {
-    if !may_be(option, value.text) {
-        let why = Why::Choice(option.values);
-        return Ok(Err(Wrong { word: value, why }));
+    if option.any || option.values.contains(&value.text) {
+        found.options.push(GivenOption { option, value })?;
+        return Ok(Ok(Mode::Free));
     }
-    found.options.push(GivenOption { option, value })?;
-    Ok(Ok(Mode::Free))
-}
-
-// Whether an option has no value.
-fn is_flag(option: Opt) -> bool
-    ensures { result ≡ is_flag option }
-{
-    option.value.is_empty()
-}
-
-// Whether the option may have that value.
-fn may_be(option: Opt, text: &str) -> bool
-    ensures { result ≡ may_be option text.now }
-{
-    option.any || option.values.contains(&text)
+    let why = Why::Choice(option.values);
+    Ok(Err(Wrong { word: value, why }))
 }
 
 // Whether an option with that name is given.
@@ -202,21 +188,13 @@ pub(crate) fn is_given(options: &[GivenOption<'_>], name: &str) -> bool
 pub(crate) fn option_named(table: &'static [Opt], name: &str) -> Option<Opt>
     ensures { result ≡ named name.now table.now }
 {
-    let mut rest = table;
-    while let [option, others @ ..] = rest {
-        if name == option.name {
-            return Some(*option);
-        }
-        rest = others;
+    let [option, others @ ..] = table else {
+        return None;
+    };
+    if name == option.name {
+        return Some(*option);
     }
-    None
-}
-
-// Whether the text begins with `--`.
-fn is_option(text: &str) -> bool
-    ensures { result ≡ is_option text.now }
-{
-    text.as_bytes().starts_with(b"--")
+    option_named(others, name)
 }
 
 // What stands in front of the first `=` of a text, and what stands behind it.

@@ -1,29 +1,25 @@
 -- Which day stands in a cell.
-use Rattle.dates_answer.proofs.Ground.{◌≡◌, ℕ, Bool, true, false, ◌&&◌, cond, Option, Some, None, is_some, sym, arith, ℤ, pos, ◌+ℤ◌, ◌≤ℤ◌, int_le, false≢true, by_lt_z, ints, SomeIff, month_of, year_of, month_first_of, month_last_of, by_test, signed}
+use Rattle.dates_answer.proofs.Ground.{◌≡◌, ℕ, true, false, ◌&&◌, Option, None, is_some, sym, arith, ℤ, pos, ◌+ℤ◌, ◌≤ℤ◌, int_le, false≢true, by_lt_z, ints, SomeIff, month_of, year_of, month_first_of, month_last_of, by_test, signed}
 use Rattle.chrono_units.specs.Years.{is_leap_year}
 use Rattle.chrono_calendar.proofs.MonthDays.{day_of-bounds}
 use Rattle.chrono_calendar.proofs.Months.{month_length_in-bounds}
 use Rattle.chrono_datetime.specs.declared.Weekday.{Weekday}
 use Rattle.dates_answer.specs.Sheets.{IsEmptyRow, day_of_cell, sheet_day}
 
-between : (o : Option ℤ) (a b d : ℤ) → SomeIff o ((a ≤ℤ d) × (d ≤ℤ b)) d → o ≡ cond (int_le a d && int_le d b) (Some d) None
-between o a b d given = by_test (int_le a d && int_le d b) o d ((a ≤ℤ d) × (d ≤ℤ b)) (λ e. (grind (arith, ints), grind (arith, ints))) (λ h. grind (arith, ints, h.0, h.1)) given
-
 -- a day is that of a cell exactly if it lies in the month
 pub sheet_day-SomeIff : (o : Option ℤ) (n : ℤ) (start : Weekday) (row column : ℕ)
     → SomeIff o ((month_first_of n ≤ℤ day_of_cell n start row column) × (day_of_cell n start row column ≤ℤ month_last_of n)) (day_of_cell n start row column) → o ≡ sheet_day n start row column
 unfolding sheet_day
-sheet_day-SomeIff o n start row column given = between o (month_first_of n) (month_last_of n) (day_of_cell n start row column) given
+sheet_day-SomeIff o n start row column given =
+    let day = day_of_cell n start row column in
+    by_test (int_le (month_first_of n) day && int_le day (month_last_of n)) o day ((month_first_of n ≤ℤ day) × (day ≤ℤ month_last_of n)) (λ e. (grind (arith, ints), grind (arith, ints))) (λ h. grind (arith, ints, h.0, h.1)) given
 
 -- an empty cell's day does not lie in the month
-not_none : (b : Bool) (d : ℤ) → is_some (cond b (Some d) None) ≡ false → b ≡ true → ⊥
-not_none true d e t = false≢true (sym e)
-not_none false d e t = false≢true t
-
 outside : (n : ℤ) (start : Weekday) (row column : ℕ) → is_some (sheet_day n start row column) ≡ false → month_first_of n ≤ℤ day_of_cell n start row column → day_of_cell n start row column ≤ℤ month_last_of n → ⊥
 unfolding sheet_day
 outside n start row column e low high =
-    not_none (int_le (month_first_of n) (day_of_cell n start row column) && int_le (day_of_cell n start row column) (month_last_of n)) (day_of_cell n start row column) e (grind (arith, ints, low, high))
+    let day = day_of_cell n start row column in
+    let lies : (int_le (month_first_of n) day && int_le day (month_last_of n)) ≡ true = grind (arith, ints, low, high) in false≢true (sym (rw lies at e))
 
 -- a month has more days than a row
 long_month : (n : ℤ) → (month_first_of n +ℤ pos 6) ≤ℤ month_last_of n

@@ -1,5 +1,5 @@
 -- Whole units between two days: those that the second lies on from the first, or one less where a move by them is past it.
-use Rattle.dates_answer.proofs.Ground.{◌≡◌, ◌⊎◌, inl, inr, Option, Some, None, IfSome, IsSomeAnd, refl, sym, ap, ◌∙◌, arith, ℤ, pos, neg_ℤ, negsuc, ◌+ℤ◌, ◌-ℤ◌, ◌*ℤ◌, ◌≤ℤ◌, ◌<ℤ◌, int_div, false≢true, by_lt_z, cond_some, same_Some, unwrap_or, IsDate, is_date, date_of_day, month_move, month_index_of, year_of_month_index, signed, date_of_day-SomeIff, month_move-parts, month_move-exists, month_index_of-rises, year_of-rises, year_of-range, Unit, Days, Weeks, Months, Years, unit_move, units_apart, IsUnitsBetween}
+use Rattle.dates_answer.proofs.Ground.{◌≡◌, ◌⊎◌, inl, inr, Option, Some, None, IfSome, IsSomeAnd, refl, sym, ap, ◌∙◌, arith, ℤ, pos, neg_ℤ, negsuc, ◌+ℤ◌, ◌-ℤ◌, ◌*ℤ◌, ◌≤ℤ◌, ◌<ℤ◌, int_div, false≢true, by_lt_z, same_Some, unwrap_or, IsDate, date_of_day, month_move, month_index_of, year_of_month_index, signed, month_move-parts, month_move-exists, month_index_of-rises, year_of-rises, year_of-range, Unit, Days, Weeks, Months, Years, unit_move, units_apart, IsUnitsBetween}
 use Rattle.chrono_units.specs.Years.{IsYear}
 use Rattle.chrono_calendar.proofs.EveryMonths.{date_every-start}
 use Rattle.chrono_calendar.proofs.MonthOrder.{month_of-range}

@@ -1,5 +1,5 @@
 -- What moves a date too far leads out of the calendar.
-use Rattle.dates_answer.proofs.Ground.{◌≡◌, ◌⊎◌, inl, inr, None, arith, ℤ, pos, neg_ℤ, ◌+ℤ◌, ◌*ℤ◌, ◌≤ℤ◌, ◌<ℤ◌, IsDate, date_of_day, month_index_of, month_move, signed, date_of_day-SomeIff, year_of-range, Unit, Days, Weeks, Months, Years, unit_move}
+use Rattle.dates_answer.proofs.Ground.{◌≡◌, ◌⊎◌, inl, inr, None, arith, ℤ, pos, neg_ℤ, ◌+ℤ◌, ◌*ℤ◌, ◌≤ℤ◌, ◌<ℤ◌, rules, w64, by_lt_z, FitsSigned, IsDate, date_of_day, month_index_of, month_move, signed, date_of_day-SomeIff, year_of-range, Unit, Days, Weeks, Months, Years, unit_move}
 use Rattle.chrono_calendar.proofs.MonthOrder.{month_of-range}
 use Rattle.chrono_calendar.proofs.Moves.{year_of_month_index-below, year_of_month_index-above, month_move-None}
 
@@ -22,11 +22,19 @@ months_far : (n z : ℤ) → IsDate n → IsFar z → None ≡ month_move n z
 months_far n z date (inl far) = month_move-None n z (λ is. year_of_month_index-below (month_index_of n +ℤ z) (omega (arith, signed, (month_index_of-range n date).1, far)) is)
 months_far n z date (inr far) = month_move-None n z (λ is. year_of_month_index-above (month_index_of n +ℤ z) (omega (arith, signed, (month_index_of-range n date).0, far)) is)
 
-pub unit_move-far : (unit : Unit) (n z : ℤ) → IsDate n → IsFar z → None ≡ unit_move unit n z
+pub unit_move_far : (unit : Unit) (n z : ℤ) → IsDate n → IsFar z → None ≡ unit_move unit n z
 unfolding unit_move
-unit_move-far Days n z date far = days_far n z date far
-unit_move-far Weeks n z date (inl far) = days_far n (pos 7 *ℤ z) date (inl (omega (arith, signed, far)))
-unit_move-far Weeks n z date (inr far) = days_far n (pos 7 *ℤ z) date (inr (omega (arith, signed, far)))
-unit_move-far Months n z date far = months_far n z date far
-unit_move-far Years n z date (inl far) = months_far n (pos 12 *ℤ z) date (inl (omega (arith, signed, far)))
-unit_move-far Years n z date (inr far) = months_far n (pos 12 *ℤ z) date (inr (omega (arith, signed, far)))
+unit_move_far Days n z date far = days_far n z date far
+unit_move_far Weeks n z date (inl far) = days_far n (pos 7 *ℤ z) date (inl (omega (arith, signed, far)))
+unit_move_far Weeks n z date (inr far) = days_far n (pos 7 *ℤ z) date (inr (omega (arith, signed, far)))
+unit_move_far Months n z date far = months_far n z date far
+unit_move_far Years n z date (inl far) = months_far n (pos 12 *ℤ z) date (inl (omega (arith, signed, far)))
+unit_move_far Years n z date (inr far) = months_far n (pos 12 *ℤ z) date (inr (omega (arith, signed, far)))
+
+-- a number that no machine word holds leads out of the calendar
+is_far : (z : ℤ) → ¬ (FitsSigned w64 z) → IsFar z
+is_far z none =
+    by_lt_z z (neg_ℤ (pos 200_000_000)) (λ low. inl low) (λ above. by_lt_z (pos 200_000_000) z (λ high. inr high) (λ below. absurd (none (search (rules, above, below)))))
+
+pub none_so_far : (unit : Unit) (n z : ℤ) → IsDate n → ¬ (FitsSigned w64 z) → None ≡ unit_move unit n z
+none_so_far unit n z date none = unit_move_far unit n z date (is_far z none)

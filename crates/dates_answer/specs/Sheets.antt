@@ -1,7 +1,8 @@
 -- A month as a sheet: which day stands in which cell, and how a row is written.
-use Rattle.std.specs.Prelude.{◌≡◌, ℕ, ◌+◌, ◌*◌, ◌/◌, ◌%◌, ◌<◌, false, not, ◌&&◌, if◌then◌else◌, nat_lt, ℤ, pos, ◌+ℤ◌, int_le, List, [], ◌∷◌, map, ◌++◌, codes, Option, Some, None}
+use Rattle.std.specs.Prelude.{◌≡◌, ℕ, ◌+◌, ◌*◌, ◌<◌, false, not, ◌&&◌, if◌then◌else◌, nat_lt, ℤ, pos, ◌+ℤ◌, int_le, List, [], ◌∷◌, map, ◌++◌, codes, Option, Some, None}
 use Rattle.std.specs.Option.{option_map}
-use Rattle.std.specs.Str.{byte}
+use Rattle.std.specs.Fmt.{decimal}
+use Rattle.std.specs.List.{flat_map}
 use Rattle.chrono_datetime.specs.declared.Weekday.{Weekday}
 use Rattle.chrono_datetime.specs.declared.Weekday.TheVariants.{Thu}
 use Rattle.chrono_datetime.specs.Days.{date_of_day, day_of}
@@ -40,33 +41,24 @@ cell_of c (Some d) = record { day = Some (day_of d); closed = not (is_open c d) 
 abbrev pub cells_of_row : Closed → ℤ → Weekday → ℕ → List Cell
 cells_of_row c n start row = map (λ column. cell_of c (sheet_day n start row column)) (0 ∷ 1 ∷ 2 ∷ 3 ∷ 4 ∷ 5 ∷ 6 ∷ [])
 
--- the last digit of a number
-abbrev pub last_digit : ℕ → ℕ
-last_digit k = byte "0" + k % 10
-
--- a day of the month in two bytes, with a space in front of one digit
-abbrev pub day_columns : ℕ → List ℕ
-day_columns d = (if nat_lt d 10 then byte " " else last_digit (d / 10)) ∷ last_digit d ∷ []
+-- a number in two columns, with a text in front of one digit
+abbrev pub two_columns : List ℕ → ℕ → List ℕ
+two_columns front k = if nat_lt k 10 then front ++ decimal k else decimal k
 
 -- what stands in a cell: its day, or spaces
 abbrev pub day_text : Option ℕ → List ℕ
 day_text None = codes "  "
-day_text (Some d) = day_columns d
+day_text (Some d) = two_columns (codes " ") d
 
--- three bytes of a cell: its day, and behind it `*` where it is closed
+-- a cell: its day, and behind it `*` where it is closed
 abbrev pub cell_text : Cell → List ℕ
-cell_text cell = day_text cell.day ++ (if cell.closed then byte "*" ∷ [] else byte " " ∷ [])
-
--- those of cells one after another
-unfoldable pub cells_text : List Cell → List ℕ
-cells_text [] = []
-cells_text (cell ∷ cells) = cell_text cell ++ cells_text cells
+cell_text cell = day_text cell.day ++ (if cell.closed then codes "*" else codes " ")
 
 -- the week in front of a row, as `W09`, or spaces
 abbrev pub label_text : Option ℕ → List ℕ
-label_text None = codes "    "
-label_text (Some week) = byte "W" ∷ last_digit (week / 10) ∷ last_digit week ∷ byte " " ∷ []
+label_text None = codes "   "
+label_text (Some week) = codes "W" ++ two_columns (codes "0") week
 
 -- a row: its week and its cells
 abbrev pub row_text : SheetRow → List ℕ
-row_text row = label_text row.week ++ cells_text row.cells
+row_text row = label_text row.week ++ (codes " " ++ flat_map cell_text row.cells)

@@ -10,18 +10,18 @@ ghost use Rattle.dates_answer.specs.declared.form.OutputForm.TheVariants.{Text, 
 ghost use Rattle.dates_answer.specs.declared.line.Reply.TheVariants.{Date, Names, Nothing, Number, Parts, Stamp, Week, Whether};
 ghost use Rattle.dates_answer.specs.declared.line.Key.TheVariants as keys;
 ghost use Rattle.dates_answer.specs.declared.parts.Parts as parts;
-ghost use Rattle.dates_answer.specs.DayNames.{names_text};
 ghost use Rattle.dates_answer.specs.Lines.{day_object, line_text};
 ghost use Rattle.dates_answer.specs.Moves.{moved_from, unit_move};
 ghost use Rattle.dates_answer.specs.Parts.{IsPartsBetween};
 ghost use Rattle.dates_answer.specs.Sequences.{sequence_day};
 ghost use Rattle.dates_answer.specs.Sheets.{cells_of_row, row_text, sheet_day, week_of_row};
 
-/// States known moves of days by spans.
+/// States known moves of days by spans, and known days of sequences.
 ///
 /// In year 1, a month after 31 January is 28 February, and two weeks after 1 January is the 15th. A day before 1 January is day 0.
 /// A year after 29 February of year 4 is 28 February. A week later and then a day earlier than 1 January is the 7th. A day earlier and
 /// then two days later than the last date is out of range.
+#[tactic(auto, unfolding(crate::specs::Sequences::days_up_to, crate::specs::Moves::moved_from, crate::specs::Moves::unit_move, chrono_calendar::specs::Days::date_of_day, chrono_calendar::specs::MonthMoves::month_move, chrono_calendar::specs::Days::days_before_year, chrono_calendar::specs::Days::days_of_years, chrono_calendar::specs::Days::days_of_months_in, chrono_calendar::specs::Days::ordinal_name_of, chrono_calendar::specs::Days::days_after_zero, chrono_calendar::specs::Days::days_before_zero, chrono_calendar::specs::Days::month_of_ordinal, chrono_calendar::specs::Days::day_of_ordinal))]
 pub fn known_moves()
     ensures month { unit_move Months (pos 31) (pos 1) ≡ Some (pos 59) }
     ensures weeks { unit_move Weeks (pos 1) (pos 2) ≡ Some (pos 15) }
@@ -29,13 +29,6 @@ pub fn known_moves()
     ensures year { unit_move Years (pos 1155) (pos 1) ≡ Some (pos 1520) }
     ensures both { moved_from (record { count = pos 1; unit = Weeks } ∷ record { count = neg_ℤ (pos 1); unit = Days } ∷ []) (pos 1) ≡ Some (pos 7) }
     ensures past { moved_from (record { count = neg_ℤ (pos 1); unit = Days } ∷ record { count = pos 2; unit = Days } ∷ []) (pos 95_745_399) ≡ None }
-{}
-
-/// States known days of sequences.
-///
-/// By one month from 31 January of year 1, place 2 is 31 March if the sequence ends there, and nothing if it ends a day earlier.
-/// By three days back from 10 January to 4 January, place 2 is 4 January, and place 3 is nothing.
-pub fn known_sequences()
     ensures from_the_first { sequence_day (pos 31) (pos 90) (record { count = pos 1; unit = Months }) 2 ≡ Some (pos 90) }
     ensures past_the_end { sequence_day (pos 31) (pos 89) (record { count = pos 1; unit = Months }) 2 ≡ None }
     ensures back { sequence_day (pos 10) (pos 4) (record { count = neg_ℤ (pos 3); unit = Days }) 2 ≡ Some (pos 4) }
@@ -43,20 +36,17 @@ pub fn known_sequences()
 {}
 
 /// States that the years, months and days between two days are unique.
+#[tactic(auto, using(crate::proofs::KnownParts::one_of_parts))]
 pub fn parts_are_the_only_ones()
     ensures { (from to : ℤ) (p q : parts.Parts) → IsPartsBetween from to p → IsPartsBetween from to q → (p.years ≡ q.years) × (p.months ≡ q.months) × (p.days ≡ q.days) }
 {}
 
-/// States the line of 1 January of year 1.
-pub fn known_names()
-    ensures first { names_text (pos 1) ≡ codes "0001-01-01 0001-001 0001-W01-1 Mon 1 -719162" }
-{}
-
 /// States known lines of answers.
 ///
-/// As text: a week, years and days without months, years and months without days, no days, and `yes`. As JSON: a date, a number, a day by its names, no answer, an
+/// As text: the names of a day, a week, years and days without months, years and months without days, no days, and `yes`. As JSON: a date, a number, a day by its names, no answer, an
 /// instant of an offset behind UTC, and a day of a sheet.
 pub fn known_lines()
+    ensures day { line_text Text (Names (pos 1)) ≡ codes "0001-01-01 0001-001 0001-W01-1 Mon 1 -719162" }
     ensures week { line_text Text (Week (pos 1) (pos 7)) ≡ codes "0001-01-01 0001-01-07" }
     ensures parts { line_text Text (Parts (record { years = pos 1; months = pos 0; days = pos 3 })) ≡ codes "1y 3d" }
     ensures months { line_text Text (Parts (record { years = pos 1; months = neg_ℤ (pos 2); days = pos 0 })) ≡ codes "1y -2m" }

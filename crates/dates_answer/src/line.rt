@@ -1,7 +1,7 @@
 //! Lines of answers, as texts or as objects of JSON (RFC 8259).
 ghost use Rattle.std.specs.Prelude.{◌≡◌, Some};
 ghost use Rattle.std.specs.Fmt.{WritesOnOk};
-ghost use Rattle.dates_answer.specs.Lines.{reply_object, reply_text, day_object, key_text, line_text, months_days_text, names_object, numbers_in_object, parts_object, parts_text};
+ghost use Rattle.dates_answer.specs.Lines.{reply_object, reply_text, day_object, key_text, line_text, names_object, numbers_in_object, parts_text};
 
 use crate::form::OutputForm;
 use crate::names::{DayNames, OrdinalName, WeekName};
@@ -106,6 +106,7 @@ impl fmt::Display for DayObject {
     ghost output = { λ day. Some (day_object day.date day.is_open) };
 
     /// Writes the day with its week and its weekday, and whether it is open.
+    #[tactic(auto, unfolding(crate::specs::Lines::day_object))]
     fn fmt<W: fmt::Write>(&self, f: &mut fmt::Formatter<W>) -> fmt::Result {
         let DayObject { date, is_open } = *self;
         let week = WeekName { date };
@@ -121,47 +122,22 @@ impl fmt::Display for Parts {
     ghost output = { λ parts. Some (parts_text parts) };
 
     /// Writes years, months and days as `1y 2m 3d`: those that are 0 are left out, and all are `0d`.
-    #[tactic(auto, unfolding(crate::specs::Lines::parts_text))]
+    #[tactic(auto, unfolding(crate::specs::Lines::parts_text, crate::specs::Lines::months_days_text))]
     fn fmt<W: fmt::Write>(&self, f: &mut fmt::Formatter<W>) -> fmt::Result {
         let Parts {
             years,
             months,
             days,
         } = *self;
-        let rest = MonthsAndDays { months, days };
-        if years == 0 {
-            return write!(f, "{rest}");
+        match (years, months, days) {
+            (0, 0, _) => write!(f, "{days}d"),
+            (0, _, 0) => write!(f, "{months}m"),
+            (0, _, _) => write!(f, "{months}m {days}d"),
+            (_, 0, 0) => write!(f, "{years}y"),
+            (_, 0, _) => write!(f, "{years}y {days}d"),
+            (_, _, 0) => write!(f, "{years}y {months}m"),
+            _ => write!(f, "{years}y {months}m {days}d"),
         }
-        if months == 0 && days == 0 {
-            return write!(f, "{years}y");
-        }
-        write!(f, "{years}y {rest}")
-    }
-}
-
-/// Months and days.
-#[derive(Clone, Copy)]
-pub struct MonthsAndDays {
-    /// The months.
-    pub months: i64,
-    /// The days.
-    pub days: i64,
-}
-
-impl fmt::Display for MonthsAndDays {
-    ghost output = { λ rest. Some (months_days_text rest.months rest.days) };
-
-    /// Writes months and days as `2m 3d`: one that is 0 is left out, and both are `0d`.
-    #[tactic(auto, unfolding(crate::specs::Lines::months_days_text))]
-    fn fmt<W: fmt::Write>(&self, f: &mut fmt::Formatter<W>) -> fmt::Result {
-        let MonthsAndDays { months, days } = *self;
-        if months == 0 {
-            return write!(f, "{days}d");
-        }
-        if days == 0 {
-            return write!(f, "{months}m");
-        }
-        write!(f, "{months}m {days}d")
     }
 }
 
@@ -182,15 +158,13 @@ fn write_text<W: fmt::Write>(reply: &Reply, f: &mut fmt::Formatter<W>) -> fmt::R
         Reply::Whether(_, false) => f.write_str("no"),
         Reply::Parts(parts) => write!(f, "{parts}"),
         Reply::Week(first, last) => write!(f, "{first} {last}"),
-        Reply::Nothing(_) => f.write_str("none"),
-        Reply::NoParts => f.write_str("none"),
-        Reply::NoWeek(_) => f.write_str("none"),
+        Reply::Nothing(_) | Reply::NoParts | Reply::NoWeek(_) => f.write_str("none"),
         Reply::Version => f.write_str("dates 0.1.0"),
     }
 }
 
 // An answer as an object.
-#[tactic(auto, unfolding(crate::specs::Lines::reply_object))]
+#[tactic(auto, unfolding(crate::specs::Lines::reply_object, crate::specs::Lines::parts_object))]
 fn write_object<W: fmt::Write>(reply: &Reply, f: &mut fmt::Formatter<W>) -> fmt::Result
     ensures writes { WritesOnOk W.write_str_gives f.old result (reply_object reply.now) f.new }
 {
@@ -203,7 +177,16 @@ fn write_object<W: fmt::Write>(reply: &Reply, f: &mut fmt::Formatter<W>) -> fmt:
         Reply::Duration(duration) => write!(f, "{{\"duration\":\"{duration}\"}}"),
         Reply::Number(key, number) => write!(f, "{{\"{}\":{number}}}", key_name(key)),
         Reply::Whether(key, yes) => write!(f, "{{\"{}\":{yes}}}", key_name(key)),
-        Reply::Parts(parts) => write_parts(parts, f),
+        Reply::Parts(
+            Parts {
+                years,
+                months,
+                days,
+            },
+        ) => write!(
+            f,
+            "{{\"years\":{years},\"months\":{months},\"days\":{days}}}"
+        ),
         Reply::Week(first, last) => { write!(f, "{{\"first\":\"{first}\",\"last\":\"{last}\"}}") }
         Reply::Nothing(key) => write!(f, "{{\"{}\":null}}", key_name(key)),
         Reply::NoParts => f.write_str("{\"years\":null,\"months\":null,\"days\":null}"),
@@ -213,22 +196,8 @@ fn write_object<W: fmt::Write>(reply: &Reply, f: &mut fmt::Formatter<W>) -> fmt:
     }
 }
 
-// Years, months and days as an object.
-fn write_parts<W: fmt::Write>(parts: Parts, f: &mut fmt::Formatter<W>) -> fmt::Result
-    ensures writes { WritesOnOk W.write_str_gives f.old result (parts_object parts) f.new }
-{
-    let Parts {
-        years,
-        months,
-        days,
-    } = parts;
-    write!(
-        f,
-        "{{\"years\":{years},\"months\":{months},\"days\":{days}}}"
-    )
-}
-
 // A day by its names as an object.
+#[tactic(auto, unfolding(crate::specs::Lines::names_object))]
 fn write_names<W: fmt::Write>(date: NaiveDate, f: &mut fmt::Formatter<W>) -> fmt::Result
     ensures writes { WritesOnOk W.write_str_gives f.old result (names_object date) f.new }
 {

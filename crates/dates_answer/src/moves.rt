@@ -20,7 +20,7 @@ pub fn moved(date: NaiveDate, span: Span) -> Option<NaiveDate>
 const FAR: i64 = 200_000_000;
 
 // The date that so many units are away.
-#[tactic(auto, unfolding(crate::specs::Moves::unit_move))]
+#[tactic(auto, using(crate::proofs::FarMoves::unit_move_far), unfolding(crate::specs::Moves::unit_move))]
 pub(crate) fn moved_by(date: NaiveDate, unit: Unit, count: i64) -> Option<NaiveDate>
     ensures { result ≡ unit_move unit date count }
 {

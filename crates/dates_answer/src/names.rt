@@ -32,6 +32,7 @@ impl fmt::Display for DayNames {
     ghost output = { λ names. Some (names_text names.date) };
 
     /// Writes the names, with a space between each two.
+    #[tactic(auto, unfolding(crate::specs::DayNames::names_text))]
     fn fmt<W: fmt::Write>(&self, f: &mut fmt::Formatter<W>) -> fmt::Result {
         let date = self.date;
         let ordinal = OrdinalName { date };

@@ -2,7 +2,7 @@
 ghost use Rattle.std.specs.Prelude.{◌≡◌, ◌∷◌, [], Some};
 ghost use Rattle.dates_answer.specs.declared.span.Unit.TheVariants.{Days, Months, Years};
 ghost use Rattle.dates_answer.specs.Moves.{moved_from};
-ghost use Rattle.dates_answer.specs.Parts.{IsMonthsLeft, IsPartsBetween};
+ghost use Rattle.dates_answer.specs.Parts.{IsPartsBetween};
 
 use crate::between::{days_between, distance};
 use crate::moves::moved_by;
@@ -20,6 +20,9 @@ pub struct Parts {
     pub days: i64,
 }
 
+// No more months are left where a year is not.
+const MOST_MONTHS: i64 = 11;
+
 /// Returns the years, months and days that lead from `from` to `to`, each in turn.
 ///
 /// They are the most whole years by which `from` moves without passing `to`, then the most months, at most eleven, then the days that
@@ -33,7 +36,9 @@ pub fn parts_between(from: NaiveDate, to: NaiveDate) -> Parts
 {
     let years = distance(from, to, Unit::Years);
     let with_years = moved_by(from, Unit::Years, years).unwrap_or(to);
-    let months = months_left(with_years, to);
+    prove!(days_between(with_years, to) < 200_000_000);
+    let whole = distance(with_years, to, Unit::Months);
+    let months = whole.max(-MOST_MONTHS).min(MOST_MONTHS);
     let with_months = moved_by(with_years, Unit::Months, months).unwrap_or(to);
     let days = days_between(with_months, to);
     Parts {
@@ -41,22 +46,4 @@ pub fn parts_between(from: NaiveDate, to: NaiveDate) -> Parts
         months,
         days,
     }
-}
-
-// No more months are left where a year is not.
-const MOST_MONTHS: i64 = 11;
-
-// The most whole months from one day to another, of eleven at most.
-fn months_left(from: NaiveDate, to: NaiveDate) -> i64
-    ensures { IsMonthsLeft from to result }
-{
-    prove!(days_between(from, to) < 200_000_000);
-    let months = distance(from, to, Unit::Months);
-    if months > MOST_MONTHS {
-        return MOST_MONTHS;
-    }
-    if months < -MOST_MONTHS {
-        return -MOST_MONTHS;
-    }
-    months
 }

@@ -21,25 +21,11 @@ impl fmt::Display for Quoted<'_> {
     ghost output = { λ q. Some (quoted q.text.now) };
 
     /// Writes the text between quotation marks.
+    #[tactic(auto, unfolding(crate::specs::Quoted::quoted))]
     fn fmt<W: fmt::Write>(&self, f: &mut fmt::Formatter<W>) -> fmt::Result {
-        let characters = Characters { text: self.text };
-        write!(f, "\"{characters}\"")
-    }
-}
-
-/// The characters of a text within quotation marks.
-#[derive(Clone, Copy)]
-pub struct Characters<'a> {
-    /// The text.
-    pub text: &'a str,
-}
-
-impl fmt::Display for Characters<'_> {
-    ghost output = { λ c. Some (json_chars c.text.now) };
-
-    /// Writes each character.
-    fn fmt<W: fmt::Write>(&self, f: &mut fmt::Formatter<W>) -> fmt::Result {
-        write_characters(self.text, f)
+        f.write_str("\"")?;
+        write_characters(self.text, f)?;
+        f.write_str("\"")
     }
 }
 

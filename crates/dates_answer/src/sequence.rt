@@ -1,5 +1,5 @@
 //! Sequences of days, each so many spans from the first.
-ghost use Rattle.std.specs.Prelude.{◌≡◌, ◌≤ℤ◌, SomeIff};
+ghost use Rattle.std.specs.Prelude.{◌≡◌};
 ghost use Rattle.dates_answer.specs.Sequences.{moved_times, sequence_day, days_up_to};
 
 use crate::between::days_between;
@@ -21,6 +21,7 @@ pub fn sequence_day(first: NaiveDate, end: NaiveDate, step: Span, place: u32) ->
 }
 
 // The date moved by so many spans at once.
+#[tactic(auto, using(crate::proofs::FarMoves::none_so_far))]
 fn moved_times(first: NaiveDate, step: Span, place: u32) -> Option<NaiveDate>
     ensures { result ≡ moved_times first step place }
 {
@@ -33,22 +34,10 @@ fn moved_times(first: NaiveDate, step: Span, place: u32) -> Option<NaiveDate>
 }
 
 // The date, if it does not lie past the end for one who goes on, or back where the number is below 0.
+#[tactic(auto, unfolding(crate::specs::Sequences::days_up_to))]
 fn days_up_to(date: NaiveDate, end: NaiveDate, count: i64) -> Option<NaiveDate>
     ensures { result ≡ days_up_to count end date }
 {
-    if count < 0 {
-        in_order(date, end, date)
-    } else {
-        in_order(date, date, end)
-    }
-}
-
-// The date, if of two days the first is not the later.
-fn in_order(date: NaiveDate, first: NaiveDate, second: NaiveDate) -> Option<NaiveDate>
-    ensures { SomeIff result (first ≤ℤ second) date }
-{
-    if days_between(first, second) < 0 {
-        return None;
-    }
-    Some(date)
+    let is_up_to = if 0 <= count { date <= end } else { end <= date };
+    if is_up_to { Some(date) } else { None }
 }

@@ -64,13 +64,11 @@ impl MonthSheet {
     }
 
     /// Whether a row has a day of the month.
+    #[tactic(auto, using(crate::proofs::CellLemmas::ends_empty))]
     pub fn has_days(&self, row: u32) -> bool
         ensures { result ≡ false ↔ IsEmptyRow self.now.month self.now.start row }
     {
-        if self.day(row, 0).is_some() {
-            return true;
-        }
-        self.day(row, 6).is_some()
+        self.day(row, 0).is_some() || self.day(row, 6).is_some()
     }
 
     // The ISO week in front of a row, if that has a day of the month.

@@ -23,6 +23,7 @@ impl fmt::Display for WrongLine<'_, '_> {
     ghost output = { λ l. Some (wrong_line l.form l.number l.text.now l.reason.now) };
 
     /// Writes the number and the reason, and in an object the text too.
+    #[tactic(auto, unfolding(crate::specs::Quoted::wrong_line))]
     fn fmt<W: fmt::Write>(&self, f: &mut fmt::Formatter<W>) -> fmt::Result {
         let number = self.number;
         let text = Quoted { text: self.text };

@@ -1,16 +1,5 @@
-use Rattle.dates_answer.proofs.Ground.{pos, ◌*ℤ◌, inl, inr, arith, w64, rules, to_z-of_z, FitsSigned, signed, IsDate, unit_move}
-use Rattle.dates_answer.proofs.FarMoves.{unit_move-far}
+use Rattle.dates_answer.proofs.Ground.{pos, ◌*ℤ◌, w64, rules, to_z-of_z, FitsSigned, unit_move}
 use Rattle.dates_answer.proofs.moves.moved_by.Goals as goal
-
-pub returns-then-count : goal.returns-then-count
-returns-then-count c =
-    let date : IsDate c.args.date = rw c.num_days_from_ce.ensures.value at c.num_days_from_ce.ensures.in_range in
-    unit_move-far c.args.unit c.args.date c.args.count date (inl (omega (arith, signed, c.if-count.true)))
-
-pub returns-then-count-gt-FAR : goal.returns-then-count-gt-FAR
-returns-then-count-gt-FAR c =
-    let date : IsDate c.args.date = rw c.num_days_from_ce.ensures.value at c.num_days_from_ce.ensures.in_range in
-    unit_move-far c.args.unit c.args.date c.args.count date (inr (omega (arith, signed, c.if-count-gt-FAR.true)))
 
 pub returns-in-Years : goal.returns-in-Years
 unfolding unit_move

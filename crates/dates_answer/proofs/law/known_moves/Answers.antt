@@ -1,6 +1,0 @@
-use Rattle.dates_answer.proofs.Ground.{refl, days_of_years, days_before_year, days_of_months_in, date_of_day, ordinal_name_of, days_after_zero, days_before_zero, month_of_ordinal, day_of_ordinal, month_move, moved_from, unit_move}
-use Rattle.dates_answer.proofs.law.known_moves.Goals as goal
-
-pub returns : goal.returns
-unfolding moved_from unit_move date_of_day month_move days_before_year days_of_years days_of_months_in ordinal_name_of days_after_zero days_before_zero month_of_ordinal day_of_ordinal
-returns c = record { month = refl; weeks = refl; day_back = refl; year = refl; both = refl; past = refl }
