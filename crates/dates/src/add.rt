@@ -156,7 +156,7 @@ impl<'a> EachLine for Add<'a> {
     }
 }
 
-// What lies a move away, or whether nothing does since it is past the calendar's end; a move of days keeps the time of day.
+// What lies a move away; where nothing does, whether that is past the calendar's end. A move of days keeps the time of day.
 fn moved_by(
     instants: &Instants,
     start: Start,

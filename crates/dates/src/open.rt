@@ -49,7 +49,7 @@ pub(crate) fn answer_days<'a>(
 }
 
 impl Days<'_> {
-    // `yes` where the day is open, and else `no`; the day that it rolls to, or `none` where the calendar ends before. The exit status.
+    // The day that a day rolls to, or `none` past the calendar's end; without a convention whether it is open. The exit status.
     fn answer_day(&mut self, rt: &HostRuntime, number: u64, date: NaiveDate) -> io::Result<u8> {
         let (form, none) = (self.form, self.none);
         let calendar = self.holidays.calendar(years_of(date, date))?;
