@@ -10,11 +10,13 @@ use std::fmt::Write;
 use std::str;
 use zone_database::ZoneError;
 
-// The exit statuses: of an answer, of a question that has none, and after a wrong command, or a read or a write that failed.
+/// The exit status of an answer.
 pub(crate) const ANSWERED: u8 = 0;
 
+/// The exit status of a question that has no answer.
 pub(crate) const NONE: u8 = 1;
 
+/// The exit status after a wrong command, or after a read or a write that failed.
 pub(crate) const WRONG: u8 = 2;
 
 /// Why a command has no answer.

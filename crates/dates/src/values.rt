@@ -3,11 +3,13 @@
 use crate::prelude::*;
 use chrono_text::{read_decimal, read_year};
 
-// What is expected in place of a day, of a date-time, and of one with its offset.
+/// What is expected in place of a day.
 pub(crate) const DAYS: &str = "a day as 2024-02-29, 2024-060 or 2024-W09-4";
 
+/// What is expected in place of a date-time.
 pub(crate) const MOMENTS: &str = "a date-time as 2024-02-29T04:30";
 
+/// What is expected in place of a date-time with its offset.
 pub(crate) const STAMPS: &str = "a date-time with its offset as 2024-02-29T04:30+01:00";
 
 /// How instants are written.
