@@ -2,19 +2,10 @@
 
 use crate::prelude::*;
 use dates_answer::moved;
-use std::alloc::Allocator;
-
-const SPAN: Operand = Operand {
-    name: "SPAN",
-    many: true,
-    ..OPERAND
-};
 
 pub(crate) fn command() -> CommandRow {
-    CommandRow {
-        name: "add",
-        operands: &[DAY_OR_LINES, SPAN],
-        options: OPEN_DAYS_AND_INSTANTS,
+    row!(
+        "add", &[DAY_OR_LINES, operand!("SPAN"; many: true)], OPEN_DAYS_AND_INSTANTS;
         help: "move a day or a date-time by each span in turn",
         more: "A SPAN is a whole number of days, weeks, months or years, as 3d, -2w, 1mo and\n\
             4y, or of open days, as 5b. Of a day, 1m is 1mo too.\n\
@@ -25,9 +16,8 @@ pub(crate) fn command() -> CommandRow {
             From a closed day the next open day counts as the first: from a Saturday 1b\n\
             leads to Monday, as 0b does, and -1b to Friday.\n\
             With - in place of the day, or none, it moves each line of standard input.",
-        example: "$ dates add 2024-01-31 1m\n\
-            2024-02-29",
-    }
+        example: "$ dates add 2024-01-31 1m\n2024-02-29"
+    )
 }
 
 // What moves days and date-times: moves, and the texts that write them.
@@ -35,7 +25,7 @@ pub(crate) fn command() -> CommandRow {
 struct Add<'a> {
     form: OutputForm,
     instants: Instants,
-    holidays: Holidays,
+    holidays: Holidays<'a>,
     moves: Vec<Move>,
     texts: Vec<&'a str>,
     short: Option<Word<'a>>,
@@ -46,13 +36,10 @@ struct Add<'a> {
 pub(crate) fn answer<'a>(rt: &HostRuntime, asked: &mut Asked<'a>) -> Answered<'a> {
     let instants = value!(instants_by(rt, asked));
     let (first, words) = parted(asked.words.operands.as_slice());
-    let start = match first {
-        Some(word) => {
-            asked.none = instants.form.none_of_text(word.text.as_bytes());
-            Some(value!(instants.start_of(word)))
-        }
-        None => None,
-    };
+    if let Some(word) = first {
+        asked.none = instants.form.none_of_text(word.text.as_bytes());
+    }
+    let start = given!(first, word, instants.start_of(word));
     let mut moves: Vec<Move> = Vec::new(rt.alloc());
     let mut texts: Vec<&'a str> = Vec::new(rt.alloc());
     let (short, timed) = value!(read_moves(start, words, &mut moves, &mut texts));
@@ -67,7 +54,7 @@ pub(crate) fn answer<'a>(rt: &HostRuntime, asked: &mut Asked<'a>) -> Answered<'a
     };
     match start {
         Some(start) => Ok(add.answer_start(rt, ALONE, start)?),
-        None => take_input(rt, &mut add),
+        None => take_lines(rt, INPUT, rt.reader(), &mut add),
     }
 }
 
@@ -130,8 +117,12 @@ impl<'a> Add<'a> {
         for by in self.moves.as_slice() {
             match moved_by(&self.instants, last, *by, &mut self.holidays)? {
                 Ok(reached) => last = reached,
-                Err(why) => {
-                    let by = text_at(self.texts.as_slice(), step);
+                Err(is_past) => {
+                    let why = if is_past { Cause::Past } else { Cause::NotOnce };
+                    let by = match self.texts.as_slice().get(step) {
+                        Some(text) => *text,
+                        None => "",
+                    };
                     let none = self.instants.form.none_of(last);
                     return print_nowhere(rt, self.form, none, number, &last, by, why);
                 }
@@ -146,8 +137,8 @@ impl<'a> Add<'a> {
         let Some(Word { text, .. }) = self.short else {
             return self.answer_start(rt, number, start);
         };
-        let none = self.instants.form.no_moment();
-        print_nowhere(rt, self.form, none, number, &start, text, Nowhere::Months)
+        let (none, why) = (self.instants.form.no_moment(), Cause::Months(text));
+        print_nowhere(rt, self.form, none, number, &start, text, why)
     }
 }
 
@@ -155,39 +146,32 @@ impl<'a> EachLine for Add<'a> {
     fn take_line(&mut self, rt: &HostRuntime, number: u64, line: &[u8]) -> io::Result<u8> {
         let form = self.instants.form;
         match self.instants.read(line) {
-            Some(Start::Day(_)) if self.timed => print_reply(rt, self.form, form.no_moment()),
+            Some(Start::Day(_)) | None if self.timed => {
+                print_reply(rt, self.form, form.no_moment())
+            }
             Some(start @ Start::Day(_)) => self.answer_start(rt, number, start),
             Some(start) => self.answer_moment(rt, number, start),
-            None if self.timed => print_reply(rt, self.form, form.no_moment()),
             None => print_reply(rt, self.form, form.none_of_text(line)),
         }
     }
 }
 
-// The text at a place, or none.
-fn text_at<'a>(texts: &[&'a str], place: usize) -> &'a str {
-    match texts.get(place) {
-        Some(text) => *text,
-        None => "",
-    }
-}
-
-// What lies a move away, or why nothing does; a move of days keeps the time of day.
+// What lies a move away; where nothing does, whether that is past the calendar's end. A move of days keeps the time of day.
 fn moved_by(
     instants: &Instants,
     start: Start,
     by: Move,
-    holidays: &mut Holidays,
-) -> io::Result<Result<Start, Nowhere>> {
+    holidays: &mut Holidays<'_>,
+) -> io::Result<Result<Start, bool>> {
     let date = start.local().date();
     let reached = match by {
         Move::Calendar(span) | Move::ShortMonths(span) => moved(date, span),
         Move::OpenDays(count) => open_days_later(date, count, holidays)?,
-        Move::Time(time) => return Ok(instants.later(start, time).ok_or(Nowhere::Past)),
+        Move::Time(time) => return Ok(instants.later(start, time).ok_or(true)),
     };
     match reached {
-        Some(date) => Ok(instants.on(start, date).ok_or(Nowhere::NotOnce)),
-        None => Ok(Err(Nowhere::Past)),
+        Some(date) => Ok(instants.on(start, date).ok_or(false)),
+        None => Ok(Err(true)),
     }
 }
 
@@ -195,8 +179,8 @@ fn moved_by(
 fn open_days_later(
     date: NaiveDate,
     count: i64,
-    holidays: &mut Holidays,
+    holidays: &mut Holidays<'_>,
 ) -> io::Result<Option<NaiveDate>> {
-    let years = years_of_open_days(date, count, holidays.listed());
+    let years = years_of_open_days(date, count, holidays.listed.len());
     Ok(holidays.calendar(years)?.add_open_days(date, count))
 }

@@ -1,7 +1,6 @@
 //! What a command is asked, and its answer printed.
 
 use crate::prelude::*;
-use command_words::Arguments;
 use dates_answer::ReplyLine;
 
 /// The exit status of a command, or why it has no answer.

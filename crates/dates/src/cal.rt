@@ -6,20 +6,14 @@ use chrono_datetime::Month;
 use chrono_text::read_year;
 use dates_answer::{DayObject, MonthSheet};
 
-const FIRST: Opt = Opt {
-    name: "--first",
-    value: "DAY",
-    values: WEEKDAYS,
-    default: "mon",
-    help: "on which weekday weeks begin (default: mon)",
-    ..OPTION
-};
+const FIRST: Opt = option!(
+    "--first", "DAY"; "on which weekday weeks begin (default: mon)",
+    values: WEEKDAYS, default: "mon"
+);
 
 pub(crate) fn command() -> CommandRow {
-    CommandRow {
-        name: "cal",
-        operands: &[operand!("MONTH|YEAR")],
-        options: &[FIRST, WEEKEND, CALENDAR, HOLIDAYS, JSON, HELP],
+    row!(
+        "cal", &[operand!("MONTH|YEAR")], &[FIRST, WEEKEND, CALENDAR, HOLIDAYS, JSON, HELP];
         help: "print a month or a year as a sheet",
         more: "A MONTH is written as 2024-02, a YEAR as 2024.\n\
             Each row begins with its ISO week, that of its Thursday. * marks a closed day.",
@@ -29,52 +23,32 @@ pub(crate) fn command() -> CommandRow {
             W05  1  2  3  4  5  6* 7*\n\
             W06  8  9 10 11 12 13*14*\n\
             W07 15 16 17 18 19 20*21*\n\
-            W08 22 23 24 25 26 27*28*",
-    }
-}
-
-// A month, or a year, that begins on a day.
-#[derive(Clone, Copy)]
-struct Time {
-    first: NaiveDate,
-    is_year: bool,
+            W08 22 23 24 25 26 27*28*"
+    )
 }
 
 // The month or the year as sheets with closed days marked; `none` where the calendar has no such year. The exit status.
 pub(crate) fn answer<'a>(rt: &HostRuntime, asked: &mut Asked<'a>) -> Answered<'a> {
-    let time = value!(time_of(asked.word(0)));
+    let (first, is_year) = value!(time_of(asked.word(0)));
     let start = value!(weekday_of(asked.option("--first")));
     let mut holidays = value!(holidays_of(rt, asked));
-    let calendar = holidays.calendar(years_of(time.first, time.first))?;
-    print_time(rt, asked.form, time, start, &calendar)?;
+    let calendar = holidays.calendar(years_of(first, first))?;
+    match asked.form {
+        OutputForm::Text if is_year => print_year(rt, first, start, &calendar)?,
+        OutputForm::Text => print_month(rt, month_of(first, 0, start), &calendar)?,
+        OutputForm::Json => print_days(rt, first, days_of(first, is_year), &calendar)?,
+    }
     Ok(ANSWERED)
 }
 
-// The month or the year that a word names.
-fn time_of<'a>(word: Word<'a>) -> Result<Time, Fault<'a>> {
+// The first day of the month or the year that a word names, and whether it is a year.
+fn time_of<'a>(word: Word<'a>) -> Result<(NaiveDate, bool), Fault<'a>> {
     let what = "a month as 2024-02 or a year as 2024";
     let text = word.text.as_bytes();
-    let (first, is_year) = match read_month(text) {
-        Ok(first) => (first, false),
-        Err(_) if read_year(text).is_some() => (value!(start_of_year(word)), true),
-        Err(error) => return Err(unread(word, error, what)),
-    };
-    Ok(Time { first, is_year })
-}
-
-// A month or a year in a form.
-fn print_time(
-    rt: &HostRuntime,
-    form: OutputForm,
-    time: Time,
-    start: Weekday,
-    calendar: &Calendar,
-) -> io::Result<()> {
-    let Time { first, is_year } = time;
-    match form {
-        OutputForm::Text if is_year => print_year(rt, first, start, calendar),
-        OutputForm::Text => print_month(rt, month_of(first, 0, start), calendar),
-        OutputForm::Json => print_days(rt, first, days_of(time), calendar),
+    match read_month(text) {
+        Ok(first) => Ok((first, false)),
+        Err(_) if read_year(text).is_some() => Ok((value!(start_of_year(word)), true)),
+        Err(error) => Err(unread(word, error, what)),
     }
 }
 
@@ -119,26 +93,17 @@ fn month_of(first: NaiveDate, months: i64, start: Weekday) -> MonthSheet {
 // The weeks of months, side by side.
 fn print_rows(rt: &HostRuntime, sheets: &[MonthSheet], calendar: &Calendar) -> io::Result<()> {
     for row in 0..6 {
-        if sheets.iter().any(|sheet| sheet.has_days(row)) {
-            print_row(rt, sheets, row, calendar)?;
+        if !sheets.iter().any(|sheet| sheet.has_days(row)) {
+            continue;
         }
+        let mut gap = "";
+        for sheet in sheets {
+            print!(rt; "{gap}{}", sheet.row(row, calendar))?;
+            gap = "  ";
+        }
+        println!(rt; "")?;
     }
     Ok(())
-}
-
-// A week of each month, side by side.
-fn print_row(
-    rt: &HostRuntime,
-    sheets: &[MonthSheet],
-    row: u32,
-    calendar: &Calendar,
-) -> io::Result<()> {
-    let mut gap = "";
-    for sheet in sheets {
-        print!(rt; "{gap}{}", sheet.row(row, calendar))?;
-        gap = "  ";
-    }
-    println!(rt; "")
 }
 
 // So many days from one on, each with its week, its weekday and whether it is open.
@@ -156,11 +121,11 @@ fn print_days(
 }
 
 // How many days a month or a year has.
-fn days_of(time: Time) -> u32 {
-    match time.is_year {
-        true if time.first.leap_year() => 366,
+fn days_of(first: NaiveDate, is_year: bool) -> u32 {
+    match is_year {
+        true if first.leap_year() => 366,
         true => 365,
-        false => time.first.last_day_of_month().day(),
+        false => first.last_day_of_month().day(),
     }
 }
 

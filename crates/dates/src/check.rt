@@ -3,24 +3,16 @@
 use crate::prelude::*;
 use dates_answer::WrongLine;
 
-const FILE: Operand = Operand {
-    name: "FILE",
-    required: false,
-    ..OPERAND
-};
-
 pub(crate) fn command() -> CommandRow {
-    CommandRow {
-        name: "check",
-        operands: &[FILE],
-        options: PLAIN,
+    row!(
+        "check", &[operand!("FILE"; required: false)], PLAIN;
         help: "print the lines that are no days, and why",
         more: "It reads standard input where FILE is - or left out. It prints nothing where all\n\
             lines are days.",
         example: "$ printf 'rent,2023-01-31\\nfood,2023-02-29\\n' | cut -d, -f2 | dates check\n\
             2: byte 8: the month has 28 days\n\
-            status 1",
-    }
+            status 1"
+    )
 }
 
 // Lines of which those that are no days are printed.
@@ -37,7 +29,7 @@ pub(crate) fn answer<'a>(rt: &HostRuntime, asked: &mut Asked<'a>) -> Answered<'a
             let file = value!(open_file(rt, word));
             take_lines(rt, word, file, &mut lines)
         }
-        None => take_input(rt, &mut lines),
+        None => take_lines(rt, INPUT, rt.reader(), &mut lines),
     }
 }
 

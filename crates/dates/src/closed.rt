@@ -15,45 +15,18 @@ fn weekend_named(text: &str) -> Option<WeekdaySet> {
     if text == "none" {
         return Some(WeekdaySet::EMPTY);
     }
-    match text.split_once(',') {
-        Some((first, second)) => {
-            let first = WeekdaySet::single(weekday_named(first)?);
-            Some(first.union(WeekdaySet::single(weekday_named(second)?)))
-        }
-        None => Some(WeekdaySet::single(weekday_named(text)?)),
-    }
+    let (first, second) = text.split_once(',').unwrap_or((text, text));
+    let first = WeekdaySet::single(weekday_named(first)?);
+    Some(first.union(WeekdaySet::single(weekday_named(second)?)))
 }
 
-/// The rules by which a calendar has holidays.
-#[derive(Clone, Copy)]
-pub(crate) enum Rules {
-    None,
-    UsFederal,
-    Target,
-    England,
-}
-
-// The rules of the calendar with that name; none where it is empty.
-pub(crate) fn rules_named(name: &str) -> Rules {
+// Puts the holidays by the rules of the calendar with that name in these years into the list; none where it is empty.
+pub(crate) fn put_holidays(name: &str, years: Years, days: &mut Vec<NaiveDate>) -> io::Result<()> {
     match name {
-        "us-federal" => Rules::UsFederal,
-        "target" => Rules::Target,
-        "england" => Rules::England,
-        _ => Rules::None,
-    }
-}
-
-// Puts the holidays by rules in these years into the list.
-pub(crate) fn put_holidays(
-    rules: Rules,
-    years: Years,
-    days: &mut Vec<NaiveDate>,
-) -> io::Result<()> {
-    match rules {
-        Rules::None => Ok(()),
-        Rules::UsFederal => put_ruled(&us_federal(), years, days),
-        Rules::Target => put_ruled(&target(), years, days),
-        Rules::England => put_ruled(&england_and_wales(), years, days),
+        "us-federal" => put_ruled(&us_federal(), years, days),
+        "target" => put_ruled(&target(), years, days),
+        "england" => put_ruled(&england_and_wales(), years, days),
+        _ => Ok(()),
     }
 }
 

@@ -9,29 +9,22 @@ const MAN: Opt = flag!("--man", "print the man page");
 
 const REFERENCE: Opt = flag!("--reference", "print the help of every command as Markdown");
 
-const COMPLETION: Opt = Opt {
-    name: "--completion",
-    value: "SHELL",
-    values: &["bash", "zsh", "fish"],
-    any: false,
-    help: "print the completion for bash, zsh or fish",
-    ..OPTION
-};
+const COMPLETION: Opt = option!(
+    "--completion", "SHELL"; "print the completion for bash, zsh or fish",
+    values: &["bash", "zsh", "fish"], any: false
+);
 
 /// The options that stand without the name of a command.
 pub(crate) const OPTIONS: &[Opt] = &[JSON, HELP, VERSION, MAN, REFERENCE, COMPLETION];
 
-/// What the program does without the name of a command.
+// What the program does without the name of a command.
 pub(crate) fn command() -> CommandRow {
-    CommandRow {
-        name: "",
-        operands: &[DAY_OR_LINES],
-        options: OPTIONS,
+    row!(
+        "", &[DAY_OR_LINES], OPTIONS;
         help: "print a day by all its names",
         more: "",
-        example: "$ dates 2024-W09-4\n\
-            2024-02-29 2024-060 2024-W09-4 Thu 738945 19782",
-    }
+        example: "$ dates 2024-W09-4\n2024-02-29 2024-060 2024-W09-4 Thu 738945 19782"
+    )
 }
 
 // The day by all its names, or that of each line, or a page of the program; the exit status.
@@ -49,7 +42,7 @@ pub(crate) fn answer<'a>(rt: &HostRuntime, asked: &mut Asked<'a>) -> Answered<'a
     let form = asked.form;
     match asked.word_or_lines() {
         Some(word) => asked.print(rt, Reply::Names(value!(first_of(word)))),
-        None => take_input(rt, &mut NamedLines { form }),
+        None => take_lines(rt, INPUT, rt.reader(), &mut NamedLines { form }),
     }
 }
 

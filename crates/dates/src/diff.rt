@@ -1,24 +1,15 @@
 //! How far it is from one day to another.
 
 use crate::prelude::*;
-use command_words::Arguments;
 use dates_answer::{distance, parts_between};
 
 const UNITS: &[&str] = &["d", "w", "m", "mo", "y", "b", "ymd"];
 
-const UNIT: Operand = Operand {
-    name: "UNIT",
-    keyword: "in",
-    values: UNITS,
-    required: false,
-    ..OPERAND
-};
+const UNIT: Operand = operand!("UNIT"; keyword: "in", values: UNITS, required: false);
 
 pub(crate) fn command() -> CommandRow {
-    CommandRow {
-        name: "diff",
-        operands: &[DAY, DAY_OR_LINES, UNIT],
-        options: OPEN_DAYS_AND_INSTANTS,
+    row!(
+        "diff", &[DAY, DAY_OR_LINES, UNIT], OPEN_DAYS_AND_INSTANTS;
         help: "print the days or whole units between two days",
         more: "A UNIT is d, w, m or mo, y, b or ymd: days, weeks, months, years, open days, or\n\
             years, months and days. It goes back where the second day is the earlier.\n\
@@ -29,9 +20,8 @@ pub(crate) fn command() -> CommandRow {
             seconds, as PT5400S. Both have an offset as +01:00, or none has.\n\
             With - in place of a day, or no second day, each line of standard input is\n\
             taken for it.",
-        example: "$ dates diff 2024-02-29 2024-12-24 in w\n\
-            42",
-    }
+        example: "$ dates diff 2024-02-29 2024-12-24 in w\n42"
+    )
 }
 
 // In what it is asked how far it is.
@@ -50,13 +40,13 @@ type Ends = (Option<Start>, Option<Start>);
 
 // From where to where, in what, and by which holidays.
 #[derive(Drop)]
-struct Diff {
+struct Diff<'a> {
     form: OutputForm,
     instants: Instants,
     none: Reply,
     ends: Ends,
     measure: Measure,
-    holidays: Holidays,
+    holidays: Holidays<'a>,
 }
 
 // How far it is from one day to another, or to that of each line; the exit status.
@@ -73,7 +63,7 @@ pub(crate) fn answer<'a>(rt: &HostRuntime, asked: &mut Asked<'a>) -> Answered<'a
     };
     match ends {
         (Some(from), Some(to)) => Ok(diff.answer_ends(rt, from, to)?),
-        _ => take_input(rt, &mut diff),
+        _ => take_lines(rt, INPUT, rt.reader(), &mut diff),
     }
 }
 
@@ -100,14 +90,8 @@ fn read<'a>(instants: &Instants, asked: &mut Asked<'a>) -> Result<(Ends, Measure
 
 // The words of the days, and those from `in` on.
 fn cut<'b, 'a>(words: &'b [Word<'a>]) -> (&'b [Word<'a>], &'b [Word<'a>]) {
-    let mut place: usize = 0;
-    for word in words {
-        if word.text == "in" {
-            break;
-        }
-        place = place.saturating_add(1);
-    }
-    words.split_at(place.min(words.len()))
+    let place = words.iter().position(|word| word.text == "in");
+    words.split_at(place.unwrap_or(words.len()))
 }
 
 // The measure that the words from `in` on name: days where there are none.
@@ -172,13 +156,13 @@ fn like<'a>(instants: &Instants, first: Start, word: Word<'a>) -> Result<Start, 
     let second = value!(instants.once(word, value!(start_as(instants.form, word, what))));
     match (first, second) {
         (Start::Day(_), Start::Day(_)) => Ok(second),
-        (Start::Day(_), _) | (_, Start::Day(_)) => Err(Fault::expected(word, ONE_KIND)),
+        (Start::Day(_), _) | (_, Start::Day(_)) => {
+            Err(Fault::expected(word, "two days or two date-times, not one of each"))
+        }
         _ if first.has_offset() == second.has_offset() => Ok(second),
         _ => Err(Fault::expected(word, "an offset of both date-times, or of none")),
     }
 }
-
-const ONE_KIND: &str = "two days or two date-times, not one of each";
 
 // Only open days take options.
 fn check_options<'a>(words: &Arguments<'a>, measure: Measure) -> Result<(), Fault<'a>> {
@@ -212,7 +196,7 @@ fn key_of(unit: Unit) -> Key {
     }
 }
 
-impl Diff {
+impl Diff<'_> {
     // How far it is from one day or date-time to another of its kind; the exit status.
     fn answer_ends(&mut self, rt: &HostRuntime, from: Start, to: Start) -> io::Result<u8> {
         let answer = match from {
@@ -245,7 +229,7 @@ impl Diff {
     }
 }
 
-impl EachLine for Diff {
+impl EachLine for Diff<'_> {
     fn take_line(&mut self, rt: &HostRuntime, _number: u64, line: &[u8]) -> io::Result<u8> {
         match (self.ends, self.instants.read(line)) {
             ((Some(from), _), Some(to)) => self.answer_ends(rt, from, to),

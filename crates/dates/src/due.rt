@@ -3,26 +3,14 @@
 use crate::prelude::*;
 use chrono_cron::{Schedule, read_schedule};
 
-const AFTER: Opt = Opt {
-    name: "--from",
-    value: "TIME",
-    required: true,
-    help: "after which date-time, as 2024-02-29T04:30",
-    ..OPTION
-};
+const AFTER: Opt =
+    option!("--from", "TIME"; "after which date-time, as 2024-02-29T04:30", required: true);
 
-const BEFORE: Opt = Opt {
-    help: "before which date-time, as 2024-02-29T04:30",
-    ..AFTER
-};
+const BEFORE: Opt =
+    option!("--from", "TIME"; "before which date-time, as 2024-02-29T04:30", required: true);
 
-const HOW_MANY: Opt = Opt {
-    name: "--count",
-    value: "N",
-    default: "1",
-    help: "how many are printed, a line each (default: 1)",
-    ..OPTION
-};
+const HOW_MANY: Opt =
+    option!("--count", "N"; "how many are printed, a line each (default: 1)", default: "1");
 
 const MORE: &str = "A CRON is a nickname as @daily, or five fields in one word, blanks between\n\
     them: minute 0-59, hour 0-23, day 1-31, month 1-12 or jan-dec, and weekday 0-7\n\
@@ -38,26 +26,21 @@ const MORE: &str = "A CRON is a nickname as @daily, or five fields in one word, 
 const PREV: &str = "prev";
 
 pub(crate) fn next() -> CommandRow {
-    CommandRow {
-        name: "next",
-        operands: &[operand!("CRON")],
-        options: &[AFTER, HOW_MANY, UNIX, JSON, HELP],
+    row!(
+        "next", &[operand!("CRON")], &[AFTER, HOW_MANY, UNIX, JSON, HELP];
         help: "print when a schedule is due next",
         more: MORE,
-        example: "$ dates next '0 9 * * 5#3' --from 2024-03-01T00:00\n\
-            2024-03-15T09:00:00",
-    }
+        example: "$ dates next '0 9 * * 5#3' --from 2024-03-01T00:00\n2024-03-15T09:00:00"
+    )
 }
 
 pub(crate) fn prev() -> CommandRow {
     CommandRow {
         name: PREV,
-        operands: &[operand!("CRON")],
         options: &[BEFORE, HOW_MANY, UNIX, JSON, HELP],
         help: "print when a schedule was due before",
-        more: MORE,
-        example: "$ dates prev '0 0 L * *' --from 2024-03-15T00:00\n\
-            2024-02-29T00:00:00",
+        example: "$ dates prev '0 0 L * *' --from 2024-03-15T00:00\n2024-02-29T00:00:00",
+        ..next()
     }
 }
 
@@ -93,8 +76,6 @@ fn next_of(schedule: &Schedule, last: NaiveDateTime, goes_back: bool) -> Option<
 
 // The schedule that a word writes.
 fn schedule_of<'a>(word: Word<'a>) -> Result<Schedule, Fault<'a>> {
-    match read_schedule(word.text.as_bytes()) {
-        Ok(schedule) => Ok(schedule),
-        Err(error) => Err(Fault::Word(word, Cause::Schedule(error))),
-    }
+    let text = word.text.as_bytes();
+    Ok(value!(read_schedule(text), error => Fault::Word(word, Cause::Schedule(error))))
 }

@@ -3,15 +3,12 @@
 use crate::prelude::*;
 
 pub(crate) fn command() -> CommandRow {
-    CommandRow {
-        name: "easter",
-        operands: &[YEAR],
-        options: PLAIN,
+    row!(
+        "easter", &[YEAR], PLAIN;
         help: "print Easter Sunday of a year",
         more: "Easter is worked out by the Gregorian rule.",
-        example: "$ dates easter 2025\n\
-            2025-04-20",
-    }
+        example: "$ dates easter 2025\n2025-04-20"
+    )
 }
 
 // Easter Sunday of the year; the exit status.

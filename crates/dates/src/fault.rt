@@ -7,7 +7,6 @@ use command_words::{Why, Wrong, nearest, put_choices, put_usage};
 use std::alloc::AllocFailed;
 use std::env::{Env, FillError};
 use std::fmt::Write;
-use std::io::ErrorKind;
 use std::str;
 use zone_database::ZoneError;
 
@@ -49,8 +48,12 @@ impl<'a> Fault<'a> {
 pub(crate) enum Cause<'a> {
     /// It is written as a day or a time is, and there is none such.
     NoDay(ReadError),
+    /// A move leads out of the calendar.
+    Past,
     /// The zone's clock shows the date-time twice, or skips it.
     NotOnce,
+    /// The zone's clock never shows the date-time.
+    Never,
     /// The calendar has no such year.
     Outside,
     /// That was expected in its place.
@@ -146,8 +149,7 @@ fn put_fault(out: &mut String, command: &CommandRow, fault: Fault<'_>) -> Put {
             put_cause(out, cause)
         }
         Fault::Word(word, cause) => {
-            put_source(out, word)?;
-            out.push_str(": ")?;
+            put_source(out, word, ": ")?;
             put_cause(out, cause)
         }
         Fault::Missing(name, value) => {
@@ -158,13 +160,11 @@ fn put_fault(out: &mut String, command: &CommandRow, fault: Fault<'_>) -> Put {
             put_usage(out, NAME, command)
         }
         Fault::Input(source, error) => {
-            put_source(out, source)?;
-            out.push_str(": ")?;
+            put_source(out, source, ": ")?;
             show(out, &error)
         }
         Fault::NoHoliday(source, number, reason) => {
-            put_source(out, source)?;
-            out.push_str(", line ")?;
+            put_source(out, source, ", line ")?;
             show(out, &number)?;
             out.push_str(": ")?;
             put_holiday(out, reason)
@@ -182,7 +182,9 @@ pub(crate) fn gap_before(text: &str) -> &'static str {
 pub(crate) fn put_cause(out: &mut String, cause: Cause<'_>) -> Put {
     match cause {
         Cause::NoDay(error) => show(out, &error),
-        Cause::NotOnce => out.push_str(NOT_ONCE),
+        Cause::Past => out.push_str("past the calendar's end"),
+        Cause::NotOnce => out.push_str("a local time that the zone's clock shows twice, or never"),
+        Cause::Never => out.push_str("the zone's clock never shows it"),
         Cause::Outside => out.push_str("expected a year from -262143 to +262142"),
         Cause::Expected(what) => put(out, &["expected ", what]),
         Cause::Choice(values) => {
@@ -190,8 +192,8 @@ pub(crate) fn put_cause(out: &mut String, cause: Cause<'_>) -> Put {
             put_choices(out, values)
         }
         Cause::NoCommand => out.push_str(COMMAND),
-        Cause::Schedule(error) => put_expected(out, &error, SCHEDULE),
-        Cause::Rule(error) => put_expected(out, &error, RULE),
+        Cause::Schedule(error) => put_expected(out, &error, "a schedule as '30 4 1,15 * 5'"),
+        Cause::Rule(error) => put_expected(out, &error, "a rule as FREQ=MONTHLY;BYDAY=-1FR"),
         Cause::Months(text) => put(out, &["months; minutes are ", text, "in"]),
         Cause::NoOption => out.push_str("no such option"),
         Cause::NoValue => out.push_str("its value is missing"),
@@ -201,18 +203,11 @@ pub(crate) fn put_cause(out: &mut String, cause: Cause<'_>) -> Put {
 
 const COMMAND: &str = "expected a day as 2024-02-29 or a command; dates --help lists them";
 
-const SCHEDULE: &str = "a schedule as '30 4 1,15 * 5'";
-
-const RULE: &str = "a rule as FREQ=MONTHLY;BYDAY=-1FR";
-
 // Puts why a line of holidays is no day behind a text.
 fn put_holiday(out: &mut String, reason: Reason) -> Put {
-    match reason {
-        Reason::Form => {}
-        _ => {
-            put_reason(out, reason)?;
-            out.push_str("; ")?;
-        }
+    if !matches!(reason, Reason::Form) {
+        put_reason(out, reason)?;
+        out.push_str("; ")?;
     }
     out.push_str("expected a day as 2024-02-29")
 }
@@ -225,18 +220,16 @@ fn put_expected<T: fmt::Display>(out: &mut String, error: &T, what: &'static str
 
 // Puts a value behind a text.
 pub(crate) fn show<T: fmt::Display>(out: &mut String, value: &T) -> Put {
-    match write!(out, "{value}") {
-        Ok(()) => Ok(()),
-        Err(_) => Err(AllocError),
-    }
+    write!(out, "{value}").or(Err(AllocError))
 }
 
-// Puts where words and lines come from behind a text: standard input, or an argument as `argument 2, FILE`.
-fn put_source(out: &mut String, word: Word<'_>) -> Put {
-    if word.place == 0 {
-        return out.push_str("standard input");
+// Puts where words and lines come from behind a text, and an end: standard input, or an argument as `argument 2, FILE`.
+fn put_source(out: &mut String, word: Word<'_>, end: &str) -> Put {
+    match word.place {
+        0 => out.push_str("standard input")?,
+        place => put_argument(out, place, word.text.as_bytes())?,
     }
-    put_argument(out, word.place, word.text.as_bytes())
+    out.push_str(end)
 }
 
 // Puts an argument on one line behind a text, of its bytes: control characters, of which some break a line and some steer a terminal,
@@ -262,10 +255,7 @@ fn put_argument(out: &mut String, place: usize, bytes: &[u8]) -> Put {
 
 // Puts a character behind a text by its number.
 fn put_escaped(out: &mut String, number: u32) -> Put {
-    match write!(out, "\\u{number:04x}") {
-        Ok(()) => Ok(()),
-        Err(_) => Err(AllocError),
-    }
+    write!(out, "\\u{number:04x}").or(Err(AllocError))
 }
 
 // The name that is most like a wrong one, if one is like it.

@@ -4,27 +4,22 @@ use crate::prelude::*;
 use chrono_business::{Calendar, without_weekends};
 use chrono_datetime::WeekdaySet;
 use std::fs::{self, File};
-use std::io::{BufReader, ErrorKind};
 
 /// The holidays by the options of a command.
 #[derive(Drop)]
-pub(crate) struct Holidays {
+pub(crate) struct Holidays<'a> {
     weekend: WeekdaySet,
-    rules: Rules,
-    // Those that the file of the options lists.
-    listed: Vec<NaiveDate>,
+    // The name of the calendar of rules; empty for none.
+    rules: &'a str,
+    /// Those that the file of the options lists.
+    pub listed: Vec<NaiveDate>,
     // These and those of the rules in some years, in order and but for those on the weekend.
     days: Vec<NaiveDate>,
     // Those years.
     years: Option<Years>,
 }
 
-impl Holidays {
-    // How many days the file lists.
-    pub(crate) fn listed(&self) -> usize {
-        self.listed.len()
-    }
-
+impl<'a> Holidays<'a> {
     // The calendar by the options, with the holidays of these years at least.
     pub(crate) fn calendar(&mut self, years: Years) -> io::Result<Calendar<'_>> {
         match self.years {
@@ -58,11 +53,14 @@ impl Holidays {
 }
 
 // The holidays by the options of a command.
-pub(crate) fn holidays_of<'a>(rt: &HostRuntime, asked: &Asked<'a>) -> Result<Holidays, Fault<'a>> {
+pub(crate) fn holidays_of<'a>(
+    rt: &HostRuntime,
+    asked: &Asked<'a>,
+) -> Result<Holidays<'a>, Fault<'a>> {
     let weekend = value!(weekend_of(asked.option("--weekend")));
     let mut holidays = Holidays {
         weekend,
-        rules: rules_named(asked.option("--calendar").text),
+        rules: asked.option("--calendar").text,
         listed: Vec::new(rt.alloc()),
         days: Vec::new(rt.alloc()),
         years: None,
@@ -99,8 +97,5 @@ pub(crate) fn open_file<'a>(rt: &HostRuntime, word: Word<'a>) -> Result<File, Fa
     if word.text.is_empty() {
         return Err(Fault::expected(word, "the name of a file"));
     }
-    match fs::open(rt, word.text) {
-        Ok(file) => Ok(file),
-        Err(error) => Err(Fault::Input(word, error)),
-    }
+    Ok(value!(fs::open(rt, word.text), error => Fault::Input(word, error)))
 }

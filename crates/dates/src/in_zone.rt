@@ -3,21 +3,17 @@
 use crate::prelude::*;
 
 const FROM_ZONE: Opt = option!(
-    "--from-zone",
-    "ZONE",
+    "--from-zone", "ZONE";
     "whose local time a date-time without offset is\n(default: that of the first ZONE)"
 );
 
 pub(crate) fn command() -> CommandRow {
-    CommandRow {
-        name: "in",
-        operands: &[ZONE, operand!("TIME")],
-        options: &[FROM_ZONE, UNIX, JSON, HELP],
+    row!(
+        "in", &[ZONE, operand!("TIME")], &[FROM_ZONE, UNIX, JSON, HELP];
         help: "print what a time zone's clock shows",
         more: ZONES,
-        example: "$ dates in America/New_York 2024-02-29T12:00Z\n\
-            2024-02-29T07:00:00-05:00 EST",
-    }
+        example: "$ dates in America/New_York 2024-02-29T12:00Z\n2024-02-29T07:00:00-05:00 EST"
+    )
 }
 
 // What the zone's clock shows at the instant, or at both where a local time is shown twice; the exit status.
@@ -29,7 +25,7 @@ pub(crate) fn answer<'a>(rt: &HostRuntime, asked: &mut Asked<'a>) -> Answered<'a
     match instants_of(from.as_ref().unwrap_or(&zone), start) {
         MappedLocalTime::None => {
             let (form, none) = (asked.form, asked.none);
-            Ok(print_nowhere(rt, form, none, ALONE, &start, "", Nowhere::Never)?)
+            Ok(print_nowhere(rt, form, none, ALONE, &start, "", Cause::Never)?)
         }
         MappedLocalTime::Single(only) => print_in(rt, asked, &zone, only),
         MappedLocalTime::Ambiguous(earlier, later) => {

@@ -3,15 +3,12 @@
 use crate::prelude::*;
 
 pub(crate) fn command() -> CommandRow {
-    CommandRow {
-        name: "leap",
-        operands: &[YEAR],
-        options: PLAIN,
+    row!(
+        "leap", &[YEAR], PLAIN;
         help: "print whether a year is a leap year",
         more: "It prints yes or no.",
-        example: "$ dates leap 2100\n\
-            no",
-    }
+        example: "$ dates leap 2100\nno"
+    )
 }
 
 // `yes` where the year is a leap year, and else `no`; the exit status.

@@ -1,7 +1,7 @@
 //! Lines of input, of each of which only so many bytes are kept, and commands that take each of them.
 
 use crate::prelude::*;
-use std::io::{BufRead, BufReader, Read};
+use std::io::{BufRead, Read};
 
 /// So many bytes of a line are kept; no text of as many names a day or a date-time.
 const MOST_BYTES: usize = 65_536;
@@ -50,26 +50,8 @@ pub(crate) fn take_lines<'a>(
     Ok(status)
 }
 
-// Takes each line of the input; the greatest exit status.
-pub(crate) fn take_input<'a>(rt: &HostRuntime, command: &mut impl EachLine) -> Answered<'a> {
-    take_lines(rt, INPUT, rt.reader(), command)
-}
-
 /// In place of a line's number, where the words ask for one answer alone.
 pub(crate) const ALONE: u64 = 0;
-
-/// Why a move leads nowhere.
-#[derive(Clone, Copy)]
-pub(crate) enum Nowhere {
-    /// It leads out of the calendar.
-    Past,
-    /// It leads to a local time that the zone's clock shows twice, or never.
-    NotOnce,
-    /// It leads to a local time that the zone's clock never shows.
-    Never,
-    /// Its months by `m`, so written, were meant for minutes.
-    Months,
-}
 
 // Prints that there is no answer, since a move from there leads nowhere; the exit status.
 pub(crate) fn print_nowhere(
@@ -79,7 +61,7 @@ pub(crate) fn print_nowhere(
     number: u64,
     from: &Start,
     by: &str,
-    why: Nowhere,
+    why: Cause<'_>,
 ) -> io::Result<u8> {
     let status = print_reply(rt, form, none)?;
     let mut text = String::new(rt.alloc());
@@ -92,17 +74,9 @@ pub(crate) fn print_nowhere(
     text.push_str(gap_before(by))?;
     text.push_str(by)?;
     text.push_str(": ")?;
-    match why {
-        Nowhere::Past => text.push_str("past the calendar's end")?,
-        Nowhere::NotOnce => text.push_str(NOT_ONCE)?,
-        Nowhere::Never => text.push_str("the zone's clock never shows it")?,
-        Nowhere::Months => put_cause(&mut text, Cause::Months(by))?,
-    }
+    put_cause(&mut text, why)?;
     Ok(tell(rt, text.as_str(), status))
 }
-
-/// That a zone's clock shows no single instant.
-pub(crate) const NOT_ONCE: &str = "a local time that the zone's clock shows twice, or never";
 
 /// Why a line names no day; `Form` is that it is not written as one, and `Mark` a byte order mark.
 #[derive(Clone, Copy)]

@@ -1,12 +1,15 @@
 //! `dates` prints what a person at a terminal asks of dates. `table.rt` has its commands.
 #![tactic(auto)]
 
-// The value of a result; its fault is returned.
+// The value of a result; its fault, or the fault by its error, is returned.
 macro_rules! value {
     ($read:expr) => {
+        value!($read, fault => fault)
+    };
+    ($read:expr, $error:ident => $fault:expr) => {
         match $read {
             Ok(value) => value,
-            Err(fault) => return Err(fault),
+            Err($error) => return Err($fault),
         }
     };
 }
@@ -21,6 +24,13 @@ macro_rules! given {
     };
 }
 
+// The row of a command: its name, its operands and its options, and what help says of it.
+macro_rules! row {
+    ($name:expr, $operands:expr, $options:expr; $($field:ident: $text:expr),*) => {
+        CommandRow { name: $name, operands: $operands, options: $options, $($field: $text),* }
+    };
+}
+
 // A flag.
 macro_rules! flag {
     ($name:expr, $help:expr) => {
@@ -28,17 +38,17 @@ macro_rules! flag {
     };
 }
 
-// An option that takes any value.
+// An option with its value and its help, and what it has beside them.
 macro_rules! option {
-    ($name:expr, $value:expr, $help:expr) => {
-        Opt { name: $name, value: $value, help: $help, ..OPTION }
+    ($name:expr, $value:expr; $help:expr $(, $field:ident: $has:expr)*) => {
+        Opt { name: $name, value: $value, help: $help, $($field: $has,)* ..OPTION }
     };
 }
 
-// An operand that has to be there.
+// An operand that has to be there, if nothing else is said of it.
 macro_rules! operand {
-    ($name:expr) => {
-        Operand { name: $name, ..OPERAND }
+    ($name:expr $(; $($field:ident: $has:expr),*)?) => {
+        Operand { name: $name, $($($field: $has,)*)? ..OPERAND }
     };
 }
 
@@ -73,7 +83,6 @@ mod zoned;
 
 use prelude::*;
 use std::env;
-use std::io::ErrorKind;
 use std::process::ExitCode;
 
 fn main(rt: HostRuntime) -> ExitCode {

@@ -7,36 +7,28 @@ use std::time::SystemTime;
 const TODAY: &str = "today";
 
 pub(crate) fn now() -> CommandRow {
-    CommandRow {
-        name: "now",
-        operands: &[],
-        options: &[IN_ZONE, UNIX, JSON, HELP],
+    row!(
+        "now", &[], &[IN_ZONE, UNIX, JSON, HELP];
         help: "print what time it is, to the second",
         more: ZONES,
-        example: "$ dates now --zone UTC | cut -c 20-\n\
-            +00:00",
-    }
+        example: "$ dates now --zone UTC | cut -c 20-\n+00:00"
+    )
 }
 
 pub(crate) fn today() -> CommandRow {
     CommandRow {
         name: TODAY,
-        operands: &[],
         options: &[IN_ZONE, JSON, HELP],
         help: "print what day it is",
-        more: ZONES,
-        example: "$ dates today --zone Asia/Tokyo | wc -c\n\
-            11",
+        example: "$ dates today --zone Asia/Tokyo | wc -c\n11",
+        ..now()
     }
 }
 
 // The day, or the second, that the zone's clock shows now; the exit status.
 pub(crate) fn answer<'a>(rt: &HostRuntime, asked: &mut Asked<'a>) -> Answered<'a> {
     let zone = value!(zone_of(rt, asked.option("--zone")));
-    let shown = match second_of(SystemTime::now(rt)?) {
-        Some(stamp) => shown_in(&zone, stamp),
-        None => None,
-    };
+    let shown = shown_in(&zone, second_of(SystemTime::now(rt)?));
     let instants = InstantForm::of(&asked.words);
     match shown {
         Some(stamp) if asked.command.name == TODAY => {

@@ -1,56 +1,73 @@
 //! Whether a day is open.
 
 use crate::prelude::*;
+use chrono_business::Roll;
 
 pub(crate) fn command() -> CommandRow {
-    CommandRow {
-        name: "open",
-        operands: &[DAY_OR_LINES],
-        options: OPEN_DAYS,
+    row!(
+        "open", &[DAY_OR_LINES], OPEN_DAYS;
         help: "print whether a day is open",
         more: "It prints yes where the day is neither on the weekend nor a holiday, and else\n\
             no. With - in place of the day, or none, it answers each line of standard input.",
-        example: "$ dates open 2024-03-29 --calendar england\n\
-            no",
-    }
+        example: "$ dates open 2024-03-29 --calendar england\nno"
+    )
 }
 
-// That there is no answer.
-const NONE: Reply = Reply::Nothing(Key::Open);
-
-// Whether days are open, by these holidays.
+// Whether days are open by these holidays, or where they go by a convention.
 #[derive(Drop)]
-struct Open {
+struct Days<'a> {
     form: OutputForm,
-    holidays: Holidays,
+    none: Reply,
+    roll: Option<Roll>,
+    holidays: Holidays<'a>,
 }
 
 // Whether the day, or that of each line, is open; the exit status.
 pub(crate) fn answer<'a>(rt: &HostRuntime, asked: &mut Asked<'a>) -> Answered<'a> {
-    asked.none = NONE;
+    asked.none = Reply::Nothing(Key::Open);
     let date = given!(asked.word_or_lines(), word, day_of(word));
-    let (form, holidays) = (asked.form, value!(holidays_of(rt, asked)));
-    let mut open = Open { form, holidays };
+    answer_days(rt, asked, date, None)
+}
+
+// Whether the day, or that of each line, is open, or where it goes by a convention; the exit status.
+pub(crate) fn answer_days<'a>(
+    rt: &HostRuntime,
+    asked: &Asked<'a>,
+    date: Option<NaiveDate>,
+    roll: Option<Roll>,
+) -> Answered<'a> {
+    let mut days = Days {
+        form: asked.form,
+        none: asked.none,
+        roll,
+        holidays: value!(holidays_of(rt, asked)),
+    };
     match date {
-        Some(date) => Ok(open.answer_day(rt, date)?),
-        None => take_input(rt, &mut open),
+        Some(date) => Ok(days.answer_day(rt, ALONE, date)?),
+        None => take_lines(rt, INPUT, rt.reader(), &mut days),
     }
 }
 
-impl Open {
-    // `yes` where the day is open, and else `no`; the exit status.
-    fn answer_day(&mut self, rt: &HostRuntime, date: NaiveDate) -> io::Result<u8> {
+impl Days<'_> {
+    // The day that a day rolls to, or `none` past the calendar's end; without a convention whether it is open. The exit status.
+    fn answer_day(&mut self, rt: &HostRuntime, number: u64, date: NaiveDate) -> io::Result<u8> {
+        let (form, none) = (self.form, self.none);
         let calendar = self.holidays.calendar(years_of(date, date))?;
-        let open = Reply::Whether(Key::Open, calendar.is_open(date));
-        print_reply(rt, self.form, open)
+        let Some(roll) = self.roll else {
+            return print_reply(rt, form, Reply::Whether(Key::Open, calendar.is_open(date)));
+        };
+        match calendar.roll(date, roll) {
+            Some(day) => print_reply(rt, form, Reply::Date(day)),
+            None => print_nowhere(rt, form, none, number, &Start::Day(date), "", Cause::Past),
+        }
     }
 }
 
-impl EachLine for Open {
-    fn take_line(&mut self, rt: &HostRuntime, _number: u64, line: &[u8]) -> io::Result<u8> {
+impl EachLine for Days<'_> {
+    fn take_line(&mut self, rt: &HostRuntime, number: u64, line: &[u8]) -> io::Result<u8> {
         match read_day(line) {
-            Ok(date) => self.answer_day(rt, date),
-            Err(_) => print_reply(rt, self.form, NONE),
+            Ok(date) => self.answer_day(rt, number, date),
+            Err(_) => print_reply(rt, self.form, self.none),
         }
     }
 }

@@ -15,7 +15,10 @@ pub(crate) use chrono_datetime::{
 };
 pub(crate) use chrono_reading::{ReadCause, ReadError};
 pub(crate) use chrono_zoned::{DateTime, FixedOffset, InZone, MappedLocalTime, Timestamp};
-pub(crate) use command_words::{CommandRow, OPERAND, OPTION, Operand, Opt, Put, Word, put};
+pub(crate) use command_words::{
+    Arguments, CommandRow, OPERAND, OPTION, Operand, Opt, Put, Word, put,
+};
 pub(crate) use dates_answer::{Key, OutputForm, Quoted, Reply, Span, Unit};
-pub(crate) use std::alloc::{AllocError, Global};
-pub(crate) use std::{fmt, io};
+pub(crate) use std::alloc::{AllocError, Allocator, Global};
+pub(crate) use std::fmt;
+pub(crate) use std::io::{self, BufReader, ErrorKind};

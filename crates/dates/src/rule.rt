@@ -3,31 +3,18 @@
 use crate::prelude::*;
 use chrono_rules::{Rule, read_rule};
 
-const START: Opt = Opt {
-    name: "--start",
-    value: "DAY",
-    required: true,
-    help: "from which day on it recurs",
-    ..OPTION
-};
+const START: Opt = option!("--start", "DAY"; "from which day on it recurs", required: true);
 
-const FROM: Opt = option!(
-    "--from",
-    "DAY",
-    "from which day on they are wanted\n(default: that of --start)"
-);
+const FROM: Opt =
+    option!("--from", "DAY"; "from which day on they are wanted\n(default: that of --start)");
 
 const HOW_MANY: Opt = option!(
-    "--count",
-    "N",
-    "how many at most\n(default: all, to the end of the rule or the calendar)"
+    "--count", "N"; "how many at most\n(default: all, to the end of the rule or the calendar)"
 );
 
 pub(crate) fn command() -> CommandRow {
-    CommandRow {
-        name: "rule",
-        operands: &[operand!("RRULE")],
-        options: &[START, FROM, HOW_MANY, JSON, HELP],
+    row!(
+        "rule", &[operand!("RRULE")], &[START, FROM, HOW_MANY, JSON, HELP];
         help: "print the instances of a recurrence rule",
         more: "An RRULE is written as RFC 5545 writes it, in parts with ; between them:\n\
             FREQ=WEEKLY;INTERVAL=2;BYDAY=TU;COUNT=5        every other Tuesday, five times\n\
@@ -36,22 +23,16 @@ pub(crate) fn command() -> CommandRow {
             FREQ=MONTHLY;BYDAY=MO,TU,WE,TH,FR;BYSETPOS=-1  months' last workdays, Mon-Fri",
         example: "$ dates rule 'FREQ=MONTHLY;BYDAY=-1FR' --start 2024-01-01 --count 2\n\
             2024-01-26\n\
-            2024-02-23",
-    }
+            2024-02-23"
+    )
 }
 
 // The instances of the rule, a line each; `none` where there is none. The exit status.
 pub(crate) fn answer<'a>(rt: &HostRuntime, asked: &mut Asked<'a>) -> Answered<'a> {
     let rule = value!(rule_of(asked.word(0)));
     let start = value!(day_of(asked.option("--start")));
-    let from = match asked.value("--from") {
-        Some(word) => value!(day_of(word)),
-        None => start,
-    };
-    let most = match asked.value("--count") {
-        Some(word) => value!(amount_of(word)),
-        None => u64::MAX,
-    };
+    let from = given!(asked.value("--from"), word, day_of(word)).unwrap_or(start);
+    let most = given!(asked.value("--count"), word, amount_of(word)).unwrap_or(u64::MAX);
     let mut status = NONE;
     for day in rule.instances_from(start, from).take(most as usize) {
         status = value!(asked.print(rt, Reply::Date(day)));
@@ -61,8 +42,5 @@ pub(crate) fn answer<'a>(rt: &HostRuntime, asked: &mut Asked<'a>) -> Answered<'a
 
 // The rule that a word writes.
 fn rule_of<'a>(word: Word<'a>) -> Result<Rule, Fault<'a>> {
-    match read_rule(word.text.as_bytes()) {
-        Ok(rule) => Ok(rule),
-        Err(error) => Err(Fault::Word(word, Cause::Rule(error))),
-    }
+    Ok(value!(read_rule(word.text.as_bytes()), error => Fault::Word(word, Cause::Rule(error))))
 }

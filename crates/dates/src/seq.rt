@@ -3,37 +3,24 @@
 use crate::prelude::*;
 use dates_answer::sequence_day;
 
-const SPAN: Operand = Operand {
-    name: "SPAN",
-    required: false,
-    ..OPERAND
-};
-
 pub(crate) fn command() -> CommandRow {
-    CommandRow {
-        name: "seq",
-        operands: &[DAY, DAY, SPAN],
-        options: PLAIN,
+    row!(
+        "seq", &[DAY, DAY, operand!("SPAN"; required: false)], PLAIN;
         help: "print the days from one to another",
         more: "Each is the first day moved by no span, by one, by two and so on, as long as\n\
             that is not past the second day. With no SPAN it goes day by day, also back.\n\
             A SPAN is a whole number of d, w, m or y, as 2w, or -1w to go back; none of b\n\
             or h.",
-        example: "$ dates seq 2024-01-31 2024-04-01 1m\n\
-            2024-01-31\n\
-            2024-02-29\n\
-            2024-03-31",
-    }
+        example: "$ dates seq 2024-01-31 2024-04-01 1m\n2024-01-31\n2024-02-29\n2024-03-31"
+    )
 }
 
 // The days of the sequence as long as they are not past its end; `none` where the first day is past it. The exit status.
 pub(crate) fn answer<'a>(rt: &HostRuntime, asked: &mut Asked<'a>) -> Answered<'a> {
     let from = value!(day_of(asked.word(0)));
     let to = value!(day_of(asked.word(1)));
-    let step = match asked.words.operand(2) {
-        Some(word) => value!(step_of(word)),
-        None => day_by_day(from, to),
-    };
+    let step = given!(asked.words.operand(2), word, step_of(word));
+    let step = step.unwrap_or(day_by_day(from, to));
     let mut status = NONE;
     for place in 0..u32::MAX {
         match sequence_day(from, to, step, place) {

@@ -1,7 +1,7 @@
 //! The commands of `dates`: a row each. Help, the man page, completion and messages come from these rows.
 
 use crate::prelude::*;
-use command_words::{Arguments, Program, put_command_help, put_program_help, read_words};
+use command_words::{Program, put_command_help, put_program_help, read_words};
 
 // The rows: the module of each command and its function there, in the order in which the help lists them.
 macro_rules! each_command {
@@ -136,11 +136,8 @@ fn answer_command(rt: &HostRuntime, command: CommandRow, words: &[Word<'_>]) -> 
     let words = match read_words(rt.alloc(), command.options, words)? {
         Ok(words) => words,
         Err(wrong) => {
-            let fault = match wrong_first(&command, words.first().copied()) {
-                Some(fault) => fault,
-                None => fault_of(wrong),
-            };
-            return refuse(rt, &command, form, none, fault);
+            let first = wrong_first(&command, words.first().copied());
+            return refuse(rt, &command, form, none, first.unwrap_or(fault_of(wrong)));
         }
     };
     if words.has("--help") {
@@ -189,10 +186,7 @@ fn wrong_count<'a>(asked: &Asked<'a>) -> Option<Fault<'a>> {
         return Some(Fault::Missing(option.name, option.value));
     }
     let extra = words.extra_operand(command)?;
-    match wrong_first(command, words.operand(0)) {
-        Some(fault) => Some(fault),
-        None => Some(Fault::expected(extra, NO_MORE)),
-    }
+    wrong_first(command, words.operand(0)).or(Some(Fault::expected(extra, NO_MORE)))
 }
 
 /// What is expected in place of an operand that is one too many.

@@ -48,10 +48,7 @@ impl Start {
 
     // Whether it has an offset.
     pub(crate) fn has_offset(&self) -> bool {
-        match self {
-            Start::Stamp(_) => true,
-            _ => false,
-        }
+        matches!(self, Start::Stamp(_))
     }
 
     // What is written in the same way of another date-time: of a day its date alone, of an instant with the same offset.
@@ -97,10 +94,8 @@ pub(crate) fn read_moment(text: &[u8]) -> Result<Start, ReadError> {
 pub(crate) fn read_instant(text: &[u8]) -> Result<Start, ReadError> {
     if let Some(seconds) = read_number(text) {
         let cause = ReadCause::DateOutOfRange;
-        return match instant_at(seconds) {
-            Some(stamp) => Ok(Start::Stamp(stamp)),
-            None => Err(ReadError { cause, byte: 0 }),
-        };
+        let stamp = instant_at(seconds).ok_or(ReadError { cause, byte: 0 })?;
+        return Ok(Start::Stamp(stamp));
     }
     match read_start(text)? {
         start @ Start::Stamp(_) => Ok(start),
@@ -156,10 +151,7 @@ fn stamp_at(day: &[u8], time: &[u8]) -> Result<Start, ReadError> {
     text.push_text(day);
     text.push(b'T');
     text.push_text(time);
-    match parse_from_iso8601(text.as_bytes()) {
-        Ok(stamp) => Ok(Start::Stamp(stamp)),
-        Err(error) => Err(error),
-    }
+    Ok(Start::Stamp(parse_from_iso8601(text.as_bytes())?))
 }
 
 // That a text has no form, as that byte shows.
@@ -172,30 +164,24 @@ fn no_form(byte: usize) -> ReadError {
 const LONGEST: usize = 22;
 
 // A text with this end, if it is no longer than a name of a day.
-fn joined(front: &[u8], end: &[u8]) -> Option<Text<LONGEST>> {
+fn joined(front: &[u8], end: &[u8]) -> Result<Text<LONGEST>, ReadError> {
     if front.len() > LONGEST || end.len() > LONGEST - front.len() {
-        return None;
+        return Err(no_form(0));
     }
     let mut name = Text::new();
     name.push_text(front);
     name.push_text(end);
-    Some(name)
+    Ok(name)
 }
 
 // The first day of the month that a text names, as `2024-02`.
 pub(crate) fn read_month(text: &[u8]) -> Result<NaiveDate, ReadError> {
-    match joined(text, b"-01") {
-        Some(name) => read_date(name.as_bytes()),
-        None => Err(no_form(0)),
-    }
+    read_date(joined(text, b"-01")?.as_bytes())
 }
 
 // The Monday of the week that a text names, as `2024-W09`.
 pub(crate) fn read_week(text: &[u8]) -> Result<NaiveDate, ReadError> {
-    match joined(text, b"-1") {
-        Some(name) => read_week_date(name.as_bytes()),
-        None => Err(no_form(0)),
-    }
+    read_week_date(joined(text, b"-1")?.as_bytes())
 }
 
 /// By what a day or a date-time is moved, back where the number is below 0.

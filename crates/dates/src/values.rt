@@ -2,7 +2,6 @@
 
 use crate::prelude::*;
 use chrono_text::{read_decimal, read_year};
-use command_words::Arguments;
 
 /// What is expected in place of a day.
 pub(crate) const DAYS: &str = "a day as 2024-02-29, 2024-060 or 2024-W09-4";
@@ -92,10 +91,7 @@ pub(crate) fn start_as<'a>(
     word: Word<'a>,
     what: &'static str,
 ) -> Result<Start, Fault<'a>> {
-    match form.read(word.text.as_bytes()) {
-        Ok(start) => Ok(start),
-        Err(error) => Err(unread(word, error, what)),
-    }
+    Ok(value!(form.read(word.text.as_bytes()), error => unread(word, error, what)))
 }
 
 // The day, the date-time or the instant that a word names.
@@ -117,21 +113,16 @@ pub(crate) fn day_of<'a>(word: Word<'a>) -> Result<NaiveDate, Fault<'a>> {
 
 // The date-time or the instant that a word names.
 pub(crate) fn moment_of<'a>(form: InstantForm, word: Word<'a>) -> Result<Start, Fault<'a>> {
-    match form {
-        InstantForm::Text => match read_moment(word.text.as_bytes()) {
-            Ok(moment) => Ok(moment),
-            Err(error) => Err(unread(word, error, MOMENTS)),
-        },
-        InstantForm::Seconds => start_of(form, word),
+    if let InstantForm::Seconds = form {
+        return start_of(form, word);
     }
+    Ok(value!(read_moment(word.text.as_bytes()), error => unread(word, error, MOMENTS)))
 }
 
 // The Monday of the week that a word names.
 pub(crate) fn week_of<'a>(word: Word<'a>) -> Result<NaiveDate, Fault<'a>> {
-    match read_week(word.text.as_bytes()) {
-        Ok(monday) => Ok(monday),
-        Err(error) => Err(unread(word, error, "a week as 2024-W09")),
-    }
+    let week = read_week(word.text.as_bytes());
+    Ok(value!(week, error => unread(word, error, "a week as 2024-W09")))
 }
 
 // The year that a word writes.

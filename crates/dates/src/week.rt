@@ -3,15 +3,12 @@
 use crate::prelude::*;
 
 pub(crate) fn command() -> CommandRow {
-    CommandRow {
-        name: "week",
-        operands: &[operand!("WEEK")],
-        options: PLAIN,
+    row!(
+        "week", &[operand!("WEEK")], PLAIN;
         help: "print the first and the last day of a week",
         more: "A WEEK is an ISO week, from Monday on, as 2024-W09.",
-        example: "$ dates week 2024-W09\n\
-            2024-02-26 2024-03-03",
-    }
+        example: "$ dates week 2024-W09\n2024-02-26 2024-03-03"
+    )
 }
 
 // The Monday and the Sunday of the week; the exit status.
@@ -22,7 +19,7 @@ pub(crate) fn answer<'a>(rt: &HostRuntime, asked: &mut Asked<'a>) -> Answered<'a
         Some(last) => asked.print(rt, Reply::Week(first, last)),
         None => {
             let (form, none, from) = (asked.form, Reply::NoWeek(Some(first)), Start::Day(first));
-            Ok(print_nowhere(rt, form, none, ALONE, &from, "6d", Nowhere::Past)?)
+            Ok(print_nowhere(rt, form, none, ALONE, &from, "6d", Cause::Past)?)
         }
     }
 }

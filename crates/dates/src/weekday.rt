@@ -3,15 +3,12 @@
 use crate::prelude::*;
 
 pub(crate) fn command() -> CommandRow {
-    CommandRow {
-        name: "weekday",
-        operands: &[DAY],
-        options: PLAIN,
+    row!(
+        "weekday", &[DAY], PLAIN;
         help: "print the weekday of a day",
         more: "",
-        example: "$ dates weekday 2024-02-29\n\
-            Thursday",
-    }
+        example: "$ dates weekday 2024-02-29\nThursday"
+    )
 }
 
 // The weekday of the day; the exit status.

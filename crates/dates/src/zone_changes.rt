@@ -1,25 +1,19 @@
 //! When a time zone's clock is set.
 
 use crate::prelude::*;
-use std::alloc::Allocator;
 
-const OF_YEAR: Opt = option!(
-    "--year",
-    "YEAR",
-    "of which year (default: all, and the rule behind them)"
-);
+const OF_YEAR: Opt =
+    option!("--year", "YEAR"; "of which year (default: all, and the rule behind them)");
 
 pub(crate) fn command() -> CommandRow {
-    CommandRow {
-        name: "zone",
-        operands: &[ZONE],
-        options: &[OF_YEAR, JSON, HELP],
+    row!(
+        "zone", &[ZONE], &[OF_YEAR, JSON, HELP];
         help: "print when a time zone's clock is set",
         more: ZONES,
         example: "$ dates zone Europe/Berlin --year 2024\n\
             2024-03-31T03:00:00+02:00 CEST\n\
-            2024-10-27T02:00:00+01:00 CET",
-    }
+            2024-10-27T02:00:00+01:00 CET"
+    )
 }
 
 // What the clock shows whenever it is set, a line each, and its rule behind them; the exit status.
@@ -27,22 +21,12 @@ pub(crate) fn answer<'a>(rt: &HostRuntime, asked: &mut Asked<'a>) -> Answered<'a
     asked.none = Reply::Nothing(Key::Moment);
     let year = given!(asked.value("--year"), word, year_of(word));
     let zone = value!(zone_of(rt, asked.word(0)));
-    print_zone(rt, asked, &zone, year)
-}
-
-// Prints when a zone's clock is set, in a year or in all, and its rule; the exit status.
-fn print_zone<'a>(
-    rt: &HostRuntime,
-    asked: &Asked<'a>,
-    zone: &OwnedZone,
-    year: Option<i32>,
-) -> Answered<'a> {
     let mut status = NONE;
     for row in zone.rows() {
-        status = status.min(value!(print_set(rt, asked, zone, row.second, year)));
+        status = status.min(value!(print_set(rt, asked, &zone, row.second, year)));
     }
     status = status.min(match year {
-        Some(year) => value!(print_by_rule(rt, asked, zone, year)),
+        Some(year) => value!(print_by_rule(rt, asked, &zone, year)),
         None => print_rule(rt, asked.form, zone.rule_text())?,
     });
     asked.finish(rt, status)
@@ -53,7 +37,10 @@ fn print_rule(rt: &HostRuntime, form: OutputForm, rule: &str) -> io::Result<u8> 
     if rule.is_empty() {
         return Ok(NONE);
     }
-    println!(rt; "{}", RuleLine { form, rule })?;
+    match form {
+        OutputForm::Text => println!(rt; "{rule}")?,
+        OutputForm::Json => println!(rt; "{{\"rule\":{}}}", Quoted { text: rule })?,
+    }
     Ok(ANSWERED)
 }
 
@@ -65,15 +52,12 @@ fn print_set<'a>(
     second: i64,
     year: Option<i32>,
 ) -> Answered<'a> {
-    let Some(stamp) = instant_at(second) else {
-        return Ok(NONE);
-    };
-    let Some(shown) = shown_in(zone, stamp) else {
+    let Some(shown) = shown_in(zone, instant_at(second)) else {
         return Ok(NONE);
     };
     match year {
         Some(year) if shown.naive_local().date().year() != year => Ok(NONE),
-        _ => print_in(rt, asked, zone, stamp),
+        _ => print_in(rt, asked, zone, shown),
     }
 }
 
@@ -88,10 +72,7 @@ fn print_by_rule<'a>(
     let Some((begins, ends)) = rule_changes(zone, year) else {
         return Ok(status);
     };
-    let last = match zone.rows().last() {
-        Some(row) => row.second,
-        None => i64::MIN,
-    };
+    let last = zone.rows().last().map_or(i64::MIN, |row| row.second);
     for second in [begins.min(ends), begins.max(ends)] {
         if last < second {
             status = status.min(value!(print_set(rt, asked, zone, second, Some(year))));
@@ -103,20 +84,4 @@ fn print_by_rule<'a>(
 // When the rule sets the clock in a year, ahead and back.
 fn rule_changes<A: Allocator>(zone: &zone_database::OwnedZone<A>, year: i32) -> Option<(i64, i64)> {
     zone.rule()?.changes_in(year)
-}
-
-/// A line of the rule by which a zone's clock is set in the years to come.
-#[derive(Clone, Copy)]
-pub struct RuleLine<'a> {
-    pub form: OutputForm,
-    pub rule: &'a str,
-}
-
-impl fmt::Display for RuleLine<'_> {
-    fn fmt<W: fmt::Write>(&self, f: &mut fmt::Formatter<W>) -> fmt::Result {
-        match self.form {
-            OutputForm::Text => f.write_str(self.rule),
-            OutputForm::Json => write!(f, "{{\"rule\":{}}}", Quoted { text: self.rule }),
-        }
-    }
 }

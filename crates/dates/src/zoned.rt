@@ -10,20 +10,12 @@ pub(crate) type OwnedZone = zone_database::OwnedZone<Global>;
 pub(crate) const ZONE: Operand = operand!("ZONE");
 
 /// `--zone`.
-pub(crate) const IN_ZONE: Opt = Opt {
-    name: "--zone",
-    value: "ZONE",
-    default: LOCAL,
-    help: "in which time zone (default: local)",
-    ..OPTION
-};
+pub(crate) const IN_ZONE: Opt =
+    option!("--zone", "ZONE"; "in which time zone (default: local)", default: LOCAL);
 
 /// `--zone` of a command that moves date-times.
-pub(crate) const ZONED: Opt = Opt {
-    default: "",
-    help: "a date-time without offset is local time of this zone",
-    ..IN_ZONE
-};
+pub(crate) const ZONED: Opt =
+    option!("--zone", "ZONE"; "a date-time without offset is local time of this zone");
 
 /// What a zone is, as helps say it.
 pub(crate) const ZONES: &str =
@@ -35,10 +27,7 @@ const LOCAL: &str = "local";
 
 // The zone that a word names.
 pub(crate) fn zone_of<'a>(rt: &HostRuntime, word: Word<'a>) -> Result<OwnedZone, Fault<'a>> {
-    match read_zone(rt, word.text) {
-        Ok(zone) => Ok(zone),
-        Err(error) => Err(Fault::Word(word, Cause::Zone(error))),
-    }
+    Ok(value!(read_zone(rt, word.text), error => Fault::Word(word, Cause::Zone(error))))
 }
 
 // The zone of a name.
@@ -75,7 +64,7 @@ impl Instants {
             (Some(zone), Start::DateTime(_)) => {
                 Some(Start::Stamp(instants_of(zone, start).single()?))
             }
-            (Some(zone), Start::Stamp(stamp)) => Some(Start::Stamp(shown_in(zone, stamp)?)),
+            (Some(zone), Start::Stamp(stamp)) => Some(Start::Stamp(shown_in(zone, Some(stamp))?)),
             _ => Some(start),
         }
     }
@@ -137,13 +126,13 @@ pub(crate) fn instants_of(
     }
 }
 
-// What a zone's clock shows at an instant.
+// What a zone's clock shows at an instant, if there is one.
 pub(crate) fn shown_in(
     zone: &OwnedZone,
-    stamp: DateTime<FixedOffset>,
+    stamp: Option<DateTime<FixedOffset>>,
 ) -> Option<DateTime<FixedOffset>> {
     let lent = zone.zone();
-    Some(stamp.checked_with_timezone(&&lent)?.fixed_offset())
+    Some(stamp?.checked_with_timezone(&&lent)?.fixed_offset())
 }
 
 // Prints what a zone's clock shows at an instant, and the name of its time there; the exit status.
@@ -154,33 +143,19 @@ pub(crate) fn print_in<'a>(
     stamp: DateTime<FixedOffset>,
 ) -> Answered<'a> {
     let form = asked.form;
-    let Some(shown) = shown_in(zone, stamp) else {
+    let Some(shown) = shown_in(zone, Some(stamp)) else {
         let from = Start::Stamp(stamp);
-        return Ok(print_nowhere(rt, form, asked.none, ALONE, &from, "", Nowhere::Past)?);
+        return Ok(print_nowhere(rt, form, asked.none, ALONE, &from, "", Cause::Past)?);
     };
     let name = zone.abbreviation(stamp.timestamp()).unwrap_or("");
-    println!(rt; "{}", ZonedLine { form, shown, name })?;
-    Ok(ANSWERED)
-}
-
-/// A line of a date-time with its offset and the name of its zone's time.
-#[derive(Clone, Copy)]
-pub struct ZonedLine<'a> {
-    pub form: OutputForm,
-    pub shown: DateTime<FixedOffset>,
-    pub name: &'a str,
-}
-
-impl fmt::Display for ZonedLine<'_> {
-    fn fmt<W: fmt::Write>(&self, f: &mut fmt::Formatter<W>) -> fmt::Result {
-        let (shown, name) = (self.shown, self.name);
-        match self.form {
-            OutputForm::Text => write!(f, "{shown:?} {name}"),
-            OutputForm::Json => write!(
-                f,
+    match form {
+        OutputForm::Text => println!(rt; "{shown:?} {name}")?,
+        OutputForm::Json => {
+            println!(rt;
                 "{{\"moment\":\"{shown:?}\",\"name\":{}}}",
                 Quoted { text: name }
-            ),
+            )?;
         }
     }
+    Ok(ANSWERED)
 }
