@@ -47,7 +47,7 @@ COMMENTS = {".rt": r"//[^\n]*", ".rs": r"//[^\n]*", ".antt": r"--[^\n]*", ".c": 
 # Names that no source declares, by the reason.
 ABSENT = {
     "of Rust and its std": """From Display DoubleEndedIterator String Drop Eq FromIterator FromPrimitive FromStr Hash
-        IntoIterator Ok Option Result Some Sum TryFrom collect fmt::Write if match mod requires self str u8 unsafe unwrap""",
+        to_string IntoIterator Ok Option Result Some Sum TryFrom collect fmt::Write if match mod requires self str u8 unsafe unwrap""",
     "of the kit: its words, its tactics and its std": """IfSome_then SomeIff agree_below agree_below_at jiff_tz num_traits omega refl subst
         unfoldable view_is ensures """,
     "of Python": "OverflowError True TypeError ValueError datetime operator strftime timedelta __slots__ __getstate__",
