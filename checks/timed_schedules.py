@@ -19,19 +19,18 @@ import argparse
 import calendar
 import datetime
 import random
-import subprocess
-import sys
 import tempfile
 
 from outside import answers_in_parts, put_program
+from zoned_schedules import end
+
+from debian import restart_without  # noqa: E402
 
 try:
     from croniter import croniter
 except ImportError:
     croniter = None
 
-# The python that has Debian's packages.
-DEBIAN = "/usr/bin/python3"
 # The lines of one run.
 LINES = 1_000
 FIRST, LAST = (calendar.timegm((year, 1, 1, 0, 0, 0)) for year in (2000, 2030))
@@ -156,24 +155,17 @@ def main():
     parser.add_argument("--cases", type=int, default=5_000)
     parser.add_argument("--seed", type=int, default=1)
     options = parser.parse_args()
+    restart_without(croniter)
     if croniter is None:
-        if sys.executable == DEBIAN or subprocess.run([DEBIAN, "-c", "import croniter"], stderr=subprocess.DEVNULL).returncode:
-            print("not run: checks/timed_schedules.py, which needs python3-croniter")
-            return
-        sys.exit(subprocess.run([DEBIAN, *sys.argv]).returncode)
+        print("not run: checks/timed_schedules.py, which needs python3-croniter\n0 passed, 0 failed")
+        return
     rows = [*cases(options.cases, random.Random(options.seed)), *((f"{call} {FIRST} {text}", "none") for text in NEVER for call in ("next", "prev"))]
     with tempfile.TemporaryDirectory(prefix="timed_schedules-") as room:
         folder = put_program(room, "timed", ["chrono_datetime", "chrono_instant", "timed_cron"], PROGRAM)
         answers = [it.strip() for it in answers_in_parts(room, folder, [it for it, _ in rows], LINES)]
     wrong = differing(rows, answers)
-    for it in wrong[:20]:
-        print(f"FAILED: {it[:300]}")
-    changed = [(rows[0][0], f"{answers[0]} 0"), *rows[1:]]
-    if len(differing(changed, answers)) != len(wrong) + (answers[0] == rows[0][1]):
-        sys.exit("a changed answer is not found")
     print(f"{sum(a != b for (_, b), a in zip(rows, answers)) - len(wrong)} answers on a 29th of February that croniter passes over")
-    print(f"{len(rows) - len(wrong)} passed, {len(wrong)} failed")
-    sys.exit(bool(wrong))
+    end(rows, answers, find=differing)
 
 
 if __name__ == "__main__":

@@ -13,11 +13,18 @@ some hours by `is_instance` at each quarter of an hour. `rt try` runs a small pr
 import argparse
 import datetime
 import itertools
-import sys
 import tempfile
 import zoneinfo
 
 from outside import answers_in_parts, put_program
+from zoned_schedules import WALKS, end
+
+from debian import restart_without  # noqa: E402
+
+try:
+    import dateutil.rrule
+except ImportError:
+    dateutil = None
 
 # The lines of one run.
 LINES = 6
@@ -120,31 +127,7 @@ fn answer(rt: &HostRuntime, zone: &Zone, words: &str) -> io::Result<()> {
     let rule = ZonedRule::new(plan, zone, bound);
     print!(rt; "= ")?;
     match call {
-        "next" => {
-            let mut from = zone.timestamp_opt(start - 1, 999_999_999);
-            while let Some(instant) = from {
-                from = None;
-                if let Some(next) = rule.next_after(instant) {
-                    if next.timestamp() < end {
-                        print!(rt; "{} ", next.timestamp())?;
-                        from = Some(next);
-                    }
-                }
-            }
-        }
-        "prev" => {
-            let mut from = zone.timestamp_opt(end - 1, 1);
-            while let Some(instant) = from {
-                from = None;
-                if let Some(prev) = rule.prev_before(instant) {
-                    if start <= prev.timestamp() {
-                        print!(rt; "{} ", prev.timestamp())?;
-                        from = Some(prev);
-                    }
-                }
-            }
-        }
-        "set" => {
+WALKS        "set" => {
             // (the bound's number is the exception)
             let (Some(left_out), Some(beside)) = (zone.timestamp_opt(except, 0), zone.timestamp_opt(except + 600, 0)) else {
                 return println!(rt; "no instants");
@@ -200,7 +183,7 @@ fn answer(rt: &HostRuntime, zone: &Zone, words: &str) -> io::Result<()> {
     }
     println!(rt; "")
 }
-'''
+'''.replace("WALKS", WALKS.replace("PLAN", "rule"))
 
 
 def seconds_of(naive):
@@ -311,23 +294,18 @@ def line_of(call, low, high, start, bound, number, rule):
     return f"{call} {low} {high} {seconds_of(start)} {bound} {number} {parts} {rule[0]}"
 
 
-def differing(rows, answers):
-    return [f"{it}: {a}, not {b}" for (it, b), a in zip(rows, answers) if a != b]
-
-
 def main():
     parser = argparse.ArgumentParser(description=__doc__.partition("\n")[0])
     parser.add_argument("--zones", type=int, default=2)
     parser.add_argument("--years", type=int, default=1)
     options = parser.parse_args()
     zones = ZONES[:options.zones]
-    try:
-        import dateutil.rrule  # noqa: F401
-    except ImportError:
-        print("not run: checks/zoned_rules.py, which needs dateutil")
+    restart_without(dateutil)
+    if dateutil is None:
+        print("not run: checks/zoned_rules.py, which needs dateutil\n0 passed, 0 failed")
         return
     if not zoneinfo.available_timezones():
-        print("not run: checks/zoned_rules.py, which needs a database of time zones")
+        print("not run: checks/zoned_rules.py, which needs a database of time zones\n0 passed, 0 failed")
         return
     rows = [(f"{name} {it}", run) for name, first in zones for it, run in questions(name, first, options.years)]
     with tempfile.TemporaryDirectory(prefix="zoned_rules-") as room:
@@ -338,14 +316,7 @@ def main():
         asked = [pair for pair in zip(rows, answers) if pair[0][0].startswith(name)]
         calls = sum(len(run.split()) + 1 if " is " not in it else 12 for (it, run), _ in asked)
         print(f"{name}: {len(asked)} lines, {calls} questions, {sum(a != b for (_, b), a in asked)} lines answered otherwise")
-    wrong = differing(rows, answers)
-    for it in wrong[:20]:
-        print(f"FAILED: {it[:300]}")
-    changed = [(rows[0][0], f"{answers[0]} 0"), *rows[1:]]
-    if len(differing(changed, answers)) != len(wrong) + (answers[0] == rows[0][1]):
-        sys.exit("a changed answer is not found")
-    print(f"{len(rows) - len(wrong)} passed, {len(wrong)} failed")
-    sys.exit(bool(wrong))
+    end(rows, answers)
 
 
 if __name__ == "__main__":

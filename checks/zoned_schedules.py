@@ -70,6 +70,32 @@ for line in sys.stdin.read().splitlines():
     print(*(int(croniter(text, it).get_next(datetime.datetime).timestamp()) for it in starts))
 """
 POLICIES = [(gap, fold) for gap in ("skip", "after") for fold in ("earlier", "later", "both")]
+# How a program goes through the instants of `PLAN` from `start` to `end`, and back.
+WALKS = r'''        "next" => {
+            let mut from = zone.timestamp_opt(start - 1, 999_999_999);
+            while let Some(instant) = from {
+                from = None;
+                if let Some(next) = PLAN.next_after(instant) {
+                    if next.timestamp() < end {
+                        print!(rt; "{} ", next.timestamp())?;
+                        from = Some(next);
+                    }
+                }
+            }
+        }
+        "prev" => {
+            let mut from = zone.timestamp_opt(end - 1, 1);
+            while let Some(instant) = from {
+                from = None;
+                if let Some(prev) = PLAN.prev_before(instant) {
+                    if start <= prev.timestamp() {
+                        print!(rt; "{} ", prev.timestamp())?;
+                        from = Some(prev);
+                    }
+                }
+            }
+        }
+'''
 PROGRAM = r'''//! Answers questions on schedules in a zone, a line each.
 #![tactic(auto)]
 
@@ -118,31 +144,7 @@ fn answer(rt: &HostRuntime, zone: &Zone, words: &str) -> io::Result<()> {
     let zoned = ZonedSchedule::new(schedule, zone, policy);
     print!(rt; "= ")?;
     match call {
-        "next" => {
-            let mut from = zone.timestamp_opt(start - 1, 999_999_999);
-            while let Some(instant) = from {
-                from = None;
-                if let Some(next) = zoned.next_after(instant) {
-                    if next.timestamp() < end {
-                        print!(rt; "{} ", next.timestamp())?;
-                        from = Some(next);
-                    }
-                }
-            }
-        }
-        "prev" => {
-            let mut from = zone.timestamp_opt(end - 1, 1);
-            while let Some(instant) = from {
-                from = None;
-                if let Some(prev) = zoned.prev_before(instant) {
-                    if start <= prev.timestamp() {
-                        print!(rt; "{} ", prev.timestamp())?;
-                        from = Some(prev);
-                    }
-                }
-            }
-        }
-        "first" => {
+WALKS        "first" => {
             let mut second = start;
             while second < end {
                 if let Some(instant) = zone.timestamp_opt(second, 0) {
@@ -167,7 +169,7 @@ fn answer(rt: &HostRuntime, zone: &Zone, words: &str) -> io::Result<()> {
     }
     println!(rt; "")
 }
-'''
+'''.replace("WALKS", WALKS.replace("PLAN", "zoned"))
 
 
 def numbers_of(field, low, high):
@@ -293,6 +295,19 @@ def differing(rows, answers):
     return [f"{it}: {a}, not {b}" for (it, b), a in zip(rows, answers) if a != b]
 
 
+def end(rows, answers, compared=0, others=(), find=differing):
+    """Prints what differs and what others found, once a row with another answer is found, and ends. `compared` counts what others compared."""
+    own = find(rows, answers)
+    wrong = [*own, *others]
+    for it in wrong[:20]:
+        print(f"FAILED: {it[:300]}")
+    changed = [(rows[0][0], f"{answers[0]} 0"), *rows[1:]]
+    if len(find(changed, answers)) != len(own) + (answers[0] == rows[0][1]):
+        sys.exit("a changed answer is not found")
+    print(f"{len(rows) + compared - len(wrong)} passed, {len(wrong)} failed")
+    sys.exit(bool(wrong))
+
+
 def croniter_rows(changes, most):
     """Questions to which croniter answers too: the next instants after starts around the changes, about so many."""
     texts = [*SPARSE, *DENSE, EACH_MINUTE]
@@ -348,7 +363,7 @@ def main():
     parser.add_argument("--years", type=int)
     options = parser.parse_args()
     if not zoneinfo.available_timezones():
-        print("not run: checks/zoned_schedules.py, which needs a database of time zones")
+        print("not run: checks/zoned_schedules.py, which needs a database of time zones\n0 passed, 0 failed")
         return
     zones, rows, changes = ZONES[: options.zones], [], []
     for place, (name, years) in enumerate(zones):
@@ -364,14 +379,7 @@ def main():
         pairs = [pair for pair in zip(rows, answers) if pair[0][0].startswith(name)]
         print(f"{name}: {len(pairs)} lines, {sum(a != b for (_, b), a in pairs)} answered otherwise")
     compared, others = beside_croniter(beside, answers[len(rows) :])
-    wrong = differing(rows, answers) + others
-    for it in wrong[:20]:
-        print(f"FAILED: {it[:300]}")
-    changed = [(rows[0][0], f"{answers[0]} 0"), *rows[1:]]
-    if len(differing(changed, answers)) != len(differing(rows, answers)) + (answers[0] == rows[0][1]):
-        sys.exit("a changed answer is not found")
-    print(f"{len(rows) + compared - len(wrong)} passed, {len(wrong)} failed")
-    sys.exit(bool(wrong))
+    end(rows, answers, compared, others)
 
 
 if __name__ == "__main__":
