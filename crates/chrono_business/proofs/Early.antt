@@ -129,18 +129,10 @@ holiday_on_workday weekend (x ∷ xs) t h found =
 
 -- ---- a search through days that rise
 
-pub is_before-from : (x t : ℤ) → int_lt x t ≡ true → x <ℤ t
-is_before-from x t h =
-    by_lt_z x t (λ lt. lt) (λ ge. let no : int_lt x t ≡ false = grind (arith, signed) in absurd (false≢true (sym no ∙ h)))
-
-pub is_not_before-from : (x t : ℤ) → int_lt x t ≡ false → t ≤ℤ x
-is_not_before-from x t h =
-    by_lt_z x t (λ lt. let yes : int_lt x t ≡ true = grind (arith, signed) in absurd (false≢true (sym h ∙ yes))) (λ ge. ge)
-
 -- those that come before t stand in front
 pub before-in_front : (xs : List ℤ) (t : ℤ) → AreRising xs → IsPartitionedBy (λ h. int_lt h t) xs
 before-in_front xs t rising = λ i j d order within is.
     let low = in_order xs d j i rising (omega arith) within in
-    let before = is_before-from (slice_index_or xs j d) t is in
+    let before : slice_index_or xs j d <ℤ t = grind (arith, signed, is) in
     let lower : slice_index_or xs i d <ℤ t = omega (arith, signed, low, before) in
     grind (arith, signed)

@@ -1,19 +1,11 @@
 -- A number of up to eighteen digits is read in two pieces.
-use Rattle.std.proofs.Common.{◌≡◌, ℕ, ◌+◌, ◌-◌, ◌*◌, ◌^◌, ◌<◌, ◌≤◌, Bool, true, false, ◌&&◌, if◌then◌else◌, List, [], ◌∷◌, ◌++◌, drop, take, length, length-append, Option, None, Some, refl, ap, sym, ◌∙◌, arith}
-use Rattle.std.proofs.Math.Nat.{add-mul, mul_assoc}
+use Rattle.std.proofs.Common.{◌≡◌, ℕ, ◌+◌, ◌-◌, ◌*◌, ◌^◌, ◌<◌, ◌≤◌, Bool, true, false, ◌&&◌, if◌then◌else◌, List, [], ◌∷◌, ◌++◌, drop, take, length, Option, None, Some, refl, ap, sym, ◌∙◌, arith}
 use Rattle.std.proofs.lemmas.Bool.{le-leb, lt-leb}
 use Rattle.std.proofs.lemmas.List.{length-drop, length-take, take-append-drop}
-use Rattle.std.proofs.lemmas.Nat.{pow-add}
 use Rattle.std.specs.Char.{is_ascii_digit}
 use Rattle.std.specs.Str.{all_ascii_digits}
 use Rattle.chrono_text.specs.Numbers.{digits_of, natural_of, value_of}
-
-value_joined : (xs ys : List ℕ) → value_of (xs ++ ys) ≡ value_of xs * 10 ^ length ys + value_of ys
-value_joined [] ys = omega arith
-value_joined (x ∷ xs) ys =
-    let power : 10 ^ length (xs ++ ys) ≡ 10 ^ length xs * 10 ^ length ys = ap (λ n. 10 ^ n) (length-append xs ys) ∙ pow-add 10 (length xs) (length ys) in
-    let first : (x - 48) * 10 ^ length (xs ++ ys) ≡ (x - 48) * 10 ^ length xs * 10 ^ length ys = ap (λ p. (x - 48) * p) power ∙ sym (mul_assoc (x - 48) (10 ^ length xs) (10 ^ length ys)) in
-    omega (arith, first, value_joined xs ys, add-mul ((x - 48) * 10 ^ length xs) (value_of xs) (10 ^ length ys))
+use Rattle.chrono_text.proofs.DigitLemmas.{value_append}
 
 assoc_and : (a b c : Bool) → (a && (b && c)) ≡ ((a && b) && c)
 assoc_and true b c = refl
@@ -41,7 +33,7 @@ natural_joined [] ys some more = absurd (omega (arith, some))
 natural_joined (x ∷ xs) [] some more = absurd (omega (arith, more))
 natural_joined (x ∷ xs) (y ∷ ys) some more =
     ap (λ b. if b then Some (value_of ((x ∷ xs) ++ (y ∷ ys))) else None) (digits_joined (x ∷ xs) (y ∷ ys))
-    ∙ ap (λ v. if all_ascii_digits (x ∷ xs) && all_ascii_digits (y ∷ ys) then Some v else None) (value_joined (x ∷ xs) (y ∷ ys))
+    ∙ ap (λ v. if all_ascii_digits (x ∷ xs) && all_ascii_digits (y ∷ ys) then Some v else None) (value_append (x ∷ xs) (y ∷ ys))
     ∙ by_pieces (all_ascii_digits (x ∷ xs)) (all_ascii_digits (y ∷ ys)) (value_of (x ∷ xs)) (value_of (y ∷ ys)) (length (y ∷ ys))
 
 -- as many digits as may be

@@ -8,8 +8,9 @@ use Rattle.std.proofs.lemmas.Str.{digit_value_digit}
 use Rattle.std.proofs.lemmas.Str.Parse.{IsNumeralModel, digit_from_value, digits_value_short, numerals_by_value, numerals_by_weight, tells_digits, tells_all_ascii_digits, WeighsDigits}
 use Rattle.std.proofs.lemmas.Fmt.{decimal_digit, decimal_is_IsNumeral, decimal-digits_value, first_decimal, length-decimal-le}
 use Rattle.std.proofs.lemmas.Bool.{cases_lt}
-use Rattle.std.proofs.lemmas.Nat.{div-add-mod', div-mul-add, mod-mul-add, mul-add-lt, mod_below, div_below}
-use Rattle.std.proofs.Math.Nat.{pow-succ'}
+use Rattle.std.proofs.lemmas.List.{length-append}
+use Rattle.std.proofs.lemmas.Nat.{div-add-mod', div-mul-add, mod-mul-add, mul-add-lt, mod_below, div_below, pow-add}
+use Rattle.std.proofs.Math.Nat.{add-mul, mul_assoc, pow-succ'}
 use Rattle.chrono_text.specs.Text.{two_digits, all_digits}
 use Rattle.chrono_text.specs.Numbers.{value_of, natural_of}
 
@@ -28,6 +29,14 @@ valued = numerals_by_value _ tells_digits
 -- what digits are worth is what they write
 pub value_is : (ds : List ℕ) → AllDigits 10 ds → value_of ds ≡ digits_value 10 ds
 value_is ds all = weighed.same ds all
+
+-- digits behind others add what they are worth to those times a power of ten
+pub value_append : (xs ys : List ℕ) → value_of (xs ++ ys) ≡ value_of xs * 10 ^ length ys + value_of ys
+value_append [] ys = omega arith
+value_append (x ∷ xs) ys =
+    let power : 10 ^ length (xs ++ ys) ≡ 10 ^ length xs * 10 ^ length ys = ap (λ n. 10 ^ n) (length-append xs ys) ∙ pow-add 10 (length xs) (length ys) in
+    let first : (x - 48) * 10 ^ length (xs ++ ys) ≡ (x - 48) * 10 ^ length xs * 10 ^ length ys = ap (λ p. (x - 48) * p) power ∙ sym (mul_assoc (x - 48) (10 ^ length xs) (10 ^ length ys)) in
+    omega (arith, first, value_append xs ys, add-mul ((x - 48) * 10 ^ length xs) (value_of xs) (10 ^ length ys))
 
 pub pow_pos : (k : ℕ) → 0 < 10 ^ k
 pow_pos zero = lit< tt

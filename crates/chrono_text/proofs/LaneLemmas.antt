@@ -6,19 +6,19 @@ use Rattle.std.specs.List.{prefix_len}
 use Rattle.std.specs.Char.{digit_value}
 use Rattle.std.specs.Int.{IsInRange}
 use Rattle.std.specs.Str.Parse.{AllDigits, digits_value}
-use Rattle.std.proofs.Math.Nat.{zero-div, mul_assoc, mul_comm, add-mul, pow-le-pow_right, pow-succ', div-eq_of_lt}
+use Rattle.std.proofs.Math.Nat.{zero-div, mul_assoc, mul_comm, pow-le-pow_right, pow-succ', div-eq_of_lt}
 use Rattle.std.proofs.Math.Seq.{drop-cons, take-add}
 use Rattle.std.proofs.lemmas.Bool.{cases_lt}
 use Rattle.std.proofs.lemmas.Bool.Decides.{nat_tests}
 use Rattle.std.proofs.lemmas.Int.Digits.{digits_more, digits_value-lt}
-use Rattle.std.proofs.lemmas.List.{length-append, length-take, length-drop, length-map, drop-map, drop-take, map-append}
-use Rattle.std.proofs.lemmas.Nat.{shr-shr, pow-add}
+use Rattle.std.proofs.lemmas.List.{length-take, length-drop, length-map, drop-map, drop-take, map-append}
+use Rattle.std.proofs.lemmas.Nat.{shr-shr}
 use Rattle.std.proofs.lemmas.Str.{digit_value_digit}
 use Rattle.std.proofs.lemmas.Str.Parse.{digit_from_value}
 use Rattle.std.proofs.lemmas.Simd.{length-chunk, mask_l-lt, trailing_mask_l, run_in_chunk_fails, run_in_chunk_stops}
 use Rattle.chrono_text.specs.Marks.{is_other, marks_of}
 use Rattle.chrono_text.specs.Numbers.{value_of}
-use Rattle.chrono_text.proofs.DigitLemmas.{value_is}
+use Rattle.chrono_text.proofs.DigitLemmas.{value_append, value_is}
 
 -- half of a mask is the mask of all lanes but the first
 half : (b : Bool) (ms : List Bool) → mask_l (b ∷ ms) / 2 ^ 1 ≡ mask_l ms
@@ -161,14 +161,6 @@ below text len most few digits =
     let short : length (take len text) ≤ most = omega (arith, length-take len text) in
     let power : 10 ^ length (take len text) ≤ 10 ^ most = pow-le-pow_right (omega arith) short in
     omega (arith, digits_value-lt 10 (take len text) digits)
-
--- digits behind others add what they are worth to those times a power of ten
-value_append : (xs ys : List ℕ) → value_of (xs ++ ys) ≡ value_of xs * 10 ^ length ys + value_of ys
-value_append [] ys = omega arith
-value_append (x ∷ xs) ys =
-    let power : 10 ^ length (xs ++ ys) ≡ 10 ^ length xs * 10 ^ length ys = ap (λ n. 10 ^ n) (length-append xs ys) ∙ pow-add 10 (length xs) (length ys) in
-    let first : (x - 48) * 10 ^ length (xs ++ ys) ≡ (x - 48) * 10 ^ length xs * 10 ^ length ys = ap (λ p. (x - 48) * p) power ∙ sym (mul_assoc (x - 48) (10 ^ length xs) (10 ^ length ys)) in
-    omega (arith, first, value_append xs ys, add-mul ((x - 48) * 10 ^ length xs) (value_of xs) (10 ^ length ys))
 
 all_append : (xs ys : List ℕ) → AllDigits 10 (xs ++ ys) → AllDigits 10 xs × AllDigits 10 ys
 all_append [] ys all = (tt, all)
