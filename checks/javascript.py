@@ -57,12 +57,6 @@ class Findings(Results):
 # ---- in node
 
 
-def node_words():
-    """Node, with the flag that its versions before 24 need for 64-bit memories."""
-    told = subprocess.run(["node", "--version"], check=True, capture_output=True, text=True).stdout
-    return ["node", *["--experimental-wasm-memory64"] * (int(re.match(r"v(\d+)", told)[1]) < 24)]
-
-
 def make_project(room, package):
     """A project that has the package as npm puts it, and the tests."""
     shutil.rmtree(room, ignore_errors=True)
@@ -77,7 +71,7 @@ def run_tests(project):
     """Runs the tests in a project: what passed and failed, and what was printed."""
     names = [f"test/{it}" for it in sorted(os.listdir(f"{project}/test")) if it.endswith(".test.js")]
     ran = subprocess.run(
-        [*node_words(), "--test", *names], cwd=project, stdout=subprocess.PIPE, stderr=subprocess.STDOUT, text=True, timeout=120
+        ["node", "--test", *names], cwd=project, stdout=subprocess.PIPE, stderr=subprocess.STDOUT, text=True, timeout=120
     )
     passed, failed = (sum(int(it) for it in re.findall(rf"^# {name} (\d+)$", ran.stdout, re.M)) for name in ("pass", "fail"))
     return passed, failed or int(ran.returncode != 0 or not passed), ran.stdout
@@ -90,7 +84,7 @@ def compare_exports(results, module):
     with tempfile.NamedTemporaryFile(suffix=".wasm") as it:
         it.write(module)
         it.flush()
-        ran = subprocess.run([*node_words(), "-e", script, it.name], check=True, capture_output=True, text=True)
+        ran = subprocess.run(["node", "-e", script, it.name], check=True, capture_output=True, text=True)
     imports, exports = json.loads(ran.stdout)
     results.equal(imports, [], "imports of the module")
     wanted = sorted(it for it in languages.of_header() if not re.fullmatch(languages.C_ALONE, it))
@@ -109,7 +103,7 @@ def compare_example(results, project):
     wanted = re.findall(r"^console\.log\(.*\); // (.*)$", example, re.M)
     with open(f"{project}/example.js", "w", encoding="utf-8") as it:
         it.write(example)
-    ran = subprocess.run([*node_words(), "example.js"], cwd=project, capture_output=True, text=True)
+    ran = subprocess.run(["node", "example.js"], cwd=project, capture_output=True, text=True)
     results.equal(ran.stdout.splitlines(), wanted, f"the example of languages/javascript/README.md {ran.stderr[-2000:]}")
     results.count(wanted, "languages/javascript/README.md has no example that prints")
 

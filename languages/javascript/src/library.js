@@ -22,29 +22,13 @@ const LONGEST = 32;
 
 function instantiate() {
   const bytes = Uint8Array.from(atob(MODULE), (it) => it.charCodeAt(0));
-  try {
-    return new WebAssembly.Instance(new WebAssembly.Module(bytes)).exports;
-  } catch (cause) {
-    const hosts = "Chromium 133, Firefox 134, node 24, or node 20 and 22 with --experimental-wasm-memory64";
-    throw new Error(`WebAssembly has no 64-bit memories here, which need ${hosts}`, { cause });
-  }
+  return new WebAssembly.Instance(new WebAssembly.Module(bytes)).exports;
 }
 
 export const library = instantiate();
 
-/**
- * Grows the memory by a page, and answers how many it had; node 20 and 22 take and answer numbers, all others BigInts.
- */
-function grow(memory) {
-  try {
-    return BigInt(memory.grow(1n));
-  } catch {
-    return BigInt(memory.grow(1));
-  }
-}
-
 /** The first byte of a page behind the module's own memory. */
-const ROOM = grow(library.memory) * 65_536n;
+const ROOM = BigInt(library.memory.grow(1)) * 65_536n;
 
 const view = new DataView(library.memory.buffer, Number(ROOM), 128);
 const textBytes = new Uint8Array(library.memory.buffer, Number(ROOM + TEXT), LONGEST);
