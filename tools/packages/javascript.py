@@ -21,7 +21,7 @@ CRATE = "calendar_c"
 KEPT = f"crates/{CRATE}/out/calendar.wasm"
 # What only C has a use for, columns of dates and a date's names as a struct: modules of the crate, and the library below them.
 C_ALONE, BELOW_C_ALONE = ("columns", "split"), "chrono_columns"
-SOURCES = ("numbers", "calendar", "texts", "library", "duration", "plain_date", "plain_date_time", "index")
+SOURCES = ("numbers", "rounding", "calendar", "texts", "library", "duration", "plain_date", "plain_date_time", "index")
 PAGE = ("answers", "parts", "page")
 
 

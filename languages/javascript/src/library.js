@@ -70,8 +70,17 @@ export function distance(moment, base) {
   return answered();
 }
 
+/** The characters of ASCII, by their numbers. */
+const ASCII = Array.from({ length: 128 }, (_, code) => String.fromCharCode(code));
+
 /** The text that a function left in the room, in so many bytes. */
-const written = (length) => String.fromCharCode(...textBytes.subarray(0, length));
+function written(length) {
+  let text = "";
+  for (let index = 0; index < length; index += 1) {
+    text += ASCII[textBytes[index]];
+  }
+  return text;
+}
 
 /** The text of a date. */
 export const textOfDate = (date) => written(library.calendar_write_date(date, ROOM + TEXT, BigInt(LONGEST)));
@@ -80,10 +89,15 @@ export const textOfDate = (date) => written(library.calendar_write_date(date, RO
 export const textOfDateTime = (moment) =>
   written(library.calendar_write_date_time(put(FIRST, moment), ROOM + TEXT, BigInt(LONGEST)));
 
-/** Puts a text into the room: how many bytes it takes; undefined if it does not fit, so is too long for any date. */
+/** Puts a text of ASCII into the room: how many bytes it takes; undefined if it does not fit, so is too long for any date. */
 function putText(text) {
-  const { read, written: length } = new TextEncoder().encodeInto(text, textBytes);
-  return read === text.length ? BigInt(length) : undefined;
+  if (text.length > LONGEST) {
+    return undefined;
+  }
+  for (let index = 0; index < text.length; index += 1) {
+    textBytes[index] = text.charCodeAt(index);
+  }
+  return BigInt(text.length);
 }
 
 /** The date of a text. */
