@@ -359,13 +359,13 @@ def look(results, page, path):
     results.count(len(papers) == 2, "the page is as bright in dark as in light")
 
 
-def use_without_memories(results, page, path):
-    """Where there are no 64-bit memories the page says so."""
-    script = "WebAssembly.Module = function () { throw new WebAssembly.CompileError('no memory64'); };"
+def use_without_module(results, page, path):
+    """Where the module does not load the page says so."""
+    script = "WebAssembly.Module = function () { throw new WebAssembly.CompileError('none'); };"
     added = page.call("Page.addScriptToEvaluateOnNewDocument", source=script)
     page.open(path)
     told = page.text("#trouble")
-    results.count("no 64-bit memories here" in told and "Firefox" in told, f"a page with no 64-bit memories says {told!r}")
+    results.count("does not load here" in told and "Firefox" in told, f"a page without its module says {told!r}")
     page.call("Page.removeScriptToEvaluateOnNewDocument", identifier=added["identifier"])
     page.events.clear()
 
@@ -375,7 +375,7 @@ def in_chromium(results, path):
         print("not run: the page, since there is no chromium")
         return
     with chromium.Chromium() as page:
-        use_without_memories(results, page, path)
+        use_without_module(results, page, path)
         page.open(path)
         results.equal(page.run("document.querySelector('#trouble').hidden"), True, "whether the page has no trouble to tell")
         results.equal(page.text("#answer"), "2024-02-29 738945 Thu 2024-W09 60", "the first answer of the page")

@@ -22,7 +22,12 @@ const LONGEST = 32;
 
 function instantiate() {
   const bytes = Uint8Array.from(atob(MODULE), (it) => it.charCodeAt(0));
-  return new WebAssembly.Instance(new WebAssembly.Module(bytes)).exports;
+  try {
+    return new WebAssembly.Instance(new WebAssembly.Module(bytes)).exports;
+  } catch (cause) {
+    const hosts = "Chromium 85, Firefox 78, Safari 15 or node 20";
+    throw new Error(`the module does not load here: it needs WebAssembly as ${hosts} have it`, { cause });
+  }
 }
 
 export const library = instantiate();
