@@ -1,5 +1,5 @@
 -- A number is read back, if what is behind it does not go on as a number.
-use Rattle.std.proofs.Common.{◌≡◌, ℕ, zero, suc, ◌+◌, ◌-◌, ◌<◌, ◌≤◌, ◌^◌, ◌==◌, min, Bool, true, false, ◌&&◌, ◌||◌, if◌then◌else◌, List, [], ◌∷◌, ◌++◌, append_assoc, codes, drop, length, length-append, take, ℤ, pos, Option, Some, Result, Ok, inl, inr, refl, ap, sym, ◌∙◌, arith}
+use Rattle.std.proofs.Common.{◌≡◌, ℕ, zero, suc, ◌+◌, ◌-◌, ◌*◌, ◌<◌, ◌≤◌, ◌^◌, ◌==◌, min, Bool, true, false, ◌&&◌, ◌||◌, if◌then◌else◌, List, [], ◌∷◌, ◌++◌, append_assoc, codes, drop, length, length-append, take, ℤ, pos, Option, Some, None, Result, Ok, inl, inr, refl, ap, sym, ◌∙◌, arith}
 use Rattle.std.proofs.lemmas.Bool.{and_from, and_parts, cases_lt, false≢true}
 use Rattle.std.proofs.lemmas.Bool.Decides.{nat_tests}
 use Rattle.std.proofs.lemmas.Fmt.{decimal_nonempty, digits_decimal, digits_value-decimal}
@@ -117,12 +117,12 @@ natural_is [] n is = absurd (omega (arith, is.some))
 natural_is (c ∷ cs) n is =
     ap (λ (b : Bool). if b then Some (value_of (c ∷ cs)) else None) is.tested ∙ ap (λ (v : ℕ). Some v) is.value
 
-digits_are : (most n : ℕ) (ds : List ℕ) → IsDigits ds n → length ds ≤ most → digits_of most ds ≡ Some n
+pub digits_are : (most n : ℕ) (ds : List ℕ) → IsDigits ds n → length ds ≤ most → digits_of most ds ≡ Some n
 unfolding digits_of
 digits_are most n ds is few = within_most ds most n few (natural_is ds n is)
 
 -- all digits in front are counted
-digits_counted : (ds rest : List ℕ) → all_ascii_digits ds ≡ true → class_len Digit (ds ++ rest) ≡ length ds + class_len Digit rest
+pub digits_counted : (ds rest : List ℕ) → all_ascii_digits ds ≡ true → class_len Digit (ds ++ rest) ≡ length ds + class_len Digit rest
 unfolding class_len
 digits_counted [] rest all = omega arith
 digits_counted (c ∷ cs) rest all =

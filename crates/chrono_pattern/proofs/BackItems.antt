@@ -73,7 +73,7 @@ number_back wide Year padding b rest q m x time keeps ends =
 number_back wide IsoYear padding b rest q m x time keeps ends =
     signed_back wide IsoYear padding b (iso_year_of m.date) rest _ _ refl refl keeps ends (number_given wide IsoYear q m x time keeps)
 number_back wide Century padding b rest q m x time keeps ends =
-    century_back wide padding b rest q m x time keeps ends (few_centuries (year_of m.date) keeps).1.1
+    century_back wide padding b rest q m x time keeps ends (few_centuries (year_of m.date) keeps).2
 number_back wide YearOfCentury padding b rest q m x time keeps ends =
     let small = size_small YearOfCentury m time refl refl in
     small_back wide YearOfCentury padding b (size_of YearOfCentury m) rest _ _ refl (omega (arith, small)) small ends (number_given wide YearOfCentury q m x time keeps)
@@ -150,11 +150,11 @@ shown_back c b rest p not =
 
 blanks_twice : (text : List ℕ) → behind_blanks (behind_blanks text) ≡ behind_blanks text
 blanks_twice [] = ap (λ (l : List ℕ). behind_blanks l) nothing_stays
-blanks_twice (c ∷ text) = by_test (is_pattern_blank c) refl
+blanks_twice (c ∷ text) = by_test (is_pattern_blank c) refl (blanks_twice text)
   where
-    by_test : (b : Bool) → is_pattern_blank c ≡ b → behind_blanks (behind_blanks (c ∷ text)) ≡ behind_blanks (c ∷ text)
-    by_test true e = ap (λ (l : List ℕ). behind_blanks l) (blank_goes c text e) ∙ blanks_twice text ∙ sym (blank_goes c text e)
-    by_test false e = ap (λ (l : List ℕ). behind_blanks l) (front_stays c text e)
+    by_test : (b : Bool) → is_pattern_blank c ≡ b → behind_blanks (behind_blanks text) ≡ behind_blanks text → behind_blanks (behind_blanks (c ∷ text)) ≡ behind_blanks (c ∷ text)
+    by_test true e twice = ap (λ (l : List ℕ). behind_blanks l) (blank_goes c text e) ∙ twice ∙ sym (blank_goes c text e)
+    by_test false e twice = ap (λ (l : List ℕ). behind_blanks l) (front_stays c text e)
 
 blank_back : (c : ℕ) (b : Bool) (rest : List ℕ) (p : Parsed) → is_pattern_blank c ≡ true
     → literal_read c (at_rest (skip b (c ∷ rest)) p) ≡ Ok (at_rest (behind_blanks rest) p)
@@ -290,7 +290,8 @@ all_joined : (w o d h i s y rest : List ℕ) (a b c e f g : ℕ)
     → ((((w ++ (a ∷ o)) ++ (b ∷ d)) ++ (c ∷ ((h ++ (e ∷ i)) ++ (f ∷ s)))) ++ (g ∷ y)) ++ rest
     ≡ w ++ (a ∷ (o ++ (b ∷ (d ++ (c ∷ (h ++ (e ∷ (i ++ (f ∷ (s ++ (g ∷ (y ++ rest))))))))))))
 all_joined w o d h i s y rest a b c e f g =
-    four_joined w o d ((h ++ (e ∷ i)) ++ (f ∷ s)) ((g ∷ y) ++ rest) a b c
+    append_assoc (((w ++ (a ∷ o)) ++ (b ∷ d)) ++ (c ∷ ((h ++ (e ∷ i)) ++ (f ∷ s)))) (g ∷ y) rest
+    ∙ four_joined w o d ((h ++ (e ∷ i)) ++ (f ∷ s)) (g ∷ (y ++ rest)) a b c
     ∙ ap (λ (l : List ℕ). w ++ (a ∷ (o ++ (b ∷ (d ++ (c ∷ l)))))) (three_joined h i s (g ∷ (y ++ rest)) e f)
 
 all_back : (wide b : Bool) (rest : List ℕ) (q : Parsed) (m : Moment) (x : ℤ) → IsTime m.time → keeps_year wide (year_of m.date) ≡ true

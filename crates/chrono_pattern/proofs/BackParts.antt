@@ -318,7 +318,7 @@ number_given wide Year q m x time keeps = put_year q m x (year_range wide (year_
 number_given wide IsoYear q m x time keeps = put_iso_year q m x (year_range wide (iso_year_of m.date) keeps)
 number_given wide Century q m x time keeps =
     let few = few_centuries (year_of m.date) keeps in
-    ap (λ (v : ℤ). put YearDiv100 v (parts_of q m x)) (sym few.0) ∙ put_century q m x _ few.0 few.1.0
+    ap (λ (v : ℤ). put YearDiv100 v (parts_of q m x)) (sym few.0) ∙ put_century q m x _ few.0 few.1
 number_given wide YearOfCentury q m x time keeps = ap (λ (v : ℤ). put YearMod100 v (parts_of q m x)) (sym (place_is (year_of m.date))) ∙ put_place q m x
 number_given wide Quarter q m x time keeps = put_quarter q m x
 number_given wide Month q m x time keeps = put_month q m x
@@ -354,7 +354,7 @@ pub size_small : (field : NumberField) (m : Moment) → IsTime m.time → has_si
     → size_of field m < 10 ^ most_digits field
 size_small Year m time not keeps = absurd (true≢false not)
 size_small IsoYear m time not keeps = absurd (true≢false not)
-size_small Century m time not keeps = omega (arith, (few_centuries (year_of m.date) keeps).1.0)
+size_small Century m time not keeps = omega (arith, (few_centuries (year_of m.date) keeps).1)
 size_small YearOfCentury m time not keeps = omega (arith, place_small (year_of m.date))
 size_small Quarter m time not keeps = omega (arith, (calendar_name-exists m.date).0)
 size_small Month m time not keeps = omega (arith, (calendar_name-exists m.date).0)

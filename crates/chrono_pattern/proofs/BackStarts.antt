@@ -41,7 +41,7 @@ use Rattle.chrono_pattern.specs.Words.{word_text}
 use Rattle.chrono_pattern.proofs.BackItems.{four_joined, three_joined}
 use Rattle.chrono_pattern.proofs.BackDigits.{Ends, IsDigits, begins_point, blanks_go, decimal_digits, digits_no_point, digits_stay, number_digits, number_digits-are, padded_parts, spaces_blank, spaces_of}
 use Rattle.chrono_pattern.proofs.BackNumbers.{blank_goes, front_stays}
-use Rattle.chrono_pattern.proofs.BackOffsets.{colon_goes, offset_opens, small_stamp}
+use Rattle.chrono_pattern.proofs.BackOffsets.{offset_opens, small_stamp}
 use Rattle.chrono_pattern.proofs.BackParts.{size_small, year_range}
 use Rattle.chrono_pattern.proofs.BackSubseconds.{asked, below, few_held, fraction_of, held_asked, places, places_are, pointed, unpointed}
 use Rattle.chrono_pattern.proofs.BackWords.{colons_stay, no_digits, opens, opens_ends, opens_stays, plain_byte, word_opens}
@@ -159,6 +159,9 @@ opens_more : (text rest : List ℕ) → opens text ≡ true → opens (text ++ r
 opens_more [] rest h = absurd (false≢true h)
 opens_more (c ∷ text) rest h = h
 
+opens_three : (text a b c rest : List ℕ) → opens text ≡ true → opens ((((text ++ a) ++ b) ++ c) ++ rest) ≡ true
+opens_three text a b c rest h = opens_more (((text ++ a) ++ b) ++ c) rest (opens_more ((text ++ a) ++ b) c (opens_more (text ++ a) b (opens_more text a h)))
+
 opens_no_point : (text : List ℕ) → opens text ≡ true → begins_point text ≡ false
 opens_no_point [] h = refl
 opens_no_point (c ∷ text) h = (plain_byte c h).point
@@ -166,7 +169,9 @@ opens_no_point (c ∷ text) h = (plain_byte c h).point
 all_opens : (m : Moment) (rest : List ℕ) → opens (group_text DateAndTime m ++ rest) ≡ true
 unfolding group_text
 all_opens m rest =
-    opens_more _ rest (opens_more _ _ (opens_more _ _ (opens_more _ _ (word_opens WeekdayLetters (32 ∷ word_text MonthLetters m) m))))
+    opens_three (word_text WeekdayLetters m ++ (32 ∷ word_text MonthLetters m)) (32 ∷ usual_text SpacedDay m)
+    (32 ∷ ((usual_text Hour m ++ (58 ∷ usual_text Minute m)) ++ (58 ∷ usual_text Second m))) (32 ∷ usual_text Year m) rest
+    (word_opens WeekdayLetters (32 ∷ word_text MonthLetters m) m)
 
 group_start : (wide : Bool) (bar : Bar) (g : GroupField) (m : Moment) (rest : List ℕ) → IsTime m.time → keeps_group wide g m ≡ true
     → takes_digit bar ≡ true → begins_point (behind_blanks (group_text g m ++ rest)) ≡ false
@@ -190,7 +195,8 @@ group_start wide bar DayMonthYear m rest time keeps takes =
     ap (λ (l : List ℕ). begins_point (behind_blanks l)) (three_joined (usual_text SpacedDay m) (word_text MonthLetters m) (usual_text Year m) rest 45 45)
     ∙ number_start false SpacedDay Usual m _ time refl
 group_start wide bar DateAndTime m rest time keeps takes =
-    let opening = all_opens m rest in ap (λ (l : List ℕ). begins_point l) (opens_stays _ opening) ∙ opens_no_point _ opening
+    let text = group_text DateAndTime m ++ rest in
+    ap (λ (l : List ℕ). begins_point l) (opens_stays text (all_opens m rest)) ∙ opens_no_point text (all_opens m rest)
 
 -- what takes a digit bars no digit
 by_digit : (bar : Bar) (text : List ℕ) → takes_digit bar ≡ true → begins_point (behind_blanks text) ≡ false → Ends bar text

@@ -1,6 +1,6 @@
 -- The fraction of a second is read back where it has no more digits than are written.
 use Rattle.std.proofs.Common.{◌≡◌, ◌≢◌, ℕ, zero, suc, ◌+◌, ◌-◌, ◌*◌, ◌/◌, ◌%◌, ◌^◌, ◌<◌, ◌≤◌, ◌==◌, min, Bool, true, false, ◌&&◌, if◌then◌else◌, nat_le, nat_lt, List, [], ◌∷◌, ◌++◌, codes, drop, length, length-append, length-drop, length-take, take, take-append-drop, ℤ, pos, Option, Some, Result, Ok, Err, refl, ap, sym, subst, ◌∙◌, arith}
-use Rattle.std.proofs.lemmas.Bool.{and_from, and_parts, false≢true, le-leb, lt-leb}
+use Rattle.std.proofs.lemmas.Bool.{and_from, and_parts, false≢true}
 use Rattle.std.proofs.lemmas.Bool.Decides.{nat_tests}
 use Rattle.std.proofs.lemmas.Nat.{mod-mul-add}
 use Rattle.std.proofs.lemmas.Str.Parse.{digits_value_short}
@@ -58,7 +58,7 @@ abbrev pub places : ℕ → ℕ → List ℕ
 places k f = take k (all_digits 9 f)
 
 nine_tested : (f : ℕ) → f < 10 ^ 9 → all_ascii_digits (all_digits 9 f) ≡ true
-nine_tested f small = own.from (all_digits 9 f) (to_digits 9 f small).1.0
+nine_tested f small = own.from (all_digits 9 f) (to_digits 9 f small).1
 
 places_long : (k f : ℕ) → k ≤ 9 → length (places k f) ≡ k
 places_long k f few = omega (arith, length-take k (all_digits 9 f), few)
@@ -70,7 +70,7 @@ places_worth k f held =
     let v = value_of (take k ds) in
     let w = value_of (drop k ds) in
     let behind : length (drop k ds) ≡ 9 - k = omega (arith, length-drop k ds) in
-    let all : v * 10 ^ length (drop k ds) + w ≡ f = sym (value_append (take k ds) (drop k ds)) ∙ ap (λ (l : List ℕ). value_of l) (take-append-drop k ds) ∙ (to_digits 9 f held.below).1.1 in
+    let all : v * 10 ^ length (drop k ds) + w ≡ f = sym (value_append (take k ds) (drop k ds)) ∙ ap (λ (l : List ℕ). value_of l) (take-append-drop k ds) ∙ (to_digits 9 f held.below).2 in
     let sum : v * 10 ^ (9 - k) + w ≡ f = ap (λ (j : ℕ). v * 10 ^ j + w) (sym behind) ∙ all in
     let small : w < 10 ^ (9 - k) = digits_value_short own (drop k ds) (9 - k) (drop_tested ds k (nine_tested f held.below)) (omega (arith, behind)) in
     let none : w ≡ 0 = sym (mod-mul-add v (10 ^ (9 - k)) w small) ∙ ap (λ (j : ℕ). j % 10 ^ (9 - k)) sum ∙ held.whole in
@@ -155,9 +155,12 @@ few_held f small not false e =
     subst (λ (k : ℕ). IsHeld k f) (sym (ap (λ (b : Bool). if b then 0 else if f % 1_000_000 == 0 then 3 else if f % 1_000 == 0 then 6 else 9) e))
     (held_by f small not (f % 1_000_000 == 0) (f % 1_000 == 0) refl refl)
 
+above_zero : (k : ℕ) → 0 < k → nat_lt 0 k ≡ true
+above_zero k some = grind (arith, nat_tests, some)
+
 pub asked : (count f : ℕ) → 0 < count → digit_count count f ≡ min count 9
 asked count f some =
-    ap (λ (b : Bool). if b then (if nat_le count 9 then count else 9) else digit_count 0 f) (lt-leb 0 count some) ∙ by_size (nat_le count 9) refl
+    ap (λ (b : Bool). if b then (if nat_le count 9 then count else 9) else digit_count 0 f) (above_zero count some) ∙ by_size (nat_le count 9) refl
   where
     by_size : (b : Bool) → nat_le count 9 ≡ b → (if b then count else 9) ≡ min count 9
     by_size true e = let few : count ≤ 9 = grind (arith, nat_tests) in omega (arith, few)
@@ -170,7 +173,7 @@ nine_same f small = sym (nine_places f small)
 
 pub pointed : (k f : ℕ) (rest : List ℕ) → 0 < k → f < 10 ^ 9 → fraction_with true k f ++ rest ≡ 46 ∷ (places k f ++ rest)
 pointed k f rest some small =
-    ap (λ (b : Bool). ((if true && b then codes "." else []) ++ take k (nine_digits f)) ++ rest) (lt-leb 0 k some)
+    ap (λ (b : Bool). ((if true && b then codes "." else []) ++ take k (nine_digits f)) ++ rest) (above_zero k some)
     ∙ ap (λ (l : List ℕ). 46 ∷ (take k l ++ rest)) (nine_same f small)
 
 pub unpointed : (k f : ℕ) (rest : List ℕ) → f < 10 ^ 9 → fraction_with false k f ++ rest ≡ places k f ++ rest

@@ -1,12 +1,11 @@
 -- Words are read back, whatever is behind them.
 use Rattle.std.proofs.Common.{◌≡◌, ℕ, ◌+◌, ◌-◌, ◌≤◌, ◌<◌, ◌/◌, ◌==◌, Bool, true, false, ◌&&◌, if◌then◌else◌, nat_lt, nat_le, List, [], ◌∷◌, ◌++◌, codes, drop, length, length-append, take, ℤ, pos, Option, Some, Result, Ok, Err, refl, ap, sym, ◌∙◌, arith}
-use Rattle.std.proofs.lemmas.Bool.{eqb-true, false≢true, le-leb}
+use Rattle.std.proofs.lemmas.Bool.{agree_below_at, eqb-true, false≢true, le-leb}
 use Rattle.std.proofs.lemmas.Bool.Decides.{nat_tests}
 use Rattle.std.specs.Char.{is_ascii_digit}
 use Rattle.std.specs.List.{prefix_len}
 use Rattle.std.specs.Str.{str_eq_ignore_ascii_case}
 use Rattle.chrono_calendar.proofs.NamedDates.{calendar_name-exists}
-use Rattle.chrono_calendar.proofs.Tests.{passes_below-at}
 use Rattle.chrono_text.proofs.TextLemmas.{front_is}
 use Rattle.chrono_datetime.specs.Days.{month_of}
 use Rattle.chrono_datetime.specs.Moment.{Moment}
@@ -289,10 +288,10 @@ whole_len name rest same =
 
 put_front : (count : ℕ) (text rest : List ℕ) (part : Part) (v : ℤ) (p q : Parsed) → count ≡ length text → put part v p ≡ Ok q
     → put_behind count (text ++ rest) part v p ≡ Ok (at_rest rest q)
-put_front count text rest part v p q is put =
+put_front count text rest part v p q is done =
     ap (λ (k : ℕ). put_behind k (text ++ rest) part v p) is
     ∙ ap (λ (l : List ℕ). progress (put part v p) l (text ++ rest)) (front_is (text ++ rest) text rest (length text) refl refl).1
-    ∙ ap (λ (o : Result Parsed ReadFault). progress o rest (text ++ rest)) put
+    ∙ ap (λ (o : Result Parsed ReadFault). progress o rest (text ++ rest)) done
 
 month_name_back : (k : Month) (rest : List ℕ) (p q : Parsed) → put MonthOfYear (pos (number_from_month k)) p ≡ Ok q
     → word_read MonthName (at_rest (month_name k ++ rest) p) ≡ Ok (at_rest rest q)
@@ -358,14 +357,14 @@ small_half_opens : (morning : Bool) (rest : List ℕ) → opens ((if morning the
 small_half_opens true rest = refl
 small_half_opens false rest = refl
 
-month_test : ℕ → Bool
+abbrev month_test : ℕ → Bool
 month_test k = number_from_month (month_from_number (k + 1)) == k + 1
 
 month_again : (n : ℕ) → 1 ≤ n → n ≤ 12 → number_from_month (month_from_number n) ≡ n
 month_again n low high =
     let same : n - 1 + 1 ≡ n = omega (arith, low) in
     eqb-true (number_from_month (month_from_number n)) n
-    (sym (ap (λ (k : ℕ). number_from_month (month_from_number k) == k) same) ∙ passes_below-at month_test 12 refl (n - 1) (omega (arith, low, high)))
+    (sym (ap (λ (k : ℕ). number_from_month (month_from_number k) == k) same) ∙ agree_below_at month_test (λ j. true) 12 (n - 1) refl (omega (arith, low, high)))
 
 month_put : (q : Parsed) (m : Moment) (x : ℤ) → put MonthOfYear (pos (number_from_month (month_from_number (month_of m.date)))) (parts_of q m x) ≡ Ok (parts_of (with_named MonthOfYear q) m x)
 month_put q m x =
