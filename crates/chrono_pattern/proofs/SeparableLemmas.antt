@@ -1,5 +1,5 @@
 -- A pattern byte by byte: whether it is separable.
-use Rattle.std.proofs.Common.{◌≡◌, ℕ, Bool, true, false, ◌&&◌, List, [], ◌∷◌, length, Option, Some, None, refl, ap, ◌∙◌, arith}
+use Rattle.std.proofs.Common.{◌≡◌, ℕ, Bool, true, false, ◌&&◌, List, [], ◌∷◌, length, Option, Some, None, refl, ap, sym, ◌∙◌, arith}
 use Rattle.chrono_pattern.specs.PatternSteps.{pattern_step}
 use Rattle.chrono_pattern.specs.Separable.{bar_behind, is_separable_from, takes_item}
 use Rattle.chrono_pattern.specs.declared.item.Bar.{Bar}
@@ -22,12 +22,13 @@ unfolding is_separable_from
 separable-nothing wide s bar = refl
 
 -- the same of bytes that begin with one
-pub separable-goes_on : (wide : Bool) (s : State) (bar : Bar) (c : ℕ) (bytes behind : List ℕ) (next : State × Item) → bytes ≡ c ∷ behind
-    → pattern_step s c ≡ Some next → takes_item wide bar next.1 ≡ true
-    → is_separable_from wide s bar bytes ≡ is_separable_from wide next.0 (bar_behind wide bar next.1) behind
-separable-goes_on wide s bar c bytes behind next is step takes =
+pub separable-goes_on : (wide : Bool) (s : State) (bar after : Bar) (c : ℕ) (bytes behind : List ℕ) (next : State × Item) → bytes ≡ c ∷ behind
+    → pattern_step s c ≡ Some next → takes_item wide bar next.1 ≡ true → after ≡ bar_behind wide bar next.1
+    → is_separable_from wide s bar bytes ≡ is_separable_from wide next.0 after behind
+separable-goes_on wide s bar after c bytes behind next is step takes bars =
     ap (λ (l : List ℕ). is_separable_from wide s bar l) is ∙ separable-more wide s bar c behind next step
     ∙ ap (λ (b : Bool). b && is_separable_from wide next.0 (bar_behind wide bar next.1) behind) takes
+    ∙ ap (λ (b : Bar). is_separable_from wide next.0 b behind) (sym bars)
 
 pub separable-taken : (wide : Bool) (s : State) (bar : Bar) (c : ℕ) (bytes behind : List ℕ) (next : State × Item) → bytes ≡ c ∷ behind
     → pattern_step s c ≡ Some next → takes_item wide bar next.1 ≡ false → is_separable_from wide s bar bytes ≡ false
