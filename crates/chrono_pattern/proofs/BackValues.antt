@@ -71,10 +71,10 @@ own_date_fits q m x window =
     and_from _ _ year (and_from _ _ day (and_from _ _ week year_week))
 
 -- what the text of a kept date-time gives, and how it is like what the pattern names
-abbrev kept_parts : List ℕ → Moment → ℤ → Parsed
+abbrev pub kept_parts : List ℕ → Moment → ℤ → Parsed
 kept_parts bytes m x = parts_of (given_parts bytes m.time) m x
 
-kept_like : (wide : Bool) (bytes : List ℕ) (m : Moment) (x : ℤ) → is_separable wide bytes ≡ true → IsKept wide bytes m x → Like (kept_parts bytes m x) (named_parts bytes)
+pub kept_like : (wide : Bool) (bytes : List ℕ) (m : Moment) (x : ℤ) → is_separable wide bytes ≡ true → IsKept wide bytes m x → Like (kept_parts bytes m x) (named_parts bytes)
 kept_like wide bytes m x separable kept = read_like bytes (text_at_offset bytes m x) (kept_parts bytes m x) (parts_back wide bytes m x separable kept)
 
 kept_date_named : (wide : Bool) (bytes : List ℕ) (m : Moment) (x : ℤ) → is_separable wide bytes ≡ true → IsKept wide bytes m x
@@ -131,7 +131,7 @@ step_given c bytes t some rest s q (Some next) e =
     ∙ rest next.0 (with_item next.1 q)
     ∙ sym (named_from-more s c bytes q next e)
 
-given_all : (bytes : List ℕ) (t : TimeOfDay) → (fraction_of t == 0) ≡ false → AllGiven bytes t
+pub given_all : (bytes : List ℕ) (t : TimeOfDay) → (fraction_of t == 0) ≡ false → AllGiven bytes t
 given_all [] t some s q = given-nothing s t q ∙ sym (named_from-nothing s q)
 given_all (c ∷ bytes) t some s q = step_given c bytes t some (given_all bytes t some) s q (pattern_step s c) refl
 

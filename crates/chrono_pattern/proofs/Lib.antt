@@ -26,3 +26,4 @@ mod BackItems
 mod BackPatterns
 mod BackStamps
 mod BackValues
+mod BackAgain

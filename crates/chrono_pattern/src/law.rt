@@ -5,12 +5,12 @@ ghost use Rattle.chrono_datetime.specs.Days.{IsDate, day_of, month_of, ordinal_o
 ghost use Rattle.chrono_datetime.specs.Moment.{Moment, moment};
 ghost use Rattle.chrono_datetime.specs.Duration.{nanos_per_second};
 ghost use Rattle.chrono_datetime.specs.Fields.{unix_epoch_day};
-ghost use Rattle.chrono_datetime.specs.Time.{IsTime, time_at};
+ghost use Rattle.chrono_datetime.specs.Time.{IsTime, TimeOfDay, time_at};
 ghost use Rattle.chrono_datetime.specs.Weekday.{days_from_monday, days_from_sunday};
 ghost use Rattle.chrono_datetime.specs.Weeks.{iso_week_of, iso_year_of, weekday_of};
 ghost use Rattle.chrono_datetime.specs.declared.Weekday.TheVariants.{Mon};
 ghost use Rattle.chrono_instant.specs.Offsets.{IsOffset};
-ghost use Rattle.chrono_pattern.specs.DateParts.{names_date};
+ghost use Rattle.chrono_pattern.specs.DateParts.{is_present, names_date};
 ghost use Rattle.chrono_pattern.specs.NamedParts.{named_parts};
 ghost use Rattle.chrono_pattern.specs.Parses.{IsDateBy, IsMomentBy, IsTimeBy, IsZonedBy};
 ghost use Rattle.chrono_pattern.specs.Parts.{no_parts};
@@ -198,6 +198,24 @@ pub fn separable_patterns_read_back()
         → names_moment (named_parts bytes) ≡ true → tells_moment (named_parts bytes) m ≡ true → IsMomentBy bytes (pattern_text bytes m) m }
     ensures zoned { (wide : Bool) → (bytes : List ℕ) → (m : Moment) → (x : ℤ) → is_separable wide bytes ≡ true → IsKept wide bytes m x
         → names_zoned (named_parts bytes) ≡ true → tells_zoned (named_parts bytes) m x ≡ true → IsZonedBy bytes (text_at_offset bytes m x) m x }
+{}
+
+/// States that what a separable pattern loses it loses for good: the value that its text gives writes the same text again.
+///
+/// So `%d.%m.%y` of a date of 1900 gives one of 2000, with the same text. The law speaks of what the pattern writes whole, as the law above
+/// does, and of patterns without `%s`.
+pub fn lossy_patterns_write_the_same_again()
+    ensures date { (wide : Bool) → (bytes : List ℕ) → (m : Moment) → (n : ℤ) → is_separable wide bytes ≡ true → IsKept wide bytes m (pos 0)
+        → is_present (named_parts bytes).timestamp ≡ false → IsDateBy bytes (pattern_text bytes m) n
+        → pattern_text bytes (moment n m.time) ≡ pattern_text bytes m }
+    ensures time { (wide : Bool) → (bytes : List ℕ) → (m : Moment) → (t : TimeOfDay) → is_separable wide bytes ≡ true → IsKept wide bytes m (pos 0)
+        → is_present (named_parts bytes).timestamp ≡ false → IsTimeBy bytes (pattern_text bytes m) t
+        → pattern_text bytes (moment m.date t) ≡ pattern_text bytes m }
+    ensures date_time { (wide : Bool) → (bytes : List ℕ) → (m w : Moment) → is_separable wide bytes ≡ true → IsKept wide bytes m (pos 0)
+        → is_present (named_parts bytes).timestamp ≡ false → IsMomentBy bytes (pattern_text bytes m) w → pattern_text bytes w ≡ pattern_text bytes m }
+    ensures zoned { (wide : Bool) → (bytes : List ℕ) → (m : Moment) → (x : ℤ) → (w : Moment) → (y : ℤ) → is_separable wide bytes ≡ true
+        → IsKept wide bytes m x → is_present (named_parts bytes).timestamp ≡ false → IsZonedBy bytes (text_at_offset bytes m x) w y
+        → text_at_offset bytes w y ≡ text_at_offset bytes m x }
 {}
 
 /// States which known patterns are separable:
