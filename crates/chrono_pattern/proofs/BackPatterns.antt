@@ -55,7 +55,7 @@ use Rattle.chrono_pattern.proofs.ShapeLemmas.{Like, date_is_named, mark, read_li
 
 -- ---- the definitions, byte by byte
 
-keeps-more : (wide : Bool) (s : State) (c : ℕ) (bytes : List ℕ) (m : Moment) (x : ℤ) (next : State × Item) → pattern_step s c ≡ Some next
+pub keeps-more : (wide : Bool) (s : State) (c : ℕ) (bytes : List ℕ) (m : Moment) (x : ℤ) (next : State × Item) → pattern_step s c ≡ Some next
     → keeps_from wide s (c ∷ bytes) m x ≡ (keeps_item wide next.1 m x && keeps_from wide next.0 bytes m x)
 unfolding keeps_from
 keeps-more wide s c bytes m x next e =

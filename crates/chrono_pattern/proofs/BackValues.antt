@@ -1,16 +1,20 @@
 -- The values of a text that a separable pattern writes.
-use Rattle.std.proofs.Common.{◌≡◌, ℕ, ◌+◌, ◌/◌, ◌%◌, ◌<◌, ◌==◌, Bool, true, false, ◌&&◌, ◌||◌, if◌then◌else◌, List, [], ◌∷◌, Option, Some, None, Result, Ok, ℤ, pos, ◌-ℤ◌, refl, ap, sym, ◌∙◌, arith}
-use Rattle.std.proofs.lemmas.Bool.{and_from, and_parts, false≢true}
+use Rattle.std.proofs.Common.{◌≡◌, ℕ, ◌+◌, ◌-◌, ◌*◌, ◌/◌, ◌%◌, ◌^◌, ◌<◌, ◌==◌, min, Bool, true, false, ◌&&◌, ◌||◌, if◌then◌else◌, List, [], ◌∷◌, Option, Some, None, Result, Ok, ℤ, pos, ◌-ℤ◌, unsigned_abs, refl, ap, sym, ◌∙◌, arith}
+use Rattle.std.proofs.lemmas.Bool.{and_from, and_parts, false≢true, le-leb}
 use Rattle.std.proofs.lemmas.Bool.Decides.{Decides-int_eq, nat_tests}
+use Rattle.std.proofs.lemmas.Nat.{mod-mul-add}
+use Rattle.chrono_text.proofs.DigitLemmas.{pow_pos}
 use Rattle.std.specs.Int.{int_div_euclid, int_rem_euclid}
 use Rattle.std.specs.Ordering.{int_eq}
 use Rattle.chrono_datetime.specs.Days.{year_of}
 use Rattle.chrono_datetime.specs.Duration.{nanos_per_second}
 use Rattle.chrono_datetime.specs.Moment.{Moment}
-use Rattle.chrono_datetime.specs.Time.{TimeOfDay, is_leap, second_of}
+use Rattle.chrono_datetime.specs.Time.{IsTime, TimeOfDay, is_leap, second_of}
+use Rattle.chrono_datetime.specs.Weeks.{iso_year_of}
 use Rattle.chrono_instant.specs.Instants.{epoch_second}
+use Rattle.chrono_instant.specs.Offsets.{IsOffset}
 use Rattle.chrono_pattern.specs.DateParts.{date_fits, day_fits, in_window, is_present, names_date, says, week_fits, year_fits, year_week_fits}
-use Rattle.chrono_pattern.specs.Kept.{IsKept, given_from, given_parts, is_told, tells_date, tells_fraction, tells_moment, tells_time, tells_zoned, with_few, with_given}
+use Rattle.chrono_pattern.specs.Kept.{IsKept, given_from, given_parts, is_told, keeps_form, keeps_from, keeps_group, keeps_item, keeps_number, keeps_stamp, keeps_subsecond, keeps_year, tells_date, tells_fraction, tells_moment, tells_time, tells_zoned, with_few, with_given}
 use Rattle.chrono_pattern.specs.NamedParts.{named_from, named_parts, with_item, with_named}
 use Rattle.chrono_pattern.specs.Parses.{IsDateBy, IsMomentBy, IsTimeBy, IsZonedBy}
 use Rattle.chrono_pattern.specs.Parts.{no_parts}
@@ -18,9 +22,17 @@ use Rattle.chrono_pattern.specs.Patterns.{pattern_text, text_at_offset}
 use Rattle.chrono_pattern.specs.PatternSteps.{pattern_step}
 use Rattle.chrono_pattern.specs.ReadBack.{if_named, parts_of}
 use Rattle.chrono_pattern.specs.Reads.{text_read}
-use Rattle.chrono_pattern.specs.Separable.{is_separable}
+use Rattle.chrono_pattern.specs.Separable.{bar_behind, is_separable, is_separable_from, takes_item, takes_number}
 use Rattle.chrono_pattern.specs.TimeParts.{clock_fits, counts, names_second, names_time, second_fits, time_fits}
 use Rattle.chrono_pattern.specs.ZonedParts.{fits_by, is_next_to, is_stamp_of, moment_fits, names_moment, names_zoned, shows_second, stamped_time_fits, zoned_fits}
+use Rattle.chrono_pattern.specs.declared.item.Bar.{Bar}
+use Rattle.chrono_pattern.specs.declared.item.Bar.TheVariants.{Free}
+use Rattle.chrono_pattern.specs.declared.item.GroupField.{GroupField}
+use Rattle.chrono_pattern.specs.declared.item.GroupField.TheVariants.{YearMonthDay, MonthDayYear, HourMinute, HourMinuteSecond, HalfClock, DayMonthYear, DateAndTime}
+use Rattle.chrono_pattern.specs.declared.item.NumberField.{NumberField}
+use Rattle.chrono_pattern.specs.declared.item.NumberField.TheVariants.{Year, Century, YearOfCentury, Quarter, Month, Day, SpacedDay, DayOfYear, FromMonday, FromSunday, IsoYear, IsoYearOfCentury, IsoWeek, WeekFromSunday, WeekFromMonday, Hour, SpacedHour, HalfHour, SpacedHalfHour, Minute, Second, Nanosecond}
+use Rattle.chrono_pattern.specs.declared.item.OffsetForm.{OffsetForm}
+use Rattle.chrono_pattern.specs.declared.item.OffsetForm.TheVariants.{Plain, Colon, Seconds, Hours, Loose}
 use Rattle.chrono_pattern.specs.declared.item.Item.{Item}
 use Rattle.chrono_pattern.specs.declared.item.Item.TheVariants.{Empty, Byte, Number, Word, Group, Subsecond, Zoned}
 use Rattle.chrono_pattern.specs.declared.item.State.{State}
@@ -28,9 +40,11 @@ use Rattle.chrono_pattern.specs.declared.item.State.TheVariants.{Outside}
 use Rattle.chrono_pattern.specs.declared.item.ZonedField.TheVariants.{Offset, ZoneName, Stamp, Iso8601}
 use Rattle.chrono_pattern.specs.declared.parsed.Parsed.{Parsed}
 use Rattle.chrono_pattern.specs.declared.parsed.Part.TheVariants.{OffsetFromUtc}
-use Rattle.chrono_pattern.proofs.BackPatterns.{given-more, given-none, given-nothing, parts_back}
+use Rattle.chrono_pattern.proofs.BackParts.{year_range}
+use Rattle.chrono_pattern.proofs.BackPatterns.{given-more, given-none, given-nothing, keeps-more, parts_back}
 use Rattle.chrono_pattern.proofs.BackSubseconds.{fraction_of}
 use Rattle.chrono_pattern.proofs.FieldLemmas.{named_from-more, named_from-none, named_from-nothing}
+use Rattle.chrono_pattern.proofs.SeparableLemmas.{separable-more, separable-none}
 use Rattle.chrono_pattern.proofs.ShapeLemmas.{Like, date_is_named, mark, offset_of_like, read_like, shape, stamp_of_like, time_of_like}
 
 -- ---- the parts are the date-time's own
@@ -316,3 +330,108 @@ zoned_back wide bytes m x separable kept named tells =
           (counts_told (given_parts bytes m.time).offset x (told_of_marks (given_parts bytes m.time).offset q.offset x x (ap (λ (t : Parsed). t.offset) like.same) ∙ told.0))
           (kept_moment_fits wide bytes m x separable kept told.1);
     }
+
+-- ---- what is kept
+
+-- a date-time that has nothing smaller than a second, and an offset of whole hours
+pub record IsWhole (wide : Bool) (m : Moment) (x : ℤ) : Type 0 where
+  pub year : keeps_year wide (year_of m.date) ≡ true
+  pub iso_year : keeps_year wide (iso_year_of m.date) ≡ true
+  pub fraction : fraction_of m.time ≡ 0
+  pub hours : unsigned_abs x % 3_600 ≡ 0
+  pub stamp : keeps_stamp (epoch_second m -ℤ x) ≡ true
+
+kept_number : (wide : Bool) (bar : Bar) (field : NumberField) (m : Moment) (x : ℤ) → IsWhole wide m x → takes_number wide bar field ≡ true → keeps_number wide field m ≡ true
+kept_number wide bar Year m x whole takes = whole.year
+kept_number wide bar IsoYear m x whole takes = whole.iso_year
+kept_number true bar Century m x whole takes = absurd (false≢true takes)
+kept_number false bar Century m x whole takes = whole.year
+kept_number wide bar YearOfCentury m x whole takes = refl
+kept_number wide bar Quarter m x whole takes = refl
+kept_number wide bar Month m x whole takes = refl
+kept_number wide bar Day m x whole takes = refl
+kept_number wide bar SpacedDay m x whole takes = refl
+kept_number wide bar DayOfYear m x whole takes = refl
+kept_number wide bar FromMonday m x whole takes = refl
+kept_number wide bar FromSunday m x whole takes = refl
+kept_number wide bar IsoYearOfCentury m x whole takes = refl
+kept_number wide bar IsoWeek m x whole takes = refl
+kept_number wide bar WeekFromSunday m x whole takes = refl
+kept_number wide bar WeekFromMonday m x whole takes = refl
+kept_number wide bar Hour m x whole takes = refl
+kept_number wide bar SpacedHour m x whole takes = refl
+kept_number wide bar HalfHour m x whole takes = refl
+kept_number wide bar SpacedHalfHour m x whole takes = refl
+kept_number wide bar Minute m x whole takes = refl
+kept_number wide bar Second m x whole takes = refl
+kept_number wide bar Nanosecond m x whole takes = refl
+
+any_year : (wide : Bool) (y : ℤ) → keeps_year wide y ≡ true → keeps_year true y ≡ true
+any_year wide y keeps = le-leb (unsigned_abs y) 999_999_999 (year_range wide y keeps)
+
+kept_group : (wide : Bool) (g : GroupField) (m : Moment) (x : ℤ) → IsWhole wide m x → keeps_group wide g m ≡ true
+kept_group wide YearMonthDay m x whole = any_year wide (year_of m.date) whole.year
+kept_group wide MonthDayYear m x whole = refl
+kept_group wide HourMinute m x whole = refl
+kept_group wide HourMinuteSecond m x whole = refl
+kept_group wide HalfClock m x whole = refl
+kept_group wide DayMonthYear m x whole = whole.year
+kept_group wide DateAndTime m x whole = whole.year
+
+no_rest : (k : ℕ) → 0 % 10 ^ k ≡ 0
+no_rest k = let zero : 0 ≡ 0 * 10 ^ k + 0 = omega arith in ap (λ (n : ℕ). n % 10 ^ k) zero ∙ mod-mul-add 0 (10 ^ k) 0 (pow_pos k)
+
+kept_subsecond : (wide : Bool) (count : ℕ) (m : Moment) (x : ℤ) → IsWhole wide m x → keeps_subsecond count m.time ≡ true
+kept_subsecond wide count m x whole = by_count (count == 0)
+  where
+    by_count : (z : Bool) → (if z then true else fraction_of m.time % 10 ^ (9 - min count 9) == 0) ≡ true
+    by_count true = refl
+    by_count false =
+        ap (λ (f : ℕ). f % 10 ^ (9 - min count 9) == 0) whole.fraction ∙ ap (λ (r : ℕ). r == 0) (no_rest (9 - min count 9))
+
+same_zero : (n : ℕ) → n ≡ 0 → (n == 0) ≡ true
+same_zero n e = ap (λ (k : ℕ). k == 0) e
+
+kept_form : (wide : Bool) (form : OffsetForm) (m : Moment) (x : ℤ) → IsWhole wide m x → keeps_form form (unsigned_abs x) ≡ true
+kept_form wide Plain m x whole = same_zero (unsigned_abs x % 60) (omega (arith, whole.hours))
+kept_form wide Colon m x whole = same_zero (unsigned_abs x % 60) (omega (arith, whole.hours))
+kept_form wide Seconds m x whole = refl
+kept_form wide Hours m x whole = same_zero (unsigned_abs x % 3_600) whole.hours
+kept_form wide Loose m x whole = same_zero (unsigned_abs x % 60) (omega (arith, whole.hours))
+
+kept_item : (wide : Bool) (bar : Bar) (item : Item) (m : Moment) (x : ℤ) → IsWhole wide m x → takes_item wide bar item ≡ true → keeps_item wide item m x ≡ true
+kept_item wide bar Empty m x whole takes = refl
+kept_item wide bar (Byte c) m x whole takes = refl
+kept_item wide bar (Number field padding) m x whole takes = kept_number wide bar field m x whole takes
+kept_item wide bar (Word word) m x whole takes = refl
+kept_item wide bar (Group g) m x whole takes = kept_group wide g m x whole
+kept_item wide bar (Subsecond point count) m x whole takes = kept_subsecond wide count m x whole
+kept_item wide bar (Zoned (Offset form)) m x whole takes = kept_form wide form m x whole
+kept_item wide bar (Zoned ZoneName) m x whole takes = absurd (false≢true takes)
+kept_item wide bar (Zoned Stamp) m x whole takes = whole.stamp
+kept_item wide bar (Zoned Iso8601) m x whole takes = and_from _ _ (any_year wide (year_of m.date) whole.year) (kept_form wide Colon m x whole)
+
+abbrev AllKept : Bool → List ℕ → Moment → ℤ → Type 0
+AllKept wide bytes m x = (s : State) (bar : Bar) → is_separable_from wide s bar bytes ≡ true → keeps_from wide s bytes m x ≡ true
+
+step_kept : (wide : Bool) (c : ℕ) (bytes : List ℕ) (m : Moment) (x : ℤ) → IsWhole wide m x → AllKept wide bytes m x → (s : State) (bar : Bar) (o : Option (State × Item))
+    → pattern_step s c ≡ o → is_separable_from wide s bar (c ∷ bytes) ≡ true → keeps_from wide s (c ∷ bytes) m x ≡ true
+step_kept wide c bytes m x whole rest s bar None e h = absurd (false≢true (sym (separable-none wide s bar c bytes e) ∙ h))
+step_kept wide c bytes m x whole rest s bar (Some next) e h =
+    let both = and_parts (takes_item wide bar next.1) (is_separable_from wide next.0 (bar_behind wide bar next.1) bytes) (sym (separable-more wide s bar c bytes next e) ∙ h) in
+    keeps-more wide s c bytes m x next e
+    ∙ and_from (keeps_item wide next.1 m x) (keeps_from wide next.0 bytes m x) (kept_item wide bar next.1 m x whole both.0) (rest next.0 (bar_behind wide bar next.1) both.1)
+
+all_kept : (wide : Bool) (bytes : List ℕ) (m : Moment) (x : ℤ) → IsWhole wide m x → AllKept wide bytes m x
+unfolding keeps_from
+all_kept wide [] m x whole s bar h = refl
+all_kept wide (c ∷ bytes) m x whole s bar h = step_kept wide c bytes m x whole (all_kept wide bytes m x whole) s bar (pattern_step s c) refl h
+
+pub whole_kept : (wide : Bool) (bytes : List ℕ) (m : Moment) (x : ℤ) → is_separable wide bytes ≡ true → IsTime m.time → IsOffset x
+    → keeps_year wide (year_of m.date) ≡ true → keeps_year wide (iso_year_of m.date) ≡ true → m.time.fraction % nanos_per_second ≡ 0
+    → unsigned_abs x % 3_600 ≡ 0 → keeps_stamp (epoch_second m -ℤ x) ≡ true → IsKept wide bytes m x
+whole_kept wide bytes m x separable time near year iso_year fraction hours stamp = record {
+    time = time;
+    offset = near;
+    items = all_kept wide bytes m x (record { year = year; iso_year = iso_year; fraction = fraction; hours = hours; stamp = stamp }) Outside Free separable;
+  }

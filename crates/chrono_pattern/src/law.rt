@@ -1,5 +1,5 @@
 //! Laws of patterns, each as the contract of a function.
-ghost use Rattle.std.specs.Prelude.{◌≡◌, ◌+◌, ◌-◌, ◌/◌, ◌%◌, ℕ, ℤ, Bool, List, false, true, Some, Ok, Err, codes, neg_ℤ, pos};
+ghost use Rattle.std.specs.Prelude.{◌≡◌, ◌+◌, ◌-◌, ◌/◌, ◌%◌, ℕ, ℤ, Bool, List, false, true, Some, Ok, Err, codes, neg_ℤ, pos, ◌-ℤ◌, unsigned_abs};
 ghost use Rattle.std.specs.Str.{IsAscii};
 ghost use Rattle.chrono_datetime.specs.Days.{IsDate, day_of, month_of, ordinal_of, year_of};
 ghost use Rattle.chrono_datetime.specs.Moment.{Moment, moment};
@@ -9,13 +9,14 @@ ghost use Rattle.chrono_datetime.specs.Time.{IsTime, TimeOfDay, time_at};
 ghost use Rattle.chrono_datetime.specs.Weekday.{days_from_monday, days_from_sunday};
 ghost use Rattle.chrono_datetime.specs.Weeks.{iso_week_of, iso_year_of, weekday_of};
 ghost use Rattle.chrono_datetime.specs.declared.Weekday.TheVariants.{Mon};
+ghost use Rattle.chrono_instant.specs.Instants.{epoch_second};
 ghost use Rattle.chrono_instant.specs.Offsets.{IsOffset};
 ghost use Rattle.chrono_pattern.specs.DateParts.{is_present, names_date};
 ghost use Rattle.chrono_pattern.specs.NamedParts.{named_parts};
 ghost use Rattle.chrono_pattern.specs.Parses.{IsDateBy, IsMomentBy, IsTimeBy, IsZonedBy};
 ghost use Rattle.chrono_pattern.specs.Parts.{no_parts};
 ghost use Rattle.chrono_pattern.specs.PatternItems.{pattern_items};
-ghost use Rattle.chrono_pattern.specs.Kept.{IsKept, given_parts, tells_date, tells_moment, tells_time, tells_zoned};
+ghost use Rattle.chrono_pattern.specs.Kept.{IsKept, given_parts, keeps_stamp, keeps_year, tells_date, tells_moment, tells_time, tells_zoned};
 ghost use Rattle.chrono_pattern.specs.ReadBack.{parts_of};
 ghost use Rattle.chrono_pattern.specs.Separable.{is_separable};
 ghost use Rattle.chrono_pattern.specs.Reads.{text_read};
@@ -183,11 +184,15 @@ pub fn fields_tell_what_is_named()
 ///
 /// A pattern keeps a date-time whose fraction and offset have no more digits than it writes, and whose years are in its range.
 ///
+/// - It keeps each whole second of those years at an offset of whole hours.
 /// - A text gives the parts that the pattern names, each as the date-time has it.
 /// - It is of the date, if the pattern names one, and tells the century or the year is from 1970 to 2069.
 /// - It is of the time of day, if the pattern names one, and what it does not name of the second is 0.
 /// - It is of the date-time, and of the one with its offset, if the pattern names and tells them so.
 pub fn separable_patterns_read_back()
+    ensures whole { (wide : Bool) → (bytes : List ℕ) → (m : Moment) → (x : ℤ) → is_separable wide bytes ≡ true → IsTime m.time → IsOffset x
+        → keeps_year wide (year_of m.date) ≡ true → keeps_year wide (iso_year_of m.date) ≡ true → m.time.fraction % nanos_per_second ≡ 0
+        → unsigned_abs x % 3_600 ≡ 0 → keeps_stamp (epoch_second m -ℤ x) ≡ true → IsKept wide bytes m x }
     ensures parts { (wide : Bool) → (bytes : List ℕ) → (m : Moment) → (x : ℤ) → is_separable wide bytes ≡ true → IsKept wide bytes m x
         → text_read bytes (text_at_offset bytes m x) ≡ Ok (parts_of (given_parts bytes m.time) m x) }
     ensures date { (wide : Bool) → (bytes : List ℕ) → (m : Moment) → is_separable wide bytes ≡ true → IsKept wide bytes m (pos 0)
