@@ -208,7 +208,7 @@ fewer_group DateAndTime q m x w y e =
     let month = with_named MonthOfYear (with_named DayOfWeek q) in
     let day = with_number_field SpacedDay month in
     fewer_part DayOfWeek q m x w y (fewer_part MonthOfYear (with_named DayOfWeek q) m x w y
-      (fewer_number SpacedDay month m x w y (fewer_clock Hour day m x w y (fewer_number Year (with_clock Hour day) m x w y e))))
+    (fewer_number SpacedDay month m x w y (fewer_clock Hour day m x w y (fewer_number Year (with_clock Hour day) m x w y e))))
 
 abbrev stamp_free : Item → Bool
 stamp_free (Zoned Stamp) = false
@@ -229,7 +229,7 @@ fewer_item (Zoned Iso8601) q m x w y free e =
     let date = with_group YearMonthDay q in
     let clock = with_group HourMinuteSecond date in
     fewer_group YearMonthDay q m x w y (fewer_group HourMinuteSecond date m x w y
-      (fewer_part NanosecondOfSecond clock m x w y (fewer_part OffsetFromUtc (with_named NanosecondOfSecond clock) m x w y e)))
+    (fewer_part NanosecondOfSecond clock m x w y (fewer_part OffsetFromUtc (with_named NanosecondOfSecond clock) m x w y e)))
 
 -- ---- a number writes the same of both
 
@@ -386,9 +386,9 @@ group_same DateAndTime q m x w y e =
     let days = fewer_clock Hour day m x w y clocks in
     let months = fewer_number SpacedDay month m x w y days in
     two_same _ _ _ _ 32 (two_same _ _ _ _ 32
-      (two_same _ _ _ _ 32 (two_same _ _ _ _ 32 (word_same WeekdayLetters q m x w y (fewer_part MonthOfYear weekday m x w y months)) (word_same MonthLetters weekday m x w y months))
-        (number_same SpacedDay Usual month m x w y days))
-      (clock_same Hour day m x w y clocks)) (number_same Year Usual clock m x w y e)
+    (two_same _ _ _ _ 32 (two_same _ _ _ _ 32 (word_same WeekdayLetters q m x w y (fewer_part MonthOfYear weekday m x w y months)) (word_same MonthLetters weekday m x w y months))
+    (number_same SpacedDay Usual month m x w y days))
+    (clock_same Hour day m x w y clocks)) (number_same Year Usual clock m x w y e)
 
 -- ---- an item
 
@@ -526,9 +526,9 @@ step_again wide c bytes m x w y rest s bar q (Some next) e h none same =
     let free = free_item wide bar next.1 next.0 bytes q both.0 unstamped in
     let behind = rest next.0 (bar_behind wide bar next.1) (with_item next.1 q) both.1 unstamped (subst (λ (p : Parsed). Same p m x w y) more same) in (
       text_from-more s c bytes m x next e
-      ∙ ap (λ (l : List ℕ). l ++ text_from next.0 bytes m x) (item_same next.1 q m x w y free behind.1)
-      ∙ ap (λ (l : List ℕ). text_of_item next.1 w y ++ l) behind.0
-      ∙ sym (text_from-more s c bytes w y next e),
+          ∙ ap (λ (l : List ℕ). l ++ text_from next.0 bytes m x) (item_same next.1 q m x w y free behind.1)
+          ∙ ap (λ (l : List ℕ). text_of_item next.1 w y ++ l) behind.0
+          ∙ sym (text_from-more s c bytes w y next e),
       fewer_item next.1 q m x w y free behind.1,
     )
 
@@ -736,5 +736,5 @@ zoned_again wide bytes m x w y separable kept none is =
     let fits = ap (λ (p : Parsed). zoned_fits p w y) (sym (same_parts wide bytes m x is.parts separable kept is.read)) ∙ is.fits in
     let both = and_parts (counts (kept_parts bytes m x).offset y) (moment_fits (kept_parts bytes m x) w y) fits in
     let offset = counted_same (given_parts bytes m.time).offset (named_parts bytes).offset x y
-        (ap (λ (p : Parsed). p.offset) (kept_like wide bytes m x separable kept).same) both.0 in
+    (ap (λ (p : Parsed). p.offset) (kept_like wide bytes m x separable kept).same) both.0 in
     fits_again wide bytes m x w y separable kept none both.1 offset

@@ -104,11 +104,11 @@ kept_date_fits wide bytes m x separable kept tells =
 pub date_back : (wide : Bool) (bytes : List ℕ) (m : Moment) → is_separable wide bytes ≡ true → IsKept wide bytes m (pos 0) → names_date (named_parts bytes) ≡ true
     → tells_date (named_parts bytes) m.date ≡ true → IsDateBy bytes (pattern_text bytes m) m.date
 date_back wide bytes m separable kept named tells = record {
-    parts = kept_parts bytes m (pos 0);
-    read = parts_back wide bytes m (pos 0) separable kept;
-    named = kept_date_named wide bytes m (pos 0) separable kept ∙ named;
-    fits = kept_date_fits wide bytes m (pos 0) separable kept tells;
-  }
+  parts = kept_parts bytes m (pos 0);
+  read = parts_back wide bytes m (pos 0) separable kept;
+  named = kept_date_named wide bytes m (pos 0) separable kept ∙ named;
+  fits = kept_date_fits wide bytes m (pos 0) separable kept tells;
+}
 
 -- ---- the fraction
 
@@ -188,7 +188,7 @@ second_counts : (wide : Bool) (bytes : List ℕ) (m : Moment) (x : ℤ) → is_s
 second_counts wide bytes m x separable kept told =
     counts_told (given_parts bytes m.time).second (shown m.time)
     (told_of_marks (given_parts bytes m.time).second (named_parts bytes).second (shown m.time) (shown m.time)
-      (ap (λ (p : Parsed). p.second) (kept_like wide bytes m x separable kept).same) ∙ told)
+    (ap (λ (p : Parsed). p.second) (kept_like wide bytes m x separable kept).same) ∙ told)
 
 own_clock_fits : (q : Parsed) (m : Moment) (x : ℤ) → clock_fits (parts_of q m x) m.time ≡ true
 unfolding clock_fits
@@ -215,11 +215,11 @@ kept_time_named wide bytes m x separable kept named =
 pub time_back : (wide : Bool) (bytes : List ℕ) (m : Moment) → is_separable wide bytes ≡ true → IsKept wide bytes m (pos 0) → names_time (named_parts bytes) ≡ true
     → tells_time (named_parts bytes) m.time ≡ true → IsTimeBy bytes (pattern_text bytes m) m.time
 time_back wide bytes m separable kept named tells = record {
-    parts = kept_parts bytes m (pos 0);
-    read = parts_back wide bytes m (pos 0) separable kept;
-    named = kept_time_named wide bytes m (pos 0) separable kept named;
-    fits = kept_time_fits wide bytes m (pos 0) separable kept tells;
-  }
+  parts = kept_parts bytes m (pos 0);
+  read = parts_back wide bytes m (pos 0) separable kept;
+  named = kept_time_named wide bytes m (pos 0) separable kept named;
+  fits = kept_time_fits wide bytes m (pos 0) separable kept tells;
+}
 
 -- ---- the date-time
 
@@ -268,7 +268,7 @@ kept_stamped_fits wide bytes m x separable kept tells =
     let told = and_parts (if is_leap m.time then is_present q.second else true) (is_told q.nanosecond (pos (fraction_of m.time))) tells in
     and_from _ _ (own_clock_fits (given_parts bytes m.time) m x)
     (and_from _ _ (own_second (given_parts bytes m.time).second q.second m.time (ap (λ (p : Parsed). p.second) (kept_like wide bytes m x separable kept).same) told.0)
-      (fraction_counts bytes m.time told.1))
+    (fraction_counts bytes m.time told.1))
 
 kept_by : (wide : Bool) (bytes : List ℕ) (m : Moment) (x : ℤ) → is_separable wide bytes ≡ true → IsKept wide bytes m x
     → (if is_present (named_parts bytes).timestamp then tells_fraction (named_parts bytes) m.time else tells_time (named_parts bytes) m.time) ≡ true
@@ -296,11 +296,11 @@ kept_moment_fits wide bytes m x separable kept tells =
 pub moment_back : (wide : Bool) (bytes : List ℕ) (m : Moment) → is_separable wide bytes ≡ true → IsKept wide bytes m (pos 0) → names_moment (named_parts bytes) ≡ true
     → tells_moment (named_parts bytes) m ≡ true → IsMomentBy bytes (pattern_text bytes m) m
 moment_back wide bytes m separable kept named tells = record {
-    parts = kept_parts bytes m (pos 0);
-    read = parts_back wide bytes m (pos 0) separable kept;
-    named = kept_moment_named wide bytes m (pos 0) separable kept named;
-    fits = kept_moment_fits wide bytes m (pos 0) separable kept tells;
-  }
+  parts = kept_parts bytes m (pos 0);
+  read = parts_back wide bytes m (pos 0) separable kept;
+  named = kept_moment_named wide bytes m (pos 0) separable kept named;
+  fits = kept_moment_fits wide bytes m (pos 0) separable kept tells;
+}
 
 -- ---- with its offset
 
@@ -431,7 +431,7 @@ pub whole_kept : (wide : Bool) (bytes : List ℕ) (m : Moment) (x : ℤ) → is_
     → keeps_year wide (year_of m.date) ≡ true → keeps_year wide (iso_year_of m.date) ≡ true → m.time.fraction % nanos_per_second ≡ 0
     → unsigned_abs x % 3_600 ≡ 0 → keeps_stamp (epoch_second m -ℤ x) ≡ true → IsKept wide bytes m x
 whole_kept wide bytes m x separable time near year iso_year fraction hours stamp = record {
-    time = time;
-    offset = near;
-    items = all_kept wide bytes m x (record { year = year; iso_year = iso_year; fraction = fraction; hours = hours; stamp = stamp }) Outside Free separable;
-  }
+  time = time;
+  offset = near;
+  items = all_kept wide bytes m x (record { year = year; iso_year = iso_year; fraction = fraction; hours = hours; stamp = stamp }) Outside Free separable;
+}

@@ -1,5 +1,6 @@
 //! Laws of patterns, each as the contract of a function.
-ghost use Rattle.std.specs.Prelude.{◌≡◌, ◌+◌, ◌-◌, ◌/◌, ◌%◌, ℕ, ℤ, Bool, List, false, true, Some, Ok, Err, codes, neg_ℤ, pos, ◌-ℤ◌, unsigned_abs};
+ghost use Rattle.std.specs.Prelude.{◌≡◌, ◌<◌, ◌+◌, ◌-◌, ◌*◌, ◌/◌, ◌%◌, ℕ, ℤ, Bool, List, [], false, true, Some, Ok, Err, codes, neg_ℤ, pos, ◌-ℤ◌, unsigned_abs};
+ghost use Rattle.std.specs.List.{list_all};
 ghost use Rattle.std.specs.Str.{IsAscii};
 ghost use Rattle.chrono_datetime.specs.Days.{IsDate, day_of, month_of, ordinal_of, year_of};
 ghost use Rattle.chrono_datetime.specs.Moment.{Moment, moment};
@@ -13,6 +14,10 @@ ghost use Rattle.chrono_instant.specs.Instants.{epoch_second};
 ghost use Rattle.chrono_instant.specs.Offsets.{IsOffset};
 ghost use Rattle.chrono_pattern.specs.DateParts.{is_present, names_date};
 ghost use Rattle.chrono_pattern.specs.NamedParts.{named_parts};
+ghost use Rattle.chrono_text.specs.Numbers.{signed};
+ghost use Rattle.chrono_pattern.specs.OffsetTexts.{offset_written};
+ghost use Rattle.chrono_pattern.specs.Progress.{is_of};
+ghost use Rattle.chrono_pattern.specs.declared.class.Class.TheVariants.{Gap};
 ghost use Rattle.chrono_pattern.specs.Parses.{IsDateBy, IsMomentBy, IsTimeBy, IsZonedBy};
 ghost use Rattle.chrono_pattern.specs.Parts.{no_parts};
 ghost use Rattle.chrono_pattern.specs.PatternItems.{pattern_items};
@@ -145,6 +150,16 @@ pub fn known_readings_of_offsets()
           nanosecond = Some (pos 500_000_000);
           offset = Some (pos 0);
         }) }
+{}
+
+/// States that `%z` reads each offset of less than a day as ISO 8601 writes it: a sign, hours and minutes of two digits, and a colon
+/// between them or nothing. Any other colons and blanks are read there too.
+pub fn offsets_are_read_as_they_are_written()
+    ensures written { (negative : Bool) → (hours minutes : ℕ) → (between : List ℕ) → hours < 24 → minutes < 60 → list_all (is_of Gap) between ≡ true
+        → text_read (codes "%z") (offset_written negative hours between minutes)
+        ≡ Ok (record no_parts { offset = Some (signed negative (hours * 3_600 + minutes * 60)) }) }
+    ensures colon { offset_written true 9 (codes ":") 30 ≡ codes "-09:30" }
+    ensures nothing { offset_written false 9 [] 30 ≡ codes "+0930" }
 {}
 
 /// States where known texts of an offset and of the seconds from 1970 are wrong, by the bytes that are left:
