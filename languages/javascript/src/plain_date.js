@@ -3,7 +3,7 @@
 import { annotation, ISO8601, refuseArgument, refuseOther, withoutAnnotation } from "./calendar.js";
 import { daysOf, Duration, durationOf } from "./duration.js";
 import { library, NONE, readDate, textOfDate } from "./library.js";
-import { clipped, integer, isInt32, isUint32, largestUnitOf, overflowOf } from "./numbers.js";
+import { clipped, integer, isInt32, isUint32, largestUnitOf, optionsOf, overflowOf } from "./numbers.js";
 import { PlainDateTime } from "./plain_date_time.js";
 import { dateText, forTemporal } from "./texts.js";
 
