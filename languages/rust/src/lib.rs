@@ -2,7 +2,13 @@
 #![no_std]
 #![warn(missing_docs)]
 
+#[cfg(feature = "alloc")]
+extern crate alloc;
+#[cfg(feature = "std")]
+extern crate std;
+
 mod calls;
+pub mod chrono;
 mod date;
 mod date_range;
 mod date_time;
