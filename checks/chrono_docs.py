@@ -49,12 +49,14 @@ proved-calendar = {{ path = "{package}", features = ["std"] }}
 
 
 def blocks(path):
-    """The examples of a file, each with its line and its lines of Rust."""
+    """The examples of a file, each with its line and its lines of Rust. One that is not closed ends with its comment."""
     found, fence = None, None
     with open(path, encoding="utf-8") as it:
         for number, line in enumerate(it, 1):
             comment = re.match(r"\s*//[/!] ?(.*)", line)
             if not comment:
+                if found is not None:
+                    yield found
                 found = None
             elif comment[1].strip().startswith("```"):
                 if found is None:

@@ -3,7 +3,7 @@
 use core::borrow::Borrow;
 
 use super::{Fixed, InternalKind, Item, Numeric, Pad, ParseResult, Parsed};
-use super::{BAD_FORMAT, INVALID, OUT_OF_RANGE, TOO_LONG, TOO_SHORT};
+use super::{BAD_FORMAT, INVALID, NOT_ENOUGH, OUT_OF_RANGE, TOO_LONG, TOO_SHORT};
 use crate::chrono::month::NAMES;
 use crate::chrono::{FixedOffset, Weekday};
 
@@ -93,11 +93,10 @@ pub(crate) fn read_fixed(text: &str, fixed: Fixed) -> ParseResult<Parsed> {
 pub(crate) fn read_instant(text: &str) -> ParseResult<Parsed> {
     let mut fields = Parsed::new();
     let rest = parse_and_remainder(&mut fields, text, DATE_ITEMS.iter())?;
-    let behind = rest.trim_start();
-    let time = match behind.strip_prefix(['T', 't']) {
+    let is_between = |it: char| it.eq_ignore_ascii_case(&'T') || it.is_whitespace();
+    let time = match rest.strip_prefix(is_between) {
         Some(time) => time,
-        None if behind.len() < rest.len() => behind,
-        None if rest.is_empty() => return Err(TOO_SHORT),
+        None if rest.is_empty() => return Err(NOT_ENOUGH),
         None => return Err(INVALID),
     };
     let offset = Item::Fixed(Fixed::TimezoneOffsetZ);
@@ -372,7 +371,7 @@ fn some_space(text: &str) -> ParseResult<&str> {
 fn read_rfc2822<'t>(fields: &mut Parsed, text: &'t str) -> ParseResult<&'t str> {
     let mut rest = text.trim_start();
     if let Ok(behind) = read_part(fields, rest, &Fixed::ShortWeekdayName) {
-        rest = read_literal(behind, ",")?.trim_start();
+        rest = behind.strip_prefix(',').ok_or(INVALID)?.trim_start();
     }
     rest = some_space(read_number(fields, rest, &Numeric::Day)?)?;
     rest = some_space(read_part(fields, rest, &Fixed::ShortMonthName)?)?;
@@ -391,7 +390,7 @@ fn read_rfc2822<'t>(fields: &mut Parsed, text: &'t str) -> ParseResult<&'t str> 
         rest = read_exactly(fields, behind.trim_start(), (Numeric::Second, 2), "")?;
     }
     let (seconds, mut rest) = named_offset(some_space(rest)?)?;
-    fields.set_offset(seconds)?;
+    seconds.map_or(Ok(()), |it| fields.set_offset(it))?;
     while let Some(behind) = comment(rest.trim_start()) {
         rest = behind;
     }
@@ -430,18 +429,16 @@ const ZONES: [(&str, i64); 10] = [
     ("PST", -8),
 ];
 
-/// An offset of RFC 2822, by number or by name, and the rest.
-fn named_offset(text: &str) -> ParseResult<(i64, &str)> {
+/// An offset of RFC 2822, by number or by name, and the rest. There is none by a name that RFC 2822 has not.
+fn named_offset(text: &str) -> ParseResult<(Option<i64>, &str)> {
     let end = text.find(|it: char| !it.is_ascii_alphabetic()).unwrap_or(text.len());
     let (name, rest) = text.split_at(end);
     if name.is_empty() {
-        return offset(text, false, false, Ok);
+        let (seconds, rest) = offset(text, false, false, Ok)?;
+        return Ok((Some(seconds), rest));
     }
+    // (a letter that says nothing of an offset is as good as none)
+    let of_letter = (name.len() == 1 && !name.eq_ignore_ascii_case("J")).then_some(0);
     let found = ZONES.iter().find(|(zone, _)| zone.eq_ignore_ascii_case(name));
-    match found {
-        Some((_, hours)) => Ok((hours * 3_600, rest)),
-        // (a name that says nothing counts as no offset)
-        None if name.len() == 1 && !name.eq_ignore_ascii_case("J") => Ok((0, rest)),
-        None => Err(INVALID),
-    }
+    Ok((found.map(|(_, hours)| hours * 3_600).or(of_letter), rest))
 }

@@ -358,6 +358,7 @@ fn whole_year(year: Option<i32>, hundreds: Option<i32>, rest: Option<i32>) -> Pa
     }
     match (year, hundreds, rest) {
         (Some(year), ..) if fits_year(year, None, hundreds, rest) => Ok(Some(year)),
+        (Some(year), ..) if year < 0 => Err(OUT_OF_RANGE),
         (Some(_), ..) => Err(IMPOSSIBLE),
         (None, Some(hundreds), Some(rest)) => {
             let year = hundreds.checked_mul(100).and_then(|it| it.checked_add(rest));

@@ -280,12 +280,13 @@ fn write_padded_year(w: &mut dyn Write, year: i32, pad: Pad) -> fmt::Result {
 /// Writes a point and so many digits of the fraction, or the fewest of three, six and nine that hold it.
 fn write_fraction(w: &mut dyn Write, time: NaiveTime, digits: Option<usize>) -> fmt::Result {
     let nanos = time.nanosecond() % NANOS;
-    let digits = digits.unwrap_or(match nanos {
-        0 => return Ok(()),
-        it if it % 1_000_000 == 0 => 3,
-        it if it % 1_000 == 0 => 6,
-        _ => 9,
-    });
+    let digits = match (digits, nanos) {
+        (Some(digits), _) => digits,
+        (None, 0) => return Ok(()),
+        (None, it) if it % 1_000_000 == 0 => 3,
+        (None, it) if it % 1_000 == 0 => 6,
+        (None, _) => 9,
+    };
     w.write_str(".")?;
     write_digits(w, time, digits)
 }
