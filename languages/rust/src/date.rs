@@ -170,6 +170,18 @@ impl Date {
         calendar_day(self.number()) as u32
     }
 
+    /// The year, the month and the day of the month, by one conversion.
+    ///
+    /// ```
+    /// use proved_calendar::Date;
+    /// assert_eq!(Date::from_ymd(2024, 2, 29).unwrap().year_month_day(), (2024, 2, 29));
+    /// ```
+    #[must_use]
+    pub fn year_month_day(self) -> (i32, u32, u32) {
+        let found = calendar_split(self.number());
+        (found.year, u32::from(found.month), u32::from(found.day))
+    }
+
     /// The day of the year, from 1 to 366.
     ///
     /// ```

@@ -9,6 +9,7 @@ extern crate std;
 
 mod calls;
 pub mod chrono;
+pub mod columns;
 mod date;
 mod date_range;
 mod date_time;

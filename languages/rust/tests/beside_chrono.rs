@@ -51,10 +51,11 @@ struct Case {
 const YEARS: (i64, i64) = (-262_143, 262_142);
 
 const SPECIFIERS: [&str; 60] = [
-    "%Y", "%C", "%y", "%m", "%b", "%B", "%h", "%d", "%e", "%a", "%A", "%w", "%u", "%G", "%g", "%V", "%j",
-    "%D", "%x", "%F", "%v", "%H", "%k", "%I", "%l", "%P", "%p", "%M", "%S", "%f", "%.f", "%.3f", "%.6f", "%.9f", "%3f",
-    "%6f", "%9f", "%R", "%T", "%X", "%r", "%Z", "%z", "%:z", "%::z", "%:::z", "%c", "%+", "%s", "%t", "%n", "%%", "%-d",
-    "%_m", "%0e", "%-Y", "%_Y", "%_j", "%-H", "%_f",
+    "%Y", "%C", "%y", "%m", "%b", "%B", "%h", "%d", "%e", "%a", "%A", "%w", "%u", "%G", "%g", "%V",
+    "%j", "%D", "%x", "%F", "%v", "%H", "%k", "%I", "%l", "%P", "%p", "%M", "%S", "%f", "%.f",
+    "%.3f", "%.6f", "%.9f", "%3f", "%6f", "%9f", "%R", "%T", "%X", "%r", "%Z", "%z", "%:z", "%::z",
+    "%:::z", "%c", "%+", "%s", "%t", "%n", "%%", "%-d", "%_m", "%0e", "%-Y", "%_Y", "%_j", "%-H",
+    "%_f",
 ];
 
 /// Whole patterns, which texts can be read by.
@@ -90,15 +91,33 @@ fn pattern(source: &mut Source) -> String {
 }
 
 fn date(source: &mut Source) -> (i32, u32, u32) {
-    let (first, last) = source.one_of(&[(1_900, 2_100), (-9, 9), (9_990, 10_010), YEARS, (-262_143, -262_143)]);
-    let last = if source.from(0, 20) == 0 { YEARS.1 } else { last };
+    let (first, last) = source.one_of(&[
+        (1_900, 2_100),
+        (-9, 9),
+        (9_990, 10_010),
+        YEARS,
+        (-262_143, -262_143),
+    ]);
+    let last = if source.from(0, 20) == 0 {
+        YEARS.1
+    } else {
+        last
+    };
     let year = source.from(first, last) as i32;
-    let day = if source.from(0, 3) == 0 { source.from(27, 32) } else { source.from(0, 31) };
+    let day = if source.from(0, 3) == 0 {
+        source.from(27, 32)
+    } else {
+        source.from(0, 31)
+    };
     (year, source.from(0, 13) as u32, day as u32)
 }
 
 fn case(source: &mut Source) -> Case {
-    let mut clock = (source.from(0, 24) as u32, source.from(0, 60) as u32, source.from(0, 60) as u32);
+    let mut clock = (
+        source.from(0, 24) as u32,
+        source.from(0, 60) as u32,
+        source.from(0, 60) as u32,
+    );
     let mut nanos = source.from(0, 999_999_999) as u32;
     nanos -= nanos % source.one_of(&[1, 1_000, 1_000_000, 1_000_000_000]);
     if source.from(0, 3) == 0 {
@@ -110,19 +129,32 @@ fn case(source: &mut Source) -> Case {
         other: date(source),
         clock,
         nanos,
-        length: (source.from(-(reach - 1) / 2, reach / 2) * 2, source.from(-2_000_000_000, 2_000_000_000)),
+        length: (
+            source.from(-(reach - 1) / 2, reach / 2) * 2,
+            source.from(-2_000_000_000, 2_000_000_000),
+        ),
         small: source.one_of(&[0, 1, 2, 11, 12, 13, 59, 60, 365, 366, 5_000, u32::MAX - 1]),
         weekday: source.from(0, 6) as u8,
-        offset: source.from(-86_400, 86_400) as i32 / source.one_of(&[1, 2]) * source.one_of(&[0, 1, 1]),
+        offset: source.from(-86_400, 86_400) as i32 / source.one_of(&[1, 2])
+            * source.one_of(&[0, 1, 1]),
         pattern: pattern(source),
-        change: (source.from(0, 2) == 0)
-            .then(|| (source.from(0, 25) as usize, source.one_of(&['0', '9', ' ', '-', ':', 'Z', '+', 'a', '.', 'é', 'T']))),
+        change: (source.from(0, 2) == 0).then(|| {
+            (
+                source.from(0, 25) as usize,
+                source.one_of(&['0', '9', ' ', '-', ':', 'Z', '+', 'a', '.', 'é', 'T']),
+            )
+        }),
     }
 }
 
 /// The text with a character changed.
 fn changed(text: &str, change: Option<(usize, char)>) -> String {
-    let place = |(at, other)| text.chars().enumerate().map(move |(it, old)| if it == at { other } else { old }).collect();
+    let place = |(at, other)| {
+        text.chars()
+            .enumerate()
+            .map(move |(it, old)| if it == at { other } else { old })
+            .collect()
+    };
     change.map_or(text.to_string(), place)
 }
 
@@ -389,10 +421,18 @@ fn texts() {
     for _ in 0..CASES / 4 {
         let case = case(&mut source);
         for text in theirs::texts(&case).unwrap_or_default() {
-            let (one, other) = (ours::of_texts(&case.pattern, &text), read_by_chrono(&case.pattern, &text));
+            let (one, other) = (
+                ours::of_texts(&case.pattern, &text),
+                read_by_chrono(&case.pattern, &text),
+            );
             count += 1;
             if one != other && wrong.len() < 3_000 {
-                writeln!(wrong, "{text:?} by {:?}\n{one}\nchrono\n{other}", case.pattern).unwrap();
+                writeln!(
+                    wrong,
+                    "{text:?} by {:?}\n{one}\nchrono\n{other}",
+                    case.pattern
+                )
+                .unwrap();
             }
         }
     }

@@ -6,7 +6,9 @@ use core::str::FromStr;
 
 use super::date_iter::{NaiveDateDaysIterator, NaiveDateWeeksIterator};
 use super::format::{self, DelayedFormat, Parsed, StrftimeItems};
-use super::{Datelike, IsoWeek, Months, NaiveDateTime, NaiveTime, NaiveWeek, ParseResult, TimeDelta};
+use super::{
+    Datelike, IsoWeek, Months, NaiveDateTime, NaiveTime, NaiveWeek, ParseResult, TimeDelta,
+};
 use super::{ParseError, Weekday};
 use crate::Date;
 
@@ -122,7 +124,12 @@ impl NaiveDate {
 
     /// The `n`-th such weekday of a month, from 1; `None` if the month has fewer.
     #[must_use]
-    pub fn from_weekday_of_month_opt(year: i32, month: u32, weekday: Weekday, n: u8) -> Option<NaiveDate> {
+    pub fn from_weekday_of_month_opt(
+        year: i32,
+        month: u32,
+        weekday: Weekday,
+        n: u8,
+    ) -> Option<NaiveDate> {
         Date::from_weekday_of_month(year, month, weekday.counted(), u32::from(n)).map(NaiveDate)
     }
 
@@ -140,7 +147,10 @@ impl NaiveDate {
     /// # Errors
     ///
     /// If no beginning of the text fits the pattern, or if it gives no date.
-    pub fn parse_and_remainder<'a>(text: &'a str, pattern: &str) -> ParseResult<(NaiveDate, &'a str)> {
+    pub fn parse_and_remainder<'a>(
+        text: &'a str,
+        pattern: &str,
+    ) -> ParseResult<(NaiveDate, &'a str)> {
         let (fields, rest) = Parsed::of_beginning(text, pattern)?;
         Ok((fields.to_naive_date()?, rest))
     }
@@ -148,13 +158,17 @@ impl NaiveDate {
     /// The same day so many months later, or the last day of a shorter month; `None` if it is out of range.
     #[must_use]
     pub fn checked_add_months(self, months: Months) -> Option<NaiveDate> {
-        self.0.checked_add_months(i64::from(months.0)).map(NaiveDate)
+        self.0
+            .checked_add_months(i64::from(months.0))
+            .map(NaiveDate)
     }
 
     /// The same day so many months earlier, or the last day of a shorter month; `None` if it is out of range.
     #[must_use]
     pub fn checked_sub_months(self, months: Months) -> Option<NaiveDate> {
-        self.0.checked_add_months(-i64::from(months.0)).map(NaiveDate)
+        self.0
+            .checked_add_months(-i64::from(months.0))
+            .map(NaiveDate)
     }
 
     /// The date so many days later; `None` if it is out of range.
@@ -305,10 +319,34 @@ macro_rules! at_time {
 }
 
 at_time!(
-    (and_hms_opt, and_hms, from_hms_opt, [], "an hour, a minute and a second"),
-    (and_hms_milli_opt, and_hms_milli, from_hms_milli_opt, [milli], "an hour, a minute, a second and milliseconds"),
-    (and_hms_micro_opt, and_hms_micro, from_hms_micro_opt, [micro], "an hour, a minute, a second and microseconds"),
-    (and_hms_nano_opt, and_hms_nano, from_hms_nano_opt, [nano], "an hour, a minute, a second and nanoseconds")
+    (
+        and_hms_opt,
+        and_hms,
+        from_hms_opt,
+        [],
+        "an hour, a minute and a second"
+    ),
+    (
+        and_hms_milli_opt,
+        and_hms_milli,
+        from_hms_milli_opt,
+        [milli],
+        "an hour, a minute, a second and milliseconds"
+    ),
+    (
+        and_hms_micro_opt,
+        and_hms_micro,
+        from_hms_micro_opt,
+        [micro],
+        "an hour, a minute, a second and microseconds"
+    ),
+    (
+        and_hms_nano_opt,
+        and_hms_nano,
+        from_hms_nano_opt,
+        [nano],
+        "an hour, a minute, a second and nanoseconds"
+    )
 );
 
 impl NaiveDate {

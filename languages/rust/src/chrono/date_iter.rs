@@ -58,7 +58,9 @@ impl Iterator for NaiveDateDaysIterator {
     }
 
     fn size_hint(&self) -> (usize, Option<usize>) {
-        let left = self.next.map_or(0, |date| (Date::MAX - date.0) as usize + 1);
+        let left = self
+            .next
+            .map_or(0, |date| (Date::MAX - date.0) as usize + 1);
         (left, Some(left))
     }
 }
@@ -86,7 +88,9 @@ impl Iterator for NaiveDateWeeksIterator {
     }
 
     fn size_hint(&self) -> (usize, Option<usize>) {
-        let left = self.next.map_or(0, |date| (Date::MAX - date.0) as usize / 7);
+        let left = self
+            .next
+            .map_or(0, |date| (Date::MAX - date.0) as usize / 7);
         (left, Some(left))
     }
 }

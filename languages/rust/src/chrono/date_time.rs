@@ -8,7 +8,9 @@ use core::time::Duration as StdDuration;
 use super::date::by_call;
 use super::format::{self, DelayedFormat, Parsed, StrftimeItems};
 use super::time::{write_moment, DAY, NANOS};
-use super::{DateTime, Datelike, Days, FixedOffset, IsoWeek, MappedLocalTime, Months, NaiveDate, NaiveTime};
+use super::{
+    DateTime, Datelike, Days, FixedOffset, IsoWeek, MappedLocalTime, Months, NaiveDate, NaiveTime,
+};
 use super::{ParseError, ParseResult, TimeDelta, TimeZone, Timelike, Utc, Weekday};
 use crate::calls::*;
 
@@ -95,7 +97,10 @@ impl NaiveDateTime {
 
     /// The date-time as the library takes it; not for a leap second that does not end a minute.
     fn moment(self) -> Moment {
-        let (second, nanos) = (self.time.num_seconds_from_midnight(), self.time.nanosecond());
+        let (second, nanos) = (
+            self.time.num_seconds_from_midnight(),
+            self.time.nanosecond(),
+        );
         calendar_date_time_new(self.date.num_days_from_ce(), second, nanos)
     }
 
@@ -113,7 +118,10 @@ impl NaiveDateTime {
     /// # Errors
     ///
     /// If no beginning of the text fits the pattern, or if it gives no date-time.
-    pub fn parse_and_remainder<'a>(text: &'a str, pattern: &str) -> ParseResult<(NaiveDateTime, &'a str)> {
+    pub fn parse_and_remainder<'a>(
+        text: &'a str,
+        pattern: &str,
+    ) -> ParseResult<(NaiveDateTime, &'a str)> {
         let (fields, rest) = Parsed::of_beginning(text, pattern)?;
         Ok((fields.to_naive_datetime_with_offset(0)?, rest))
     }
@@ -157,13 +165,15 @@ impl NaiveDateTime {
     #[deprecated(note = "it panics: use `timestamp_nanos_opt`")]
     #[must_use]
     pub fn timestamp_nanos(&self) -> i64 {
-        self.timestamp_nanos_opt().expect("the nanoseconds are no i64")
+        self.timestamp_nanos_opt()
+            .expect("the nanoseconds are no i64")
     }
 
     /// The nanoseconds since 1970-01-01T00:00:00; `None` if they are no `i64`.
     #[must_use]
     pub fn timestamp_nanos_opt(&self) -> Option<i64> {
-        let nanos = i128::from(self.timestamp()) * i128::from(NANOS) + i128::from(self.time.nanosecond());
+        let nanos =
+            i128::from(self.timestamp()) * i128::from(NANOS) + i128::from(self.time.nanosecond());
         i64::try_from(nanos).ok()
     }
 

@@ -76,7 +76,6 @@ pub mod naive {
     pub const MAX_DATETIME: NaiveDateTime = NaiveDateTime::MAX;
 }
 
-
 /// What a program that uses dates mostly wants: `use proved_calendar::chrono::prelude::*;`.
 pub mod prelude {
     pub use super::{

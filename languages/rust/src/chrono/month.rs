@@ -139,9 +139,8 @@ impl FromStr for Month {
     type Err = ParseMonthError;
 
     fn from_str(text: &str) -> Result<Month, ParseMonthError> {
-        let is_named = |it: &&str| {
-            text.eq_ignore_ascii_case(it) || text.eq_ignore_ascii_case(&it[..3])
-        };
+        let is_named =
+            |it: &&str| text.eq_ignore_ascii_case(it) || text.eq_ignore_ascii_case(&it[..3]);
         let place = NAMES.iter().position(|it| is_named(&it));
         place.map(|it| ALL[it]).ok_or(ParseMonthError(()))
     }

@@ -59,7 +59,9 @@ impl<T> MappedLocalTime<T> {
     pub fn map<U, F: FnMut(T) -> U>(self, mut function: F) -> MappedLocalTime<U> {
         match self {
             MappedLocalTime::Single(it) => MappedLocalTime::Single(function(it)),
-            MappedLocalTime::Ambiguous(one, other) => MappedLocalTime::Ambiguous(function(one), function(other)),
+            MappedLocalTime::Ambiguous(one, other) => {
+                MappedLocalTime::Ambiguous(function(one), function(other))
+            }
             MappedLocalTime::None => MappedLocalTime::None,
         }
     }
@@ -95,7 +97,9 @@ impl<T: fmt::Debug> MappedLocalTime<T> {
     pub fn unwrap(self) -> T {
         match self {
             MappedLocalTime::Single(it) => it,
-            MappedLocalTime::Ambiguous(one, other) => panic!("ambiguous local time, from {one:?} to {other:?}"),
+            MappedLocalTime::Ambiguous(one, other) => {
+                panic!("ambiguous local time, from {one:?} to {other:?}")
+            }
             MappedLocalTime::None => panic!("no such local time"),
         }
     }

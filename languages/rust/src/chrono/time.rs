@@ -70,13 +70,23 @@ impl NaiveTime {
 
     /// The same with milliseconds, which are 1,000 and more in a leap second; `None` if there is none.
     #[must_use]
-    pub fn from_hms_milli_opt(hour: u32, minute: u32, second: u32, milli: u32) -> Option<NaiveTime> {
+    pub fn from_hms_milli_opt(
+        hour: u32,
+        minute: u32,
+        second: u32,
+        milli: u32,
+    ) -> Option<NaiveTime> {
         NaiveTime::from_hms_nano_opt(hour, minute, second, milli.checked_mul(1_000_000)?)
     }
 
     /// The same with microseconds, which are 1,000,000 and more in a leap second; `None` if there is none.
     #[must_use]
-    pub fn from_hms_micro_opt(hour: u32, minute: u32, second: u32, micro: u32) -> Option<NaiveTime> {
+    pub fn from_hms_micro_opt(
+        hour: u32,
+        minute: u32,
+        second: u32,
+        micro: u32,
+    ) -> Option<NaiveTime> {
         NaiveTime::from_hms_nano_opt(hour, minute, second, micro.checked_mul(1_000)?)
     }
 
@@ -124,7 +134,10 @@ impl NaiveTime {
     /// # Errors
     ///
     /// If no beginning of the text fits the pattern, or if it gives no time.
-    pub fn parse_and_remainder<'a>(text: &'a str, pattern: &str) -> ParseResult<(NaiveTime, &'a str)> {
+    pub fn parse_and_remainder<'a>(
+        text: &'a str,
+        pattern: &str,
+    ) -> ParseResult<(NaiveTime, &'a str)> {
         let (fields, rest) = Parsed::of_beginning(text, pattern)?;
         Ok((fields.to_naive_time()?, rest))
     }
@@ -135,7 +148,11 @@ impl NaiveTime {
         // (of a longer move, whole days are set aside, so that it stays among the dates and has its direction)
         let aside = (length.num_days() - length.num_days().signum()) * DAY;
         let by = length - TimeDelta::seconds(aside);
-        let shift = if self.is_odd() { 59 - self.second_of_day % 60 } else { 0 };
+        let shift = if self.is_odd() {
+            59 - self.second_of_day % 60
+        } else {
+            0
+        };
         let start = calendar_date_time_new(UNIX_EPOCH, self.second_of_day + shift, self.nanos);
         let end = calendar_date_time_add(start, by.span());
         if end.nanos >= NANOS {
@@ -158,7 +175,10 @@ impl NaiveTime {
     pub(super) fn ahead(self, seconds: i32) -> (NaiveTime, i64) {
         let whole = NaiveTime::known(self.second_of_day, 0);
         let (time, passed) = whole.overflowing_add_signed(TimeDelta::seconds(i64::from(seconds)));
-        (NaiveTime::known(time.second_of_day, self.nanos), passed / DAY)
+        (
+            NaiveTime::known(time.second_of_day, self.nanos),
+            passed / DAY,
+        )
     }
 
     /// The time from another one to this one, within a day. A leap second counts if one of the two is in it and is the
@@ -168,8 +188,8 @@ impl NaiveTime {
         if self.is_odd() || base.is_odd() {
             return self.odd_duration_since(base);
         }
-        let [end, start] = [self, base]
-            .map(|it| calendar_date_time_new(UNIX_EPOCH, it.second_of_day, it.nanos));
+        let [end, start] =
+            [self, base].map(|it| calendar_date_time_new(UNIX_EPOCH, it.second_of_day, it.nanos));
         let span = calendar_date_time_since(end, start);
         TimeDelta::new(span.seconds, span.nanos).expect("two times are less than two days apart")
     }
@@ -313,7 +333,11 @@ impl SubAssign<StdDuration> for NaiveTime {
 /// leads out of a leap second too.
 fn within_days(length: StdDuration) -> TimeDelta {
     let days = DAY as u64;
-    let seconds = if length.as_secs() < days { length.as_secs() } else { length.as_secs() % days + days };
+    let seconds = if length.as_secs() < days {
+        length.as_secs()
+    } else {
+        length.as_secs() % days + days
+    };
     TimeDelta::new(seconds as i64, length.subsec_nanos()).expect("two days are a duration")
 }
 
@@ -390,7 +414,14 @@ impl FromStr for NaiveTime {
     type Err = ParseError;
 
     fn from_str(text: &str) -> ParseResult<NaiveTime> {
-        let whole = format::read(text, &[format::MINUTE_ITEMS, format::SECOND_ITEMS, format::END_ITEMS]);
+        let whole = format::read(
+            text,
+            &[
+                format::MINUTE_ITEMS,
+                format::SECOND_ITEMS,
+                format::END_ITEMS,
+            ],
+        );
         let fields = whole.or_else(|refused| {
             let short = format::read(text, &[format::MINUTE_ITEMS, format::END_ITEMS]);
             short.map_err(|_| refused)

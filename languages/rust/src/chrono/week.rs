@@ -40,7 +40,10 @@ impl NaiveWeek {
     /// The first day; `None` if it is out of range.
     #[must_use]
     pub fn checked_first_day(&self) -> Option<NaiveDate> {
-        self.date.0.week_first_day(self.start.counted()).map(NaiveDate)
+        self.date
+            .0
+            .week_first_day(self.start.counted())
+            .map(NaiveDate)
     }
 
     /// The last day.
@@ -68,7 +71,8 @@ impl NaiveWeek {
     /// If one of them is out of range.
     #[must_use]
     pub fn days(&self) -> RangeInclusive<NaiveDate> {
-        self.checked_days().expect("the days of the week are out of range")
+        self.checked_days()
+            .expect("the days of the week are out of range")
     }
 
     /// All seven days; `None` if one of them is out of range.

@@ -9,7 +9,10 @@ use core::time::Duration as StdDuration;
 
 use super::date_time::length_of;
 use super::format::{self, DelayedFormat, Fixed, Parsed, StrftimeItems};
-use super::{Datelike, Days, FixedOffset, IsoWeek, MappedLocalTime, Months, NaiveDate, NaiveDateTime, NaiveTime};
+use super::{
+    Datelike, Days, FixedOffset, IsoWeek, MappedLocalTime, Months, NaiveDate, NaiveDateTime,
+    NaiveTime,
+};
 use super::{Offset, ParseError, ParseResult, TimeDelta, TimeZone, Timelike, Utc, Weekday};
 
 /// An instant, with the offset that a time zone has then. Instants are compared and hashed as such, whatever the zone.
@@ -108,7 +111,8 @@ impl<Tz: TimeZone> DateTime<Tz> {
     #[deprecated(note = "it panics: use `timestamp_nanos_opt`")]
     #[must_use]
     pub fn timestamp_nanos(&self) -> i64 {
-        self.timestamp_nanos_opt().expect("the nanoseconds are no i64")
+        self.timestamp_nanos_opt()
+            .expect("the nanoseconds are no i64")
     }
 
     /// The nanoseconds since 1970-01-01T00:00:00 in UTC; `None` if they are no `i64`.
@@ -233,7 +237,11 @@ impl<Tz: TimeZone> DateTime<Tz> {
     pub fn years_since(&self, base: DateTime<Tz>) -> Option<u32> {
         let (now, then) = (self.naive_local(), base.naive_local());
         let later = now.time() >= then.time();
-        let day = if later { Some(now.date()) } else { now.date().pred_opt() };
+        let day = if later {
+            Some(now.date())
+        } else {
+            now.date().pred_opt()
+        };
         day?.years_since(then.date())
     }
 }
@@ -290,7 +298,10 @@ impl DateTime<FixedOffset> {
     /// # Errors
     ///
     /// If no beginning of the text fits the pattern, or if it gives no instant.
-    pub fn parse_and_remainder<'a>(text: &'a str, pattern: &str) -> ParseResult<(DateTime<FixedOffset>, &'a str)> {
+    pub fn parse_and_remainder<'a>(
+        text: &'a str,
+        pattern: &str,
+    ) -> ParseResult<(DateTime<FixedOffset>, &'a str)> {
         let (fields, rest) = Parsed::of_beginning(text, pattern)?;
         Ok((fields.to_datetime()?, rest))
     }

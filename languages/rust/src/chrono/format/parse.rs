@@ -65,7 +65,11 @@ where
 /// # Errors
 ///
 /// If no beginning of the text fits the items. The fields then have what was read before.
-pub fn parse_and_remainder<'a, 't, I, B>(fields: &mut Parsed, text: &'t str, items: I) -> ParseResult<&'t str>
+pub fn parse_and_remainder<'a, 't, I, B>(
+    fields: &mut Parsed,
+    text: &'t str,
+    items: I,
+) -> ParseResult<&'t str>
 where
     I: Iterator<Item = B>,
     B: Borrow<Item<'a>>,
@@ -139,7 +143,11 @@ fn digits(text: &str, least: usize, most: usize) -> ParseResult<(i64, &str)> {
     if text.len() < least {
         return Err(TOO_SHORT);
     }
-    let count = text.bytes().take(most).take_while(u8::is_ascii_digit).count();
+    let count = text
+        .bytes()
+        .take(most)
+        .take_while(u8::is_ascii_digit)
+        .count();
     if count < least {
         return Err(INVALID);
     }
@@ -245,7 +253,9 @@ fn read_part<'t>(fields: &mut Parsed, text: &'t str, fixed: &Fixed) -> ParseResu
             InternalKind::Digits(digits) => read_digits(fields, text, usize::from(digits)),
             InternalKind::TimezoneOffsetPermissive => read_zone(fields, text, true, true),
         },
-        Fixed::TimezoneOffsetColonZ | Fixed::TimezoneOffsetZ => read_zone(fields, text, true, false),
+        Fixed::TimezoneOffsetColonZ | Fixed::TimezoneOffsetZ => {
+            read_zone(fields, text, true, false)
+        }
         _ => read_zone(fields, text, false, false),
     }
 }
@@ -285,8 +295,14 @@ fn read_digits<'t>(fields: &mut Parsed, text: &'t str, count: usize) -> ParseRes
 }
 
 /// Reads an offset behind white space.
-fn read_zone<'t>(fields: &mut Parsed, text: &'t str, zulu: bool, short: bool) -> ParseResult<&'t str> {
-    let between = |text: &'t str| Ok(text.trim_start_matches(|it: char| it == ':' || it.is_whitespace()));
+fn read_zone<'t>(
+    fields: &mut Parsed,
+    text: &'t str,
+    zulu: bool,
+    short: bool,
+) -> ParseResult<&'t str> {
+    let between =
+        |text: &'t str| Ok(text.trim_start_matches(|it: char| it == ':' || it.is_whitespace()));
     let (offset, rest) = offset(text.trim_start(), zulu, short, between)?;
     fields.set_offset(offset)?;
     Ok(rest)
@@ -431,7 +447,9 @@ const ZONES: [(&str, i64); 10] = [
 
 /// An offset of RFC 2822, by number or by name, and the rest. There is none by a name that RFC 2822 has not.
 fn named_offset(text: &str) -> ParseResult<(Option<i64>, &str)> {
-    let end = text.find(|it: char| !it.is_ascii_alphabetic()).unwrap_or(text.len());
+    let end = text
+        .find(|it: char| !it.is_ascii_alphabetic())
+        .unwrap_or(text.len());
     let (name, rest) = text.split_at(end);
     if name.is_empty() {
         let (seconds, rest) = offset(text, false, false, Ok)?;
@@ -439,6 +457,8 @@ fn named_offset(text: &str) -> ParseResult<(Option<i64>, &str)> {
     }
     // (a letter that says nothing of an offset is as good as none)
     let of_letter = (name.len() == 1 && !name.eq_ignore_ascii_case("J")).then_some(0);
-    let found = ZONES.iter().find(|(zone, _)| zone.eq_ignore_ascii_case(name));
+    let found = ZONES
+        .iter()
+        .find(|(zone, _)| zone.eq_ignore_ascii_case(name));
     Ok((found.map(|(_, hours)| hours * 3_600).or(of_letter), rest))
 }

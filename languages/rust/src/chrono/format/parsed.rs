@@ -5,7 +5,9 @@ use core::ops::RangeInclusive;
 use super::write::weeks;
 use super::{parse, parse_and_remainder, ParseResult, StrftimeItems};
 use super::{IMPOSSIBLE, NOT_ENOUGH, OUT_OF_RANGE};
-use crate::chrono::{DateTime, Datelike, FixedOffset, MappedLocalTime, NaiveDate, NaiveDateTime, NaiveTime};
+use crate::chrono::{
+    DateTime, Datelike, FixedOffset, MappedLocalTime, NaiveDate, NaiveDateTime, NaiveTime,
+};
 use crate::chrono::{Offset, TimeDelta, TimeZone, Timelike, Weekday};
 
 /// The fields that were read of a text. A `set_` call is refused for a number out of range, and for one that differs from
@@ -193,19 +195,50 @@ impl Parsed {
         let year = whole_year(self.year, self.year_div_100, self.year_mod_100)?;
         let isoyear = whole_year(self.isoyear, self.isoyear_div_100, self.isoyear_mod_100)?;
         let date = match (year, isoyear, self) {
-            (Some(year), _, &Parsed { month: Some(month), day: Some(day), .. }) => {
-                NaiveDate::from_ymd_opt(year, month, day)
-            }
-            (Some(year), _, &Parsed { ordinal: Some(ordinal), .. }) => NaiveDate::from_yo_opt(year, ordinal),
-            (Some(year), _, &Parsed { week_from_sun: Some(week), weekday: Some(weekday), .. }) => {
-                day_of_week(year, week, Weekday::Sun, weekday)
-            }
-            (Some(year), _, &Parsed { week_from_mon: Some(week), weekday: Some(weekday), .. }) => {
-                day_of_week(year, week, Weekday::Mon, weekday)
-            }
-            (_, Some(year), &Parsed { isoweek: Some(week), weekday: Some(weekday), .. }) => {
-                NaiveDate::from_isoywd_opt(year, week, weekday)
-            }
+            (
+                Some(year),
+                _,
+                &Parsed {
+                    month: Some(month),
+                    day: Some(day),
+                    ..
+                },
+            ) => NaiveDate::from_ymd_opt(year, month, day),
+            (
+                Some(year),
+                _,
+                &Parsed {
+                    ordinal: Some(ordinal),
+                    ..
+                },
+            ) => NaiveDate::from_yo_opt(year, ordinal),
+            (
+                Some(year),
+                _,
+                &Parsed {
+                    week_from_sun: Some(week),
+                    weekday: Some(weekday),
+                    ..
+                },
+            ) => day_of_week(year, week, Weekday::Sun, weekday),
+            (
+                Some(year),
+                _,
+                &Parsed {
+                    week_from_mon: Some(week),
+                    weekday: Some(weekday),
+                    ..
+                },
+            ) => day_of_week(year, week, Weekday::Mon, weekday),
+            (
+                _,
+                Some(year),
+                &Parsed {
+                    isoweek: Some(week),
+                    weekday: Some(weekday),
+                    ..
+                },
+            ) => NaiveDate::from_isoywd_opt(year, week, weekday),
             _ => return Err(NOT_ENOUGH),
         };
         let date = date.ok_or(OUT_OF_RANGE)?;
@@ -223,15 +256,26 @@ impl Parsed {
         }
         let (weekday, iso_week) = (date.weekday(), date.iso_week());
         fits_year(date.year(), self.year, self.year_div_100, self.year_mod_100)
-            && fits_year(iso_week.year(), self.isoyear, self.isoyear_div_100, self.isoyear_mod_100)
+            && fits_year(
+                iso_week.year(),
+                self.isoyear,
+                self.isoyear_div_100,
+                self.isoyear_mod_100,
+            )
             && is(self.quarter, date.quarter())
             && is(self.month, date.month())
             && is(self.day, date.day())
             && is(self.ordinal, date.ordinal())
             && is(self.weekday, weekday)
             && is(self.isoweek, iso_week.week())
-            && is(self.week_from_sun, weeks(date, weekday.num_days_from_sunday()) as u32)
-            && is(self.week_from_mon, weeks(date, weekday.num_days_from_monday()) as u32)
+            && is(
+                self.week_from_sun,
+                weeks(date, weekday.num_days_from_sunday()) as u32,
+            )
+            && is(
+                self.week_from_mon,
+                weeks(date, weekday.num_days_from_monday()) as u32,
+            )
     }
 
     /// The time of the fields. The second and the nanoseconds are 0 if they are missing.
@@ -269,7 +313,11 @@ impl Parsed {
             let stamp = moment.timestamp() - i64::from(offset);
             let is_leap = moment.nanosecond() >= 1_000_000_000;
             let fits = |it| it == stamp || is_leap && it == stamp + 1;
-            return if self.timestamp.map_or(true, fits) { Ok(moment) } else { Err(IMPOSSIBLE) };
+            return if self.timestamp.map_or(true, fits) {
+                Ok(moment)
+            } else {
+                Err(IMPOSSIBLE)
+            };
         }
         let Some(stamp) = self.timestamp else {
             return Err(date.err().or(time.err()).unwrap_or(NOT_ENOUGH));
@@ -289,7 +337,11 @@ impl Parsed {
         if fields.second == Some(60) {
             match moment.second() {
                 59 => {}
-                0 => moment = moment.checked_sub_signed(TimeDelta::seconds(1)).ok_or(OUT_OF_RANGE)?,
+                0 => {
+                    moment = moment
+                        .checked_sub_signed(TimeDelta::seconds(1))
+                        .ok_or(OUT_OF_RANGE)?
+                }
                 _ => return Err(IMPOSSIBLE),
             }
         } else {
@@ -319,7 +371,10 @@ impl Parsed {
     pub fn to_datetime(&self) -> ParseResult<DateTime<FixedOffset>> {
         let local = self.to_naive_datetime_with_offset(self.offset.ok_or(NOT_ENOUGH)?)?;
         let offset = self.to_fixed_offset()?;
-        offset.from_local_datetime(&local).single().ok_or(IMPOSSIBLE)
+        offset
+            .from_local_datetime(&local)
+            .single()
+            .ok_or(IMPOSSIBLE)
     }
 
     /// The instant of the fields in a zone. If they have an offset, it has to be the zone's.
@@ -336,7 +391,8 @@ impl Parsed {
         }
         let local = self.to_naive_datetime_with_offset(offset)?;
         let fits = |it: &DateTime<Tz>| {
-            self.offset.map_or(true, |wanted| it.offset().fix().local_minus_utc() == wanted)
+            self.offset
+                .map_or(true, |wanted| it.offset().fix().local_minus_utc() == wanted)
         };
         match zone.from_local_datetime(&local) {
             MappedLocalTime::Single(it) if fits(&it) => Ok(it),
@@ -352,7 +408,11 @@ impl Parsed {
 }
 
 /// The year of its parts, if they give one.
-fn whole_year(year: Option<i32>, hundreds: Option<i32>, rest: Option<i32>) -> ParseResult<Option<i32>> {
+fn whole_year(
+    year: Option<i32>,
+    hundreds: Option<i32>,
+    rest: Option<i32>,
+) -> ParseResult<Option<i32>> {
     if let Some(it) = rest {
         within::<i32>(i64::from(it), 0..=99)?;
     }
@@ -361,7 +421,9 @@ fn whole_year(year: Option<i32>, hundreds: Option<i32>, rest: Option<i32>) -> Pa
         (Some(year), ..) if year < 0 => Err(OUT_OF_RANGE),
         (Some(_), ..) => Err(IMPOSSIBLE),
         (None, Some(hundreds), Some(rest)) => {
-            let year = hundreds.checked_mul(100).and_then(|it| it.checked_add(rest));
+            let year = hundreds
+                .checked_mul(100)
+                .and_then(|it| it.checked_add(rest));
             year.map(Some).ok_or(OUT_OF_RANGE)
         }
         (None, None, Some(rest)) => Ok(Some(rest + if rest < 70 { 2_000 } else { 1_900 })),

@@ -89,7 +89,11 @@ fn first(pattern: &str) -> Option<(Part<'_>, &str)> {
     let is_end = |it: char| it == '%' || it.is_whitespace() != is_space;
     let end = pattern.find(is_end).unwrap_or(pattern.len());
     let (text, rest) = pattern.split_at(end);
-    let item = if is_space { Item::Space(text) } else { Item::Literal(text) };
+    let item = if is_space {
+        Item::Space(text)
+    } else {
+        Item::Literal(text)
+    };
     Some((Part::Item(item), rest))
 }
 

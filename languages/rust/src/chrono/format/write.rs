@@ -211,8 +211,19 @@ impl<I> DelayedFormat<I> {
             return Err(fmt::Error);
         }
         let (weekday, month) = (date.weekday(), &NAMES[date.month0() as usize][..3]);
-        write!(w, "{weekday}, {:02} {month} {:04} ", date.day(), date.year())?;
-        write!(w, "{:02}:{:02}:{:02} ", time.hour(), time.minute(), shown_second(time))?;
+        write!(
+            w,
+            "{weekday}, {:02} {month} {:04} ",
+            date.day(),
+            date.year()
+        )?;
+        write!(
+            w,
+            "{:02}:{:02}:{:02} ",
+            time.hour(),
+            time.minute(),
+            shown_second(time)
+        )?;
         write_offset(w, self.offset()?, "")
     }
 }
@@ -308,7 +319,13 @@ fn sign(offset: i32) -> char {
 /// Writes the hours and minutes of an offset, with something between.
 fn write_offset(w: &mut dyn Write, offset: i32, between: &str) -> fmt::Result {
     let minutes = offset.abs() / 60;
-    write!(w, "{}{:02}{between}{:02}", sign(offset), minutes / 60, minutes % 60)
+    write!(
+        w,
+        "{}{:02}{between}{:02}",
+        sign(offset),
+        minutes / 60,
+        minutes % 60
+    )
 }
 
 /// Counts characters, and writes no more than so many of them.
@@ -320,7 +337,10 @@ struct Limited<'a, 'b> {
 
 impl Write for Limited<'_, '_> {
     fn write_str(&mut self, text: &str) -> fmt::Result {
-        let end = text.char_indices().nth(self.left).map_or(text.len(), |(at, _)| at);
+        let end = text
+            .char_indices()
+            .nth(self.left)
+            .map_or(text.len(), |(at, _)| at);
         let count = text[..end].chars().count();
         (self.left, self.count) = (self.left - count, self.count + count);
         match &mut self.to {
@@ -334,7 +354,11 @@ impl<'a, I: Iterator<Item = B> + Clone, B: Borrow<Item<'a>>> fmt::Display for De
     fn fmt(&self, f: &mut fmt::Formatter<'_>) -> fmt::Result {
         let (width, left) = (f.width().unwrap_or(0), f.precision().unwrap_or(usize::MAX));
         // (so that nothing is written of a wrong pattern, and the padding is known)
-        let mut counted = Limited { to: None, left, count: 0 };
+        let mut counted = Limited {
+            to: None,
+            left,
+            count: 0,
+        };
         self.write(&mut counted)?;
         let padding = width.saturating_sub(counted.count);
         let before = match f.align() {
@@ -344,7 +368,11 @@ impl<'a, I: Iterator<Item = B> + Clone, B: Borrow<Item<'a>>> fmt::Display for De
         };
         let fill = f.fill();
         (0..before).try_for_each(|_| f.write_char(fill))?;
-        self.write(&mut Limited { to: Some(f), left, count: 0 })?;
+        self.write(&mut Limited {
+            to: Some(f),
+            left,
+            count: 0,
+        })?;
         (before..padding).try_for_each(|_| f.write_char(fill))
     }
 }
