@@ -133,6 +133,7 @@ static PyObject *new_date_time(PyTypeObject *kind, calendar_date_time moment, in
 {
     DateTime *self = (DateTime *)new_object(kind, date_time_type, &kept);
     if (self) {
+        self->hash = -1;
         self->moment = moment;
         self->number = number;
         self->second = CALENDAR_NONE;
@@ -566,7 +567,7 @@ static PyObject *date_time_compare(PyObject *left, PyObject *right, int order)
     Py_RETURN_RICHCOMPARE(one.nanos, other.nanos, order);
 }
 
-static Py_hash_t date_time_hash(PyObject *self)
+static Py_hash_t hash_of_moment(PyObject *self)
 {
     int64_t clock[CLOCK];
     calendar_date_time moment = moment_of(self);
@@ -578,6 +579,15 @@ static Py_hash_t date_time_hash(PyObject *self)
     }
     read_clock(moment, clock);
     return hash_of_python_datetime(day_of(self), clock);
+}
+
+static Py_hash_t date_time_hash(PyObject *self)
+{
+    DateTime *of = (DateTime *)self;
+    if (of->hash == -1) {
+        of->hash = hash_of_moment(self);
+    }
+    return of->hash;
 }
 
 static PyObject *to_datetime(PyObject *self, PyObject *unused)

@@ -64,6 +64,7 @@ PyObject *duration_of(PyTypeObject *kind, calendar_duration length)
 {
     PyObject *self = new_object(kind, duration_type, &kept);
     if (self) {
+        ((Duration *)self)->hash = -1;
         ((Duration *)self)->length = length;
     }
     return self;
@@ -448,9 +449,8 @@ static PyObject *duration_compare(PyObject *left, PyObject *right, int order)
     Py_RETURN_RICHCOMPARE(one.nanos, other.nanos, order);
 }
 
-static Py_hash_t duration_hash(PyObject *self)
+static Py_hash_t hash_of_length(calendar_duration length)
 {
-    calendar_duration length = length_of(self);
     if (length.nanos % MICROSECOND != 0) {
         return hash_of_nanoseconds(length.seconds, length.nanos);
     }
@@ -458,6 +458,15 @@ static Py_hash_t duration_hash(PyObject *self)
         return hash_of(length.seconds, length.nanos);
     }
     return hash_of_timedelta(days_of(length), (int32_t)second_of_day(length), (int32_t)(length.nanos / MICROSECOND));
+}
+
+static Py_hash_t duration_hash(PyObject *self)
+{
+    Duration *of = (Duration *)self;
+    if (of->hash == -1) {
+        of->hash = hash_of_length(of->length);
+    }
+    return of->hash;
 }
 
 static PyObject *duration_reduce(PyObject *self, PyObject *unused)

@@ -26,17 +26,19 @@ typedef struct {
     uint8_t month, day;
 } Date;
 
-/* A date-time: the fields of one, and what was asked of it before: the number of its date and its second of the day, or
- * CALENDAR_NONE. */
+/* A date-time: the fields of one, and what was asked of it before: its hash, or -1, and the number of its date and its second of
+ * the day, or CALENDAR_NONE. */
 typedef struct {
     PyObject_HEAD
+    Py_hash_t hash;
     calendar_date_time moment;
     int32_t number, second;
 } DateTime;
 
-/* A duration: the fields of one. */
+/* A duration: the fields of one, and its hash, or -1 if it was not asked for. */
 typedef struct {
     PyObject_HEAD
+    Py_hash_t hash;
     calendar_duration length;
 } Duration;
 
