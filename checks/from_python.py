@@ -8,7 +8,7 @@ import shutil
 import subprocess
 import sys
 
-from results import LANGUAGES, TOP, example, read, run, succeeds
+from results import LANGUAGES, TOP, read, run, succeeds
 from wrong_lines import edits, planted
 
 sys.path.insert(0, f"{TOP}/tools")
@@ -37,14 +37,21 @@ def install(results, room, name, program, wheel, *options):
     return f"{folder}/bin/python"
 
 
+def test_examples(results, room, program, with_numpy):
+    """The examples of README, of which those with numpy stand behind the others."""
+    blocks = re.findall(r"^```python\n(.*?)^```$", read(f"{PACKAGE}/README.md"), re.M | re.S)
+    text = "\n".join(it for it in blocks if with_numpy or "numpy" not in it)
+    with open(f"{room}/example.txt", "w", encoding="utf-8") as it:
+        it.write(text)
+    counts = (r"^(\d+) passed and", r"(\d+) failed\.")
+    run(results, "the examples in Python", [program, "-m", "doctest", "-v", f"{room}/example.txt"], counts, env=QUIET)
+
+
 def test_installed(results, room, program):
-    """The tests that need no other package, and the example of README."""
+    """The tests that need no other package, and the examples of README that need none."""
     for name in (*ALONE, "test_days.py"):
         run(results, name, [program, f"{TESTS}/{name}", "-v"], COUNTS, env=QUIET)
-    with open(f"{room}/example.txt", "w", encoding="utf-8") as it:
-        it.write(example("python"))
-    counts = (r"^(\d+) passed and", r"(\d+) failed\.")
-    run(results, "the example in Python", [program, "-m", "doctest", "-v", f"{room}/example.txt"], counts, env=QUIET)
+    test_examples(results, room, program, False)
 
 
 def test_versions(results, room, wheel):
@@ -76,6 +83,7 @@ def test_beside_others(results, room, wheel):
     for name in ("test_columns.py", *ALONE[1:]) if program else ():
         run(results, f"{name} beside numpy and pandas", [program, f"{TESTS}/{name}", "-v"], COUNTS, env=QUIET)
     if program:
+        test_examples(results, room, program, True)
         test_stubs(results, program)
 
 
