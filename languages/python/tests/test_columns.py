@@ -14,6 +14,11 @@ try:
 except ImportError:
     raise SystemExit("not run: the tests of columns, since there is no numpy") from None
 
+try:
+    import pandas
+except ImportError:
+    pandas = None
+
 from proved_calendar import Date, columns
 
 FIRST, LAST, EPOCH = Date.MIN.number, Date.MAX.number, 719_163
@@ -398,6 +403,18 @@ class Arrays(Columns):
             it.join()
         self.assertTrue(all((it == wanted).all() for it in found))
         self.assertNotIsInstance(columns._LIBRARY, ctypes.PyDLL)
+
+    @unittest.skipUnless(pandas, "there is no pandas")
+    def test_pandas(self):
+        """A series gives the same as its array; one with a time zone, or of objects, is refused."""
+        for array in (numpy.array(["2024-01-31T12:30:15.250000007", "NaT"], "M8[ns]"), numpy.array([738_945, 0], numpy.int32)):
+            series = pandas.Series(array, index=[5, 3])
+            for name, call in CALLS.items():
+                self.same(call(series), call(array), name)
+        self.assertEqual(columns.from_texts(pandas.Series(["2024-02-29"]).to_numpy("U10")).astype(str).tolist(), ["2024-02-29"])
+        for wrong in (pandas.Series(pandas.date_range("2024", periods=2, tz="UTC")), pandas.Series([1, None], dtype="Int32"),
+                      pandas.Series(["2024-02-29"])):
+            self.assertRaises(TypeError, columns.years, wrong)
 
     def test_all(self):
         self.assertEqual({it.removesuffix("_each") for it in CALLS} | {"from_fields", "from_texts", "Fields", "IsoWeeks"}, set(columns.__all__))

@@ -111,7 +111,7 @@ class Texts(Cases):
                  (DateTime, datetime.datetime, [f"{it}T12:30:15.25" for it in self.DATES] + [f"2024-02-29 {it}" for it in self.CLOCKS]))
         known = 0
         for ours_of, theirs_of, texts in kinds:
-            for _ in range(4 * COUNT):
+            for _ in range(2 * COUNT):
                 text = self.chance.choice(texts)
                 at, width = self.chance.randrange(len(text) + 1), self.chance.randrange(2)
                 text = text[:at] + self.chance.choice(["", *"0123456789-:.,TWZ+ x٣"]) + text[at + width:]
@@ -214,7 +214,7 @@ class Clocks(Cases):
 
 class Durations(Cases):
     def test_arithmetic(self):
-        for _ in range(5 * COUNT):
+        for _ in range(COUNT):
             one, other, whole = self.a_length(), self.a_length(), self.chance.randint(-1_000, 1_000)
             ours, theirs = Duration.from_timedelta(one), Duration.from_timedelta(other)
             for name in ("__truediv__", "__floordiv__", "__mod__", "__divmod__"):
@@ -230,7 +230,7 @@ class Durations(Cases):
 
     def test_fractions(self):
         """Products and quotients are those of fractions, rounded once and half to even."""
-        for _ in range(5 * COUNT):
+        for _ in range(COUNT):
             length, number = Duration.from_timedelta(self.a_length()), self.a_number()
             for wanted, found in (
                 (lambda: length.nanoseconds * Fraction(number), lambda: length * number),
@@ -250,7 +250,7 @@ class Durations(Cases):
 
     def test_parts(self):
         names = ("days", "seconds", "microseconds", "milliseconds", "minutes", "hours", "weeks")
-        for _ in range(5 * COUNT):
+        for _ in range(COUNT):
             parts = [self.chance.randint(-(10**6), 10**6) * self.chance.randrange(2) for _ in names]
             self.assertEqual(Duration(*parts), timedelta(*parts))
             self.assertEqual(Duration(**dict(zip(names, parts))), timedelta(*parts))
@@ -260,7 +260,7 @@ class Durations(Cases):
         self.assertEqual(Duration(weeks=-(10**9), milliseconds=10**18).nanoseconds, -604_800 * 10**18 + 10**24)
 
     def test_texts(self):
-        for _ in range(5 * COUNT):
+        for _ in range(COUNT):
             theirs = self.a_length()
             ours = Duration.from_timedelta(theirs)
             self.assertEqual((str(ours), eval(repr(ours))), (str(theirs), theirs))
