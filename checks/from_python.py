@@ -84,17 +84,19 @@ def test_beside_others(results, room, wheel):
         run(results, f"{name} beside numpy and pandas", [program, f"{TESTS}/{name}", "-v"], COUNTS, env=QUIET)
     if program:
         test_examples(results, room, program, True)
-        test_stubs(results, program)
+        test_stubs(results, room, program)
 
 
-def test_stubs(results, program):
+def test_stubs(results, room, program):
     """The stubs tell what is there, with the signatures that are there."""
     stubtest = shutil.which("stubtest")
     if not stubtest:
         print("not run: the stubs of the Python package beside the package, since there is no stubtest")
         return
-    asked = "import os, proved_calendar; print(os.path.dirname(os.path.dirname(proved_calendar.__file__)))"
-    path = subprocess.run([program, "-c", asked], check=True, capture_output=True, text=True).stdout.strip()
+    asked = "import os, proved_calendar; print(os.path.dirname(proved_calendar.__file__))"
+    installed = subprocess.run([program, "-c", asked], check=True, capture_output=True, text=True).stdout.strip()
+    shutil.copytree(installed, f"{room}/stubs/proved_calendar")
+    path = f"{room}/stubs"
     succeeds(results, [DEBIAN, stubtest, "proved_calendar"], env=dict(QUIET, PYTHONPATH=path, MYPYPATH=path), cwd=path)
 
 

@@ -12,8 +12,8 @@ of the library and with the declarations of the Rust crate; the fields of both s
 with one another and with the library's instructions; the same of the second library, for processors with AVX2; and the versions of all packages. The header is then compiled, alone, by each
 compiler that is found. The packages for C and Python are made by the modules of tools/packages in a temporary folder, installed as
 their users would, and tested there by checks/from_c.py and checks/from_python.py, and so is that for Rust by checks/from_rust.py. Each export
-has to be called in C's tests, and to have a test of its name in the other two, but for columns and what belongs to them, which C
-alone has. The
+has to be called in C's tests, and to have a test of its name in the other two, but for columns and what belongs to them. Those
+stand in C's tests, and Python's module of columns calls them. The
 examples of the READMEs are run too, and the uses that README.md shows have to stand in them.
 """
 import contextlib
@@ -47,7 +47,7 @@ TYPES = {
     "CalendarDateTime": "calendar_date_time", "CalendarDuration": "calendar_duration", "CalendarYmd": "calendar_ymd",
 }
 
-# What is for C alone: columns, and the struct of a date's names. No other language has declarations or tests of these.
+# Columns, and the struct of a date's names. Rust has no declarations of these, and no language but C a test of each.
 C_ALONE = r"calendar_(?:column_\w+|split|ymd)"
 
 # How a slice of Rattle crosses: its first byte, and how many bytes there are; and likewise for a column, of numbers or of texts of

@@ -11,7 +11,7 @@ signed type, and 0 in an unsigned one. What comes back as dates has the type of 
 
 The answers come from the proved functions. numpy itself divides times into days and their rest, and puts them together again.
 An array of int32 is read and written where it lies. Others are converted in pieces, so that little memory is taken. No call
-holds Python's lock while it computes.
+of the library holds Python's lock.
 
 >>> import numpy
 >>> from proved_calendar import columns
@@ -33,7 +33,7 @@ except ModuleNotFoundError as _missing:
     raise ModuleNotFoundError("proved_calendar.columns needs numpy") from _missing
 
 __all__ = [
-    "Fields", "IsoWeeks", "add_days", "add_months", "count", "days_between", "fields", "first_on", "from_fields", "from_texts",
+    "Fields", "IsoWeeks", "add_days", "add_months", "count_dates", "days_between", "fields", "first_on", "from_fields", "from_texts",
     "is_date", "iso_weeks", "numbers", "ordinals", "texts", "weekdays", "years",
 ]
 
@@ -292,7 +292,7 @@ def is_date(dates: Any) -> Any:
     return weekdays(dates) != 0
 
 
-def count(dates: Any) -> int:
+def count_dates(dates: Any) -> int:
     """Returns how many elements are dates."""
     column, function = _Dates(dates), _LIBRARY.calendar_column_count_dates
     function.restype, function.argtypes = ctypes.c_size_t, (ctypes.c_void_p, ctypes.c_size_t)

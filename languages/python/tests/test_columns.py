@@ -134,7 +134,7 @@ class Names(Columns):
             self.assertEqual(columns.numbers(array).tolist(), [NONE if it is None else it for it in dates])
             self.assertEqual(columns.numbers(array).dtype, numpy.int32)
             self.assertEqual(columns.is_date(array).tolist(), [it is not None for it in dates])
-            self.assertEqual(columns.count(array), sum(it is not None for it in dates))
+            self.assertEqual(columns.count_dates(array), sum(it is not None for it in dates))
 
     def test_texts(self):
         for array, dates in self.arrays(self.some_numbers()):
@@ -244,7 +244,7 @@ class FromFields(Columns):
 # Each function of one column, by a call.
 CALLS = {
     "years": columns.years, "ordinals": columns.ordinals, "weekdays": columns.weekdays, "fields": columns.fields,
-    "iso_weeks": columns.iso_weeks, "texts": columns.texts, "numbers": columns.numbers, "is_date": columns.is_date, "count": columns.count,
+    "iso_weeks": columns.iso_weeks, "texts": columns.texts, "numbers": columns.numbers, "is_date": columns.is_date, "count_dates": columns.count_dates,
     "add_days": lambda it: columns.add_days(it, 1), "add_days_each": lambda it: columns.add_days(it, numpy.ones(numpy.shape(it), int)),
     "add_months": lambda it: columns.add_months(it, 1), "first_on": lambda it: columns.first_on(it, [1]),
     "days_between": lambda it: columns.days_between(it, it),
@@ -286,14 +286,14 @@ class Arrays(Columns):
                 flat = call(array)
                 for shape in ((4, 6), (2, 3, 4), (24, 1)):
                     shaped = call(array.reshape(shape))
-                    wanted = tuple(it.reshape(shape) for it in flat) if isinstance(flat, tuple) else flat if name == "count" else flat.reshape(shape)
+                    wanted = tuple(it.reshape(shape) for it in flat) if isinstance(flat, tuple) else flat if name == "count_dates" else flat.reshape(shape)
                     self.same(shaped, wanted, (name, shape))
                 crossed = call(array.reshape(4, 6).T)
-                if name != "count":
+                if name != "count_dates":
                     first = (crossed[0] if isinstance(crossed, tuple) else crossed).T.reshape(-1)
                     self.same(first, flat[0] if isinstance(flat, tuple) else flat, (name, "crossed"))
                 one = call(array[5])
-                if name != "count":
+                if name != "count_dates":
                     self.same(one[0] if isinstance(one, tuple) else one, (flat[0] if isinstance(flat, tuple) else flat)[5:6].reshape(()), (name, "one"))
 
     def test_empty(self):
@@ -301,7 +301,7 @@ class Arrays(Columns):
             for name, call in CALLS.items():
                 for empty in (array[:0], array[:0].reshape(0, 3), array[::-1][:0]):
                     found = call(empty)
-                    if name == "count":
+                    if name == "count_dates":
                         self.assertEqual(found, 0)
                     else:
                         self.assertEqual((found[0] if isinstance(found, tuple) else found).shape, empty.shape)
@@ -312,7 +312,7 @@ class Arrays(Columns):
     def test_nat(self):
         for unit in ("D", *UNITS):
             nothing = numpy.full(3, "NaT", f"M8[{unit}]")
-            self.assertEqual(columns.count(nothing), 0)
+            self.assertEqual(columns.count_dates(nothing), 0)
             for name in ("add_days", "add_days_each", "add_months", "first_on", "days_between"):
                 self.assertTrue(numpy.isnat(CALLS[name](nothing)).all(), (name, unit))
             self.assertEqual(columns.texts(nothing).tolist(), [b""] * 3)
@@ -356,7 +356,7 @@ class Arrays(Columns):
         self.assertTrue((columns.from_texts(array.astype(str)) == array).all())
         self.assertTrue((columns.add_days(array, numpy.arange(MANY)) == array + numpy.arange(MANY)).all())
         self.assertTrue((columns.days_between(array, array[::-1]) == array - array[::-1]).all())
-        self.assertEqual(columns.count(array), MANY)
+        self.assertEqual(columns.count_dates(array), MANY)
         nanoseconds = array.astype("M8[ns]") + numpy.timedelta64(5, "h")
         self.assertTrue((columns.add_days(nanoseconds, 7) == nanoseconds + numpy.timedelta64(7, "D")).all())
 
