@@ -12,8 +12,8 @@ of the library and with the declarations of the Rust crate; the fields of both s
 with one another and with the library's instructions; the same of the second library, for processors with AVX2; and the versions of all packages. The header is then compiled, alone, by each
 compiler that is found. The packages for C and Python are made by the modules of tools/packages in a temporary folder, installed as
 their users would, and tested there by checks/from_c.py and checks/from_python.py, and so is that for Rust by checks/from_rust.py. Each export
-has to be called in C's tests, and to have a test of its name in the other two, but for columns and what belongs to them, which Python
-has not. The examples of the READMEs are run too, and the uses that README.md shows have to stand in them.
+has to be called in C's tests, and to have a test of its name in the other two, but for columns and what belongs to them, which
+Python's module of columns calls. The examples of the READMEs are run too, and the uses that README.md shows have to stand in them.
 """
 import contextlib
 import io
@@ -46,8 +46,8 @@ TYPES = {
     "CalendarDateTime": "calendar_date_time", "CalendarDuration": "calendar_duration", "CalendarYmd": "calendar_ymd",
 }
 
-# What Python has no calls or tests of: columns, and the struct of a date's names.
-NOT_IN_PYTHON = r"calendar_(?:column_\w+|split|ymd)"
+# Columns, and the struct of a date's names. The tests of Python and JavaScript name none of these.
+COLUMNS = r"calendar_(?:column_\w+|split|ymd)"
 
 # How a slice of Rattle crosses: its first byte, and how many bytes there are; and likewise for a column, of numbers or of texts of
 # ten bytes.
@@ -233,7 +233,7 @@ def compare_uses(results, header):
         names = [it for it in os.listdir(f"{LANGUAGES}/{folder}") if it.endswith((".c", ".py", ".rs"))]
         text = "\n".join(read(f"{LANGUAGES}/{folder}/{it}") for it in names)
         is_whole = not folder.startswith("python")
-        for name in (it for it in header if is_whole or not re.fullmatch(NOT_IN_PYTHON, it)):
+        for name in (it for it in header if is_whole or not re.fullmatch(COLUMNS, it)):
             used = pattern.format(name=name, short=name.removeprefix("calendar_"))
             results.count(re.search(used, text), f"{language}: there is none for {name}")
 
