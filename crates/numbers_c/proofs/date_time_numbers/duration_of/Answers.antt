@@ -1,8 +1,8 @@
 use Rattle.std.proofs.Common.{FitsSigned, rules, w64}
 use Rattle.std.proofs.lemmas.Int.{to_z-of_z}
 use Rattle.chrono_clock.proofs.NamedDurations.{duration_named-SomeIff}
-use Rattle.calendar_c.specs.DateTimes.{duration_from_c}
-use Rattle.calendar_c.proofs.date_time_numbers.duration_of.Goals as goal
+use Rattle.numbers_c.specs.DateTimes.{duration_from_c}
+use Rattle.numbers_c.proofs.date_time_numbers.duration_of.Goals as goal
 
 pub returns : goal.returns
 unfolding duration_from_c

@@ -1,8 +1,8 @@
 use Rattle.std.proofs.Common.{◌∙◌, arith, refl, FitsSigned, rules, w64}
 use Rattle.chrono_calendar.proofs.Signed.{casts}
-use Rattle.calendar_c.proofs.DateTimeLemmas.{moment_from_c-no_date, moment_from_c-parts}
-use Rattle.calendar_c.proofs.date_time_numbers.date_time_of.Goals as goal
-use Rattle.calendar_c.proofs.date_time_numbers.date_time_of.Goals.{then-moment-lt-FIRST_SECOND-via-then-moment-lt-FIRST_SECOND, then-moment-lt-FIRST_SECOND-via-else-moment-lt-FIRST_SECOND+then-moment-gt-LAST_SECOND}
+use Rattle.numbers_c.proofs.DateTimeLemmas.{moment_from_c-no_date, moment_from_c-parts}
+use Rattle.numbers_c.proofs.date_time_numbers.date_time_of.Goals as goal
+use Rattle.numbers_c.proofs.date_time_numbers.date_time_of.Goals.{then-moment-lt-FIRST_SECOND-via-then-moment-lt-FIRST_SECOND, then-moment-lt-FIRST_SECOND-via-else-moment-lt-FIRST_SECOND+then-moment-gt-LAST_SECOND}
 
 pub returns-then-moment-lt-FIRST_SECOND : goal.returns-then-moment-lt-FIRST_SECOND
 returns-then-moment-lt-FIRST_SECOND c =

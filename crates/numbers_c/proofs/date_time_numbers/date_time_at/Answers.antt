@@ -1,8 +1,8 @@
 use Rattle.std.proofs.Common.{Some, ap, ◌∙◌, w32}
 use Rattle.std.proofs.lemmas.Int.{to_z-of_z}
 use Rattle.chrono_datetime.specs.Moment.{moment}
-use Rattle.calendar_c.proofs.DateTimeLemmas.{moment_at-Some, moment_at-no_date, moment_at-no_time}
-use Rattle.calendar_c.proofs.date_time_numbers.date_time_at.Goals as goal
+use Rattle.numbers_c.proofs.DateTimeLemmas.{moment_at-Some, moment_at-no_date, moment_at-no_time}
+use Rattle.numbers_c.proofs.date_time_numbers.date_time_at.Goals as goal
 
 pub returns-in_err-time : goal.returns-in_err-time
 returns-in_err-time c =

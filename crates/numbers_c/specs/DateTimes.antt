@@ -6,8 +6,8 @@ use Rattle.chrono_clock.specs.Time.{seconds_per_day}
 use Rattle.chrono_datetime.specs.Days.{date_of_day}
 use Rattle.chrono_datetime.specs.Fields.{unix_epoch_day}
 use Rattle.chrono_datetime.specs.Moment.{Moment, moment_on}
-use Rattle.calendar_c.specs.declared.date_time_numbers.CalendarDateTime.{CalendarDateTime}
-use Rattle.calendar_c.specs.declared.date_time_numbers.CalendarDuration.{CalendarDuration}
+use Rattle.numbers_c.specs.declared.date_time_numbers.CalendarDateTime.{CalendarDateTime}
+use Rattle.numbers_c.specs.declared.date_time_numbers.CalendarDuration.{CalendarDuration}
 
 -- a second of the day, and nanoseconds past it: a second and more of them lie in the leap second after the last of a minute
 abbrev pub is_time_named : ℕ → ℕ → Bool

@@ -6,8 +6,8 @@ use Rattle.chrono_calendar.specs.Days.{IsDate, date_of_day}
 use Rattle.chrono_datetime.specs.Moment.{Moment, moment, moment_on}
 use Rattle.chrono_calendar.proofs.NamedDates.{date_of_day-None, date_of_day-Some, date_of_day-number}
 use Rattle.chrono_calendar.proofs.Signed.{signed}
-use Rattle.calendar_c.specs.DateTimes.{day_of_seconds, is_time_named, moment_at, moment_from_c, numbers_for_c, numbers_or_none, second_of_seconds}
-use Rattle.calendar_c.specs.declared.date_time_numbers.CalendarDateTime.{CalendarDateTime}
+use Rattle.numbers_c.specs.DateTimes.{day_of_seconds, is_time_named, moment_at, moment_from_c, numbers_for_c, numbers_or_none, second_of_seconds}
+use Rattle.numbers_c.specs.declared.date_time_numbers.CalendarDateTime.{CalendarDateTime}
 
 -- a second of the day and a fraction that the library has
 abbrev pub IsTimeNamed : ℕ → ℕ → Type 0

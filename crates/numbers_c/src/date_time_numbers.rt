@@ -1,7 +1,7 @@
 //! Date-times and durations as the two numbers that stand for them.
 ghost use Rattle.std.specs.Prelude.{◌≡◌};
 ghost use Rattle.chrono_clock.specs.Duration.{floor_secs, past_floor};
-ghost use Rattle.calendar_c.specs.DateTimes.{duration_from_c, duration_or_none, moment_at, moment_from_c, numbers_for_c, numbers_or_none};
+ghost use Rattle.numbers_c.specs.DateTimes.{duration_from_c, duration_or_none, moment_at, moment_from_c, numbers_for_c, numbers_or_none};
 
 use crate::arguments::date_of;
 use chrono_calendar::ends::FIRST_DAY;
@@ -39,9 +39,13 @@ pub struct CalendarDuration {
     pub nanos: u32,
 }
 
-// The date-time at a second of a day and so many nanoseconds past it.
+/// Returns the date-time at a second of a day, and `nanos` nanoseconds after it. Returns `None` if there is none.
+///
+/// ```
+/// date_time_at(738_945, 3_600, 0) // Some(2024-02-29T01:00:00)
+/// ```
 #[inline]
-pub(crate) fn date_time_at(day: i32, second: u32, nanos: u32) -> Option<NaiveDateTime>
+pub fn date_time_at(day: i32, second: u32, nanos: u32) -> Option<NaiveDateTime>
     ensures { result ≡ moment_at day second nanos }
 {
     let time = NaiveTime::from_num_seconds_from_midnight_opt(second, nanos)?;
@@ -49,9 +53,13 @@ pub(crate) fn date_time_at(day: i32, second: u32, nanos: u32) -> Option<NaiveDat
     Some(NaiveDateTime::new(date, time))
 }
 
-// The date-time for which the numbers stand.
+/// Returns the date-time for which the numbers stand. Returns `None` if they stand for none.
+///
+/// ```
+/// date_time_of(CalendarDateTime { seconds: 86_400, nanos: 0 }) // Some(1970-01-02T00:00:00)
+/// ```
 #[inline]
-pub(crate) fn date_time_of(moment: CalendarDateTime) -> Option<NaiveDateTime>
+pub fn date_time_of(moment: CalendarDateTime) -> Option<NaiveDateTime>
     ensures { result ≡ moment_from_c moment }
 {
     if moment.seconds < FIRST_SECOND || moment.seconds > LAST_SECOND {
@@ -76,9 +84,13 @@ fn numbers_for_c(date_time: NaiveDateTime) -> CalendarDateTime
     }
 }
 
-// The numbers of a date-time, if there is one.
+/// Returns the numbers of a date-time. If there is none, they are 0 and the greatest `u32`.
+///
+/// ```
+/// numbers_or_none(date_time_at(719_164, 0, 5)).seconds // 86400
+/// ```
 #[inline]
-pub(crate) fn numbers_or_none(date_time: Option<NaiveDateTime>) -> CalendarDateTime
+pub fn numbers_or_none(date_time: Option<NaiveDateTime>) -> CalendarDateTime
     ensures { result ≡ numbers_or_none date_time }
 {
     match date_time {
@@ -90,9 +102,13 @@ pub(crate) fn numbers_or_none(date_time: Option<NaiveDateTime>) -> CalendarDateT
     }
 }
 
-// The duration for which the numbers stand.
+/// Returns the duration for which the numbers stand. Returns `None` if they stand for none.
+///
+/// ```
+/// duration_of(CalendarDuration { seconds: 90, nanos: 0 }) // Some(TimeDelta { secs: 90, nanos: 0 })
+/// ```
 #[inline]
-pub(crate) fn duration_of(duration: CalendarDuration) -> Option<TimeDelta>
+pub fn duration_of(duration: CalendarDuration) -> Option<TimeDelta>
     ensures { result ≡ duration_from_c duration }
 {
     TimeDelta::new(duration.seconds, duration.nanos)
@@ -118,9 +134,14 @@ fn duration_numbers(duration: TimeDelta) -> CalendarDuration
     }
 }
 
-// The numbers of a duration, if there is one.
+/// Returns the numbers of a duration. If there is none, they are 0 and the greatest `u32`.
+///
+/// ```
+/// use chrono_datetime::TimeDelta;
+/// duration_or_none(TimeDelta::new(-1, 5)).seconds // -1
+/// ```
 #[inline]
-pub(crate) fn duration_or_none(duration: Option<TimeDelta>) -> CalendarDuration
+pub fn duration_or_none(duration: Option<TimeDelta>) -> CalendarDuration
     ensures { result ≡ duration_or_none duration }
 {
     match duration {

@@ -5,30 +5,42 @@ ghost use Rattle.chrono_units.specs.SetDigits.{set_at};
 ghost use Rattle.chrono_units.specs.Weekday.{days_from_monday};
 ghost use Rattle.chrono_units.specs.WeekdaySet.{contains, days_where, weekday_eq};
 ghost use Rattle.chrono_datetime.specs.Days.{IsDate, date_of_day};
-ghost use Rattle.calendar_c.specs.Arguments.{weekday_numbered};
+ghost use Rattle.numbers_c.specs.Arguments.{weekday_numbered};
 
 use chrono_datetime::{NaiveDate, Weekday, WeekdaySet};
 
-// The date with a day number.
+/// Returns the date with a day number. Returns `None` if there is none.
+///
+/// ```
+/// date_of(738_945) // Some(2024-02-29)
+/// ```
 #[inline]
-pub(crate) fn date_of(number: i32) -> Option<NaiveDate>
+pub fn date_of(number: i32) -> Option<NaiveDate>
     ensures date { result ≡ date_of_day number }
     ensures in_range { IfSome result (λ n. IsDate n) }
 {
     NaiveDate::from_num_days_from_ce_opt(number)
 }
 
-// The weekday with a number from 1 for Monday to 7 for Sunday.
+/// Returns the weekday with a number from 1 for Monday to 7 for Sunday. Returns `None` for other numbers.
+///
+/// ```
+/// weekday_of(7) // Some(Sun)
+/// ```
 #[inline]
-pub(crate) fn weekday_of(number: u32) -> Option<Weekday>
+pub fn weekday_of(number: u32) -> Option<Weekday>
     ensures { result ≡ weekday_numbered number }
 {
     Weekday::from_u32(number.wrapping_sub(1))
 }
 
-// The set of the weekdays whose binary digits are 1, of which Monday's is the lowest.
+/// Returns the set of the weekdays whose binary digits are 1. Monday's digit is the lowest. The highest digit counts for nothing.
+///
+/// ```
+/// set_of(96) // WeekdaySet(1100000)
+/// ```
 #[inline]
-pub(crate) fn set_of(digits: u8) -> WeekdaySet
+pub fn set_of(digits: u8) -> WeekdaySet
     ensures { result ≡ set_at digits }
 {
     let set = with_digit(WeekdaySet::default(), digits, Weekday::Mon);

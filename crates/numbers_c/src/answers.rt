@@ -1,16 +1,21 @@
 //! The numbers that stand for results.
 ghost use Rattle.std.specs.Prelude.{◌≡◌, ◌↔◌, IsSome};
 ghost use Rattle.chrono_datetime.specs.Days.{IsDate};
-ghost use Rattle.calendar_c.specs.Answers.{or_none};
+ghost use Rattle.numbers_c.specs.Answers.{or_none};
 
 use chrono_datetime::{Datelike, NaiveDate};
 
-// Stands for a date, a field or a length that there is not.
-pub(crate) const NONE: i32 = i32::MIN;
+/// Stands for a date, a field or a length that does not exist.
+pub const NONE: i32 = i32::MIN;
 
-// The day number of the date, if there is one.
+/// Returns the day number of the date. Returns [`NONE`] if there is no date.
+///
+/// ```
+/// use chrono_datetime::NaiveDate;
+/// number_or_none(NaiveDate::from_ymd_opt(2024, 2, 29)) // 738945
+/// ```
 #[inline]
-pub(crate) fn number_or_none(date: Option<NaiveDate>) -> i32
+pub fn number_or_none(date: Option<NaiveDate>) -> i32
     ensures number { result ≡ or_none date }
     ensures exists { IsDate result ↔ IsSome date }
 {
