@@ -1,1 +1,3 @@
+-- These serve this crate's own proofs alone.
 mod DigitLemmas
+mod MomentLemmas

@@ -123,8 +123,11 @@ fn plain_numbers(found: Option<NaiveDateTime>) -> CalendarDateTime
     ensures numbers { result ≡ numbers_or_none found }
     ensures named { moment_from_c result ≡ found }
 {
-    if let Some(moment) = found {
-        date_times_exist(moment);
+    match found {
+        Some(moment) => {
+            date_times_exist(moment);
+            numbers_or_none(Some(moment))
+        }
+        None => numbers_or_none(None),
     }
-    numbers_or_none(found)
 }
