@@ -7,8 +7,10 @@
 
 mod faults;
 mod number_sets;
+mod open_days;
 mod part_end;
 mod schedule_faults;
 mod schedule_numbers;
 mod schedule_texts;
 mod schedules;
+mod versions;

@@ -1,5 +1,5 @@
 //! Open days: which days are open, how many lie between two dates, and the `n`-th one.
-ghost use Rattle.std.specs.Prelude.{◌≡◌, ◌≢◌, ◌≤◌, ◌<◌, ℤ, true, IfSome, IfNone, length};
+ghost use Rattle.std.specs.Prelude.{◌≡◌, ◌≢◌, ◌<◌, ℤ, true, Some, All, IfSome, IfNone, length};
 ghost use Rattle.chrono_units.specs.SetDigits.{set_at};
 ghost use Rattle.chrono_datetime.specs.Days.{IsDate};
 ghost use Rattle.chrono_business.specs.OpenDays.{AreHolidays, IsMovedByOpenDays, closed, is_open, open_days_signed};

@@ -1,7 +1,7 @@
 //! What is wrong with a text that is no schedule, as numbers.
 ghost use Rattle.std.specs.Prelude.{◌≡◌, ◌≤◌, Some, length};
 ghost use Rattle.std.specs.Option.{option_map};
-ghost use Rattle.layers_c.specs.Faults.{part_end};
+ghost use Rattle.layers_c.specs.Faults.{IsPartEnd};
 ghost use Rattle.layers_c.specs.Schedules.{numbered, schedule_error_from_c, schedule_faults, schedule_fields};
 
 use crate::faults::CalendarFault;
@@ -40,7 +40,7 @@ const FIELDS: [ScheduleField; 5] = [
 pub(crate) fn fault_of(text: &[u8], error: ScheduleError) -> CalendarFault
     requires { error.byte ≤ length text.now }
     ensures fault { schedule_error_from_c result ≡ Some error }
-    ensures end { result.end ≡ part_end text.now result.byte }
+    ensures end { IsPartEnd text.now result.byte result.end }
 {
     CalendarFault {
         code: fault_number(error.fault),
@@ -66,13 +66,18 @@ pub(crate) fn error_of(fault: &CalendarFault) -> Option<ScheduleError>
 }
 
 // The fault with a number.
+#[tactic(auto, using(crate::proofs::Numbered::numbered_past, crate::proofs::Numbered::numbered_within))]
 fn fault_numbered(number: u32) -> Option<ScheduleFault>
     ensures { result ≡ numbered schedule_faults number }
 {
     if number == 0 {
         return None;
     }
-    FAULTS.get((number - 1) as usize).copied()
+    let place = (number - 1) as usize;
+    if place >= FAULTS.len() {
+        return None;
+    }
+    Some(FAULTS[place])
 }
 
 // The field with a number.

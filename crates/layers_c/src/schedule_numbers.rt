@@ -1,5 +1,5 @@
 //! Schedules as the numbers that stand for them.
-ghost use Rattle.std.specs.Prelude.{◌≡◌, ◌==◌};
+ghost use Rattle.std.specs.Prelude.{◌≡◌, ◌==◌, ◌<◌};
 ghost use Rattle.std.specs.Int.{bit_at};
 ghost use Rattle.chrono_cron.specs.WritableSchedules.{IsWritable};
 ghost use Rattle.layers_c.specs.Schedules.{sets_from_c};

@@ -7,7 +7,7 @@ ghost use Rattle.chrono_cron.specs.declared.field_sets.FieldSets.{FieldSets};
 ghost use Rattle.chrono_cron.specs.declared.text.schedule_error.ScheduleError.{ScheduleError};
 ghost use Rattle.numbers_c.specs.Answers.{none_number};
 ghost use Rattle.numbers_c.specs.Texts.{overwritten};
-ghost use Rattle.layers_c.specs.Faults.{part_end};
+ghost use Rattle.layers_c.specs.Faults.{IsPartEnd};
 ghost use Rattle.layers_c.specs.Schedules.{schedule_error_from_c, sets_from_c};
 
 use crate::faults::CalendarFault;
@@ -32,7 +32,7 @@ pub extern "C" fn calendar_schedule_read(
     ensures read { result ≡ true → IsScheduleText text.now (sets_from_c schedule.new) }
     ensures every { (s : FieldSets) → IsScheduleText text.now s → (result ≡ true) × (sets_from_c schedule.new ≡ s) }
     ensures fault { result ≡ false → schedule_error_from_c fault.new ≡ Some (schedule_error text.now) }
-    ensures end { result ≡ false → fault.new.end ≡ part_end text.now fault.new.byte }
+    ensures end { result ≡ false → IsPartEnd text.now fault.new.byte fault.new.end }
     ensures kept { result ≡ false → schedule.new ≡ schedule.old }
     ensures no_fault { result ≡ true → fault.new ≡ fault.old }
 {

@@ -23,7 +23,7 @@ pub extern "C" fn calendar_schedule_next(
     ensures numbers { result ≡ numbers_or_none (moment_from_c result) }
 {
     let Some(start) = date_time_of(start) else {
-        return plain_numbers(None);
+        return no_numbers();
     };
     plain_numbers(schedule_of(schedule).next_after(start))
 }
@@ -40,7 +40,7 @@ pub extern "C" fn calendar_schedule_prev(
     ensures numbers { result ≡ numbers_or_none (moment_from_c result) }
 {
     let Some(start) = date_time_of(start) else {
-        return plain_numbers(None);
+        return no_numbers();
     };
     plain_numbers(schedule_of(schedule).prev_before(start))
 }
@@ -99,11 +99,12 @@ fn write_due(
         let Some(moment) = moments.step() else {
             return count;
         };
-        if !is_up_to(until, moment) {
+        if is_up_to(until, moment) {
+            out[count] = numbers_or_none(Some(moment));
+            count += 1;
+        } else {
             return count;
         }
-        out[count] = numbers_or_none(Some(moment));
-        count += 1;
     }
     count
 }
@@ -124,10 +125,27 @@ fn plain_numbers(found: Option<NaiveDateTime>) -> CalendarDateTime
     ensures named { moment_from_c result ≡ found }
 {
     match found {
-        Some(moment) => {
-            date_times_exist(moment);
-            numbers_or_none(Some(moment))
-        }
-        None => numbers_or_none(None),
+        Some(moment) => numbers_of_plain(moment),
+        None => no_numbers(),
     }
+}
+
+// The numbers of a moment that is in no leap second.
+#[inline]
+fn numbers_of_plain(moment: NaiveDateTime) -> CalendarDateTime
+    requires { IsPlain moment.time }
+    ensures numbers { result ≡ numbers_or_none (Some moment) }
+    ensures named { moment_from_c result ≡ Some moment }
+{
+    date_times_exist(moment);
+    numbers_or_none(Some(moment))
+}
+
+// The numbers of no moment.
+#[inline]
+fn no_numbers() -> CalendarDateTime
+    ensures numbers { result ≡ numbers_or_none None }
+    ensures named { moment_from_c result ≡ None }
+{
+    numbers_or_none(None)
 }
