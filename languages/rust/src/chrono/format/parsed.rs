@@ -194,52 +194,12 @@ impl Parsed {
     pub fn to_naive_date(&self) -> ParseResult<NaiveDate> {
         let year = whole_year(self.year, self.year_div_100, self.year_mod_100)?;
         let isoyear = whole_year(self.isoyear, self.isoyear_div_100, self.isoyear_mod_100)?;
-        let date = match (year, isoyear, self) {
-            (
-                Some(year),
-                _,
-                &Parsed {
-                    month: Some(month),
-                    day: Some(day),
-                    ..
-                },
-            ) => NaiveDate::from_ymd_opt(year, month, day),
-            (
-                Some(year),
-                _,
-                &Parsed {
-                    ordinal: Some(ordinal),
-                    ..
-                },
-            ) => NaiveDate::from_yo_opt(year, ordinal),
-            (
-                Some(year),
-                _,
-                &Parsed {
-                    week_from_sun: Some(week),
-                    weekday: Some(weekday),
-                    ..
-                },
-            ) => day_of_week(year, week, Weekday::Sun, weekday),
-            (
-                Some(year),
-                _,
-                &Parsed {
-                    week_from_mon: Some(week),
-                    weekday: Some(weekday),
-                    ..
-                },
-            ) => day_of_week(year, week, Weekday::Mon, weekday),
-            (
-                _,
-                Some(year),
-                &Parsed {
-                    isoweek: Some(week),
-                    weekday: Some(weekday),
-                    ..
-                },
-            ) => NaiveDate::from_isoywd_opt(year, week, weekday),
-            _ => return Err(NOT_ENOUGH),
+        let date = if let (Some(year), Some(month), Some(day)) = (year, self.month, self.day) {
+            NaiveDate::from_ymd_opt(year, month, day)
+        } else if let (Some(year), Some(ordinal)) = (year, self.ordinal) {
+            NaiveDate::from_yo_opt(year, ordinal)
+        } else {
+            self.date_of_week(year, isoyear)?
         };
         let date = date.ok_or(OUT_OF_RANGE)?;
         if self.fits(date) {
@@ -247,6 +207,21 @@ impl Parsed {
         } else {
             Err(IMPOSSIBLE)
         }
+    }
+
+    /// The date by a week and a weekday, if it exists.
+    fn date_of_week(
+        &self,
+        year: Option<i32>,
+        isoyear: Option<i32>,
+    ) -> ParseResult<Option<NaiveDate>> {
+        let weekday = self.weekday.ok_or(NOT_ENOUGH)?;
+        let of_year = |week: Option<u32>, start| Some(day_of_week(year?, week?, start, weekday));
+        let of_isoyear = || Some(NaiveDate::from_isoywd_opt(isoyear?, self.isoweek?, weekday));
+        of_year(self.week_from_sun, Weekday::Sun)
+            .or_else(|| of_year(self.week_from_mon, Weekday::Mon))
+            .or_else(of_isoyear)
+            .ok_or(NOT_ENOUGH)
     }
 
     /// Whether all fields of a date are those of this one.
