@@ -424,7 +424,7 @@ class Arrays(Columns):
             self.assertTrue(getattr(columns, name).__doc__)
 
     def test_examples(self):
-        failed, tried = doctest.testmod(columns)
+        failed, tried = doctest.testmod(columns, verbose=False)
         self.assertEqual((failed, tried > 2), (0, True))
 
 

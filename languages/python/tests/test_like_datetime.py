@@ -400,7 +400,7 @@ class Examples(unittest.TestCase):
             ((name, getattr(kind, name)) for name in dir(kind)) if name not in ("__doc__", "__class__")
         }
         documented = {**members, **{name: it.__doc__ for name, it in names.items()}}
-        runner, parser = doctest.DocTestRunner(), doctest.DocTestParser()
+        runner, parser = doctest.DocTestRunner(verbose=False), doctest.DocTestParser()
         for name, text in documented.items():
             if isinstance(text, str) and ">>>" in text:
                 runner.run(parser.get_doctest(text, dict(names), name, None, None))
