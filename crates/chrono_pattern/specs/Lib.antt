@@ -22,5 +22,7 @@ pub mod TimeParts
 pub mod ZonedParts
 pub mod NamedParts
 pub mod Parses
+pub mod Separable
+pub mod Kept
 pub mod ReadBack
 pub mod PatternItems
