@@ -1,22 +1,15 @@
 -- Dates and date-times in the texts of calendars (RFC 5545, sections 3.3.4, 3.3.5 and 3.3.12).
-use Rattle.std.specs.Prelude.{◌≡◌, ℕ, ◌+◌, ◌==◌, nat_le, nat_lt, min, Bool, ◌&&◌, ◌||◌, if◌then◌else◌, List, length, take, drop, slice_index, Option, Some, None, ℤ, pos, codes, refl}
+use Rattle.std.specs.Prelude.{◌≡◌, ℕ, ◌+◌, ◌==◌, nat_le, nat_lt, min, Bool, ◌&&◌, ◌||◌, if◌then◌else◌, List, ◌++◌, length, take, drop, slice_index, Option, Some, None, ℤ, pos, codes, refl}
 use Rattle.std.specs.Option.{option_and_then, option_map}
 use Rattle.std.specs.Str.{byte}
-use Rattle.chrono_datetime.specs.Days.{date_of_ymd}
 use Rattle.chrono_datetime.specs.Moment.{Moment, moment}
-use Rattle.chrono_datetime.specs.Time.{TimeOfDay, time_at}
+use Rattle.chrono_datetime.specs.Time.{TimeOfDay, hour_of, minute_of, second_of, time_at}
+use Rattle.chrono_rules.specs.RuleTexts.{date_of}
+use Rattle.chrono_rules.specs.WrittenRules.{basic_date_text}
 use Rattle.chrono_text.specs.Numbers.{digits_of}
+use Rattle.chrono_text.specs.Text.{two_digits}
 use Rattle.calendar_text.specs.declared.calendar_time.CalendarTime.{CalendarTime}
 use Rattle.calendar_text.specs.declared.calendar_time.CalendarTime.TheVariants.{Date, Local, Utc}
-
--- the date of a year, a month and a day, if each can be read
-abbrev pub date_of_parts : Option ℕ → Option ℕ → Option ℕ → Option ℤ
-date_of_parts year month day = option_and_then (λ y. option_and_then (λ m. option_and_then (date_of_ymd (pos y) m) day) month) year
-
--- "date-value = date-fullyear date-month date-mday": four digits, two and two
-unfoldable pub date_of : List ℕ → Option ℤ
-date_of text =
-    if length text == 8 then date_of_parts (digits_of 4 (take 4 text)) (digits_of 2 (take 2 (drop 4 text))) (digits_of 2 (drop 6 text)) else None
 
 -- hours to 23, minutes to 59, seconds to 60. "Implementations that do not support leap seconds SHOULD interpret the second 60 as equivalent to
 -- the second 59."
@@ -51,3 +44,18 @@ time_of text =
     else if length text == 15 then option_map Local (moment_of text)
     else if (length text == 16) && is_letter (byte "Z") (slice_index text 15) then option_map Utc (moment_of (take 15 text))
     else None
+
+-- ---- times as they are written
+
+-- an hour, a minute and a second in two digits each. A fraction is left out
+abbrev pub clock_text : TimeOfDay → List ℕ
+clock_text t = (two_digits (hour_of t) ++ two_digits (minute_of t)) ++ two_digits (second_of t)
+
+abbrev pub moment_text : Moment → List ℕ
+moment_text m = basic_date_text m.date ++ (codes "T" ++ clock_text m.time)
+
+-- a year outside 0 to 9999 is written in as many digits as it has, and cannot be read
+unfoldable pub time_text : CalendarTime → List ℕ
+time_text (Date d) = basic_date_text d
+time_text (Local m) = moment_text m
+time_text (Utc m) = moment_text m ++ codes "Z"

@@ -1,6 +1,6 @@
 -- Folded lines (RFC 5545, section 3.1). "Content lines are delimited by a line break, which is a CRLF sequence", and a long line is split "by
 -- inserting a CRLF immediately followed by a single linear white-space character". A line feed alone is a line break here too.
-use Rattle.std.specs.Prelude.{◌≡◌, ℕ, ◌+◌, ◌-◌, ◌==◌, Bool, true, false, ◌&&◌, ◌||◌, if◌then◌else◌, List, [], ◌∷◌, ◌++◌, slice_index, codes, refl}
+use Rattle.std.specs.Prelude.{◌≡◌, ℕ, ◌+◌, ◌-◌, ◌==◌, Bool, true, false, not, ◌&&◌, ◌||◌, if◌then◌else◌, List, [], ◌∷◌, ◌++◌, slice_index, replicate, codes, refl}
 use Rattle.std.specs.Str.{byte}
 use Rattle.chrono_text.specs.Lists.{is_blank}
 
@@ -29,6 +29,37 @@ place_behind before (b ∷ bs) k =
 abbrev pub folded_place : List ℕ → ℕ → ℕ
 folded_place text k = place_behind 0 text k
 
+-- ---- folding: "Lines of text SHOULD NOT be longer than 75 octets, excluding the line break"
+
+-- a byte behind so many bytes of its line: a line feed makes a line break, and behind 75 bytes comes a fold
+abbrev pub folded_byte : ℕ → ℕ → List ℕ
+folded_byte column b =
+    if b == byte "\n" then codes "\r\n" else if column == 75 then codes "\r\n " ++ b ∷ [] else b ∷ []
+
+-- how many bytes of its line stand before the next byte
+abbrev pub column_behind : ℕ → ℕ → ℕ
+column_behind column b = if b == byte "\n" then 0 else if column == 75 then 2 else column + 1
+
+-- lines with a line feed behind each, folded, the first of which has so many bytes already
+unfoldable pub folded_behind : ℕ → List ℕ → List ℕ
+folded_behind column [] = []
+folded_behind column (b ∷ bs) = folded_byte column b ++ folded_behind (column_behind column b) bs
+
+abbrev pub folded : List ℕ → List ℕ
+folded text = folded_behind 0 text
+
+-- a byte may stand behind another in a text that can be folded: it is no carriage return, and no blank at the beginning of a line
+abbrev pub may_follow : ℕ → ℕ → Bool
+may_follow before b = not (b == byte "\r") && not (is_blank b && (before == byte "\n"))
+
+abbrev pub may_fold_behind : ℕ → List ℕ → Bool
+may_fold_behind before [] = true
+may_fold_behind before (b ∷ bs) = may_follow before b && may_fold_behind b bs
+
+-- no line begins with a blank, and no byte is a carriage return
+unfoldable pub may_fold : List ℕ → Bool
+may_fold text = may_fold_behind (byte "\n") text
+
 -- known values: a fold within a word, one with a tab and no carriage return, and two lines
 unfolded-word : unfolded (codes "DTS\r\n TART:1\r\n") ≡ codes "DTSTART:1\n"
 unfolding unfolded_behind
@@ -50,3 +81,12 @@ folded_place-behind = refl
 folded_place-end : folded_place (codes "DTS\r\n TART:1\r\n") 10 ≡ 14
 unfolding place_behind
 folded_place-end = refl
+
+-- a line of 76 bytes is folded behind 75, and a fold's blank counts for the next line
+folded-long : folded (replicate 76 65 ++ codes "\n") ≡ replicate 75 65 ++ codes "\r\n A\r\n"
+unfolding folded_behind
+folded-long = refl
+
+folded-longer : folded (replicate 150 65) ≡ replicate 75 65 ++ (codes "\r\n " ++ (replicate 74 65 ++ codes "\r\n A"))
+unfolding folded_behind
+folded-longer = refl

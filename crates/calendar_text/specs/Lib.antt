@@ -2,6 +2,8 @@ pub mod CalendarTexts
 pub mod CalendarTimes
 pub mod Folds
 pub mod Lines
+pub mod Puts
 pub mod Reads
 pub mod TextParts
 pub mod TimeLists
+pub mod WrittenCalendars

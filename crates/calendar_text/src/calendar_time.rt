@@ -1,6 +1,7 @@
 //! `CalendarTime`: a date or a date-time, as a calendar's text has it.
 ghost use Rattle.std.specs.Prelude.{◌≡◌, ◌≤◌, ◌+◌};
-ghost use Rattle.calendar_text.specs.CalendarTimes.{clock_of, date_of, is_letter, moment_of, time_of};
+ghost use Rattle.chrono_rules.specs.RuleTexts.{date_of};
+ghost use Rattle.calendar_text.specs.CalendarTimes.{clock_of, is_letter, moment_of, time_of};
 
 use chrono_datetime::{AndTime, NaiveDate, NaiveDateTime, NaiveTime};
 use chrono_text::read_digits;
@@ -57,7 +58,7 @@ fn read_moment(text: &[u8]) -> Option<NaiveDateTime>
 }
 
 // The date that eight digits write.
-#[tactic(auto, unfolding(crate::specs::CalendarTimes::date_of))]
+#[tactic(auto, unfolding(chrono_rules::specs::RuleTexts::date_of))]
 fn read_date(text: &[u8]) -> Option<NaiveDate>
     ensures { result ≡ date_of text.now }
 {

@@ -1,5 +1,5 @@
 //! The properties of a calendar that are read: DTSTART, RRULE, RDATE and EXDATE.
-ghost use Rattle.std.specs.Prelude.{◌≡◌, ◌==◌};
+ghost use Rattle.std.specs.Prelude.{◌≡◌, ◌≤◌, ◌==◌, length};
 ghost use Rattle.std.specs.List.{before_first};
 ghost use Rattle.std.specs.Str.{byte};
 ghost use Rattle.calendar_text.specs.Lines.{is_line_of, name_of, property_key, property_of};
@@ -23,7 +23,8 @@ pub(crate) enum Property {
 // The name of a property.
 #[tactic(auto, unfolding(crate::specs::Lines::property_key))]
 pub(crate) fn property_key(property: Property) -> &'static [u8]
-    ensures { result.now ≡ property_key property }
+    ensures key { result.now ≡ property_key property }
+    ensures small { length result.now ≤ 7 }
 {
     match property {
         Property::Start => b"DTSTART",
