@@ -1,11 +1,11 @@
 -- A folded text is unfolded again.
-use Rattle.std.proofs.Common.{◌≡◌, ℕ, ◌+◌, ◌<◌, ◌≤◌, ◌==◌, Bool, true, false, List, [], ◌∷◌, ◌++◌, length, drop, refl, sym, ap, ◌∙◌, arith, append-nil, append_assoc, length-append}
+use Rattle.std.proofs.Common.{◌≡◌, ℕ, ◌+◌, ◌<◌, ◌≤◌, ◌==◌, Bool, true, false, List, [], ◌∷◌, ◌++◌, length, drop, refl, sym, ap, ◌∙◌, append-nil}
 use Rattle.std.specs.Prelude.{not, ◌&&◌, ◌||◌, codes, slice_index, if◌then◌else◌}
 use Rattle.std.proofs.Math.ListN.{drop_of_length-le}
 use Rattle.std.proofs.lemmas.Bool.{and_from, and_parts, eqb-true, not-true}
 use Rattle.std.proofs.lemmas.List.{drop_more}
 use Rattle.chrono_text.specs.Lists.{is_blank}
-use Rattle.calendar_text.specs.Folds.{column_behind, folded, folded_behind, folded_byte, is_left_out, may_fold, may_fold_behind, may_follow, unfolded, unfolded_behind}
+use Rattle.calendar_text.specs.Folds.{column_behind, folded, folded_behind, folded_byte, may_fold, may_fold_behind, may_follow, unfolded, unfolded_behind}
 
 -- ---- the loop that folds
 
@@ -31,7 +31,7 @@ unfolding unfolded_behind
 kept_byte before b rest cr lf blank =
     let behind = slice_index rest 0 in
     let left = ap (λ (t : Bool). (t && (behind == 10)) || (((b == 10) && is_blank behind) || (is_blank b && (before == 10)))) cr
-        ∙ ap (λ (t : Bool). (t && is_blank behind) || (is_blank b && (before == 10))) lf ∙ blank in
+    ∙ ap (λ (t : Bool). (t && is_blank behind) || (is_blank b && (before == 10))) lf ∙ blank in
     ap (λ (t : Bool). if t then unfolded_behind b rest else b ∷ unfolded_behind b rest) left
 
 and_true : (x : Bool) → (x && true) ≡ x

@@ -1,5 +1,5 @@
 -- Steps over a folded text.
-use Rattle.std.proofs.Common.{◌≡◌, ℕ, zero, suc, ◌+◌, ◌<◌, ◌≤◌, Bool, true, false, List, [], ◌∷◌, ◌++◌, length, take, drop, set, get_or, refl, sym, ap, ◌∙◌, arith, append_assoc, append-nil}
+use Rattle.std.proofs.Common.{◌≡◌, ℕ, ◌+◌, ◌<◌, ◌≤◌, true, false, List, [], ◌∷◌, ◌++◌, length, take, drop, set, sym, ap, ◌∙◌, arith, append_assoc, append-nil}
 use Rattle.std.specs.Prelude.{◌-◌, ◌==◌, slice_index, if◌then◌else◌}
 use Rattle.std.proofs.Math.ListN.{drop_of_length-le}
 use Rattle.std.proofs.lemmas.List.{drop_more, get_or-drop, take_more_set}
@@ -16,12 +16,12 @@ behind_is text at = get_or-drop (at + 1) text 0 0 ∙ ap (slice_index text) (ome
 step : (text : List ℕ) (at before : ℕ) → at < length text
     → unfolded_behind before (drop at text)
     ≡ (if is_left_out before (slice_index text at) (slice_index text (at + 1)) then unfolded_behind (slice_index text at) (drop (at + 1) text)
-      else slice_index text at ∷ unfolded_behind (slice_index text at) (drop (at + 1) text))
+    else slice_index text at ∷ unfolded_behind (slice_index text at) (drop (at + 1) text))
 unfolding unfolded_behind
 step text at before inside =
     ap (unfolded_behind before) (rest_is text at inside)
     ∙ ap (λ behind. if is_left_out before (slice_index text at) behind then unfolded_behind (slice_index text at) (drop (at + 1) text)
-      else slice_index text at ∷ unfolded_behind (slice_index text at) (drop (at + 1) text)) (behind_is text at)
+    else slice_index text at ∷ unfolded_behind (slice_index text at) (drop (at + 1) text)) (behind_is text at)
 
 pub step_over : (text : List ℕ) (at before : ℕ) → at < length text → is_left_out before (slice_index text at) (slice_index text (at + 1)) ≡ true
     → unfolded_behind before (drop at text) ≡ unfolded_behind (slice_index text at) (drop (at + 1) text)
@@ -56,7 +56,7 @@ nothing_left text front at before end =
 place : (text : List ℕ) (at before k : ℕ) → at < length text
     → place_behind before (drop at text) k
     ≡ (if is_left_out before (slice_index text at) (slice_index text (at + 1)) then place_behind (slice_index text at) (drop (at + 1) text) k + 1
-      else (if k == 0 then 0 else place_behind (slice_index text at) (drop (at + 1) text) (k - 1) + 1))
+    else (if k == 0 then 0 else place_behind (slice_index text at) (drop (at + 1) text) (k - 1) + 1))
 unfolding place_behind
 place text at before k inside =
     let over = place_behind (slice_index text at) (drop (at + 1) text) k + 1 in

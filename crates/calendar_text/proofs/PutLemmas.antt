@@ -1,5 +1,5 @@
 -- Texts that are put one behind another.
-use Rattle.std.proofs.Common.{◌≡◌, ℕ, ◌+◌, ◌<◌, ◌≤◌, List, ◌++◌, length, take, Some, None, IfSome, IfNone, refl, sym, ap, ◌∙◌, arith, append_assoc, length-append}
+use Rattle.std.proofs.Common.{◌≡◌, ℕ, List, ◌++◌, length, take, Some, None, IfSome, IfNone, ap, ◌∙◌, arith, append_assoc, length-append}
 use Rattle.std.specs.Prelude.{Option}
 use Rattle.calendar_text.specs.Puts.{IsPut, IsTooLong}
 

@@ -1,5 +1,5 @@
 -- Texts of calendars: DTSTART, RRULE, RDATE and EXDATE, one a line (RFC 5545, sections 3.8.2.4 and 3.8.5).
-use Rattle.std.specs.Prelude.{◌≡◌, ℕ, ◌+◌, Bool, true, false, if◌then◌else◌, List, [], ◌∷◌, ◌++◌, length, Option, Some, None, Result, Ok, Err, find, codes, refl}
+use Rattle.std.specs.Prelude.{◌≡◌, ℕ, if◌then◌else◌, List, [], length, Option, Some, None, Result, Ok, Err, find}
 use Rattle.std.specs.List.{filter_map, flat_map}
 use Rattle.std.specs.Option.{option_and_then, option_map}
 use Rattle.std.specs.Str.{byte}
@@ -11,7 +11,6 @@ use Rattle.calendar_text.specs.Reads.{error_at, placed_through, then_read}
 use Rattle.calendar_text.specs.declared.calendar_error.CalendarError.{CalendarError}
 use Rattle.calendar_text.specs.declared.calendar_error.CalendarFault.TheVariants.{NoStart}
 use Rattle.calendar_text.specs.declared.calendar_time.CalendarTime.{CalendarTime}
-use Rattle.calendar_text.specs.declared.content_line.Seen.{Seen}
 use Rattle.calendar_text.specs.declared.property.Property.{Property}
 use Rattle.calendar_text.specs.declared.property.Property.TheVariants.{Start, Rule, Dates, Exceptions}
 

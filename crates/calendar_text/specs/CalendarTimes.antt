@@ -1,5 +1,5 @@
 -- Dates and date-times in the texts of calendars (RFC 5545, sections 3.3.4, 3.3.5 and 3.3.12).
-use Rattle.std.specs.Prelude.{◌≡◌, ℕ, ◌+◌, ◌==◌, nat_le, nat_lt, min, Bool, ◌&&◌, ◌||◌, if◌then◌else◌, List, ◌++◌, length, take, drop, slice_index, Option, Some, None, ℤ, pos, codes, refl}
+use Rattle.std.specs.Prelude.{ℕ, ◌+◌, ◌==◌, nat_le, nat_lt, min, Bool, ◌&&◌, ◌||◌, if◌then◌else◌, List, ◌++◌, length, take, drop, slice_index, Option, Some, None, ℤ, codes}
 use Rattle.std.specs.Option.{option_and_then, option_map}
 use Rattle.std.specs.Str.{byte}
 use Rattle.chrono_datetime.specs.Moment.{Moment, moment}

@@ -1,6 +1,6 @@
 -- Folded lines (RFC 5545, section 3.1). "Content lines are delimited by a line break, which is a CRLF sequence", and a long line is split "by
 -- inserting a CRLF immediately followed by a single linear white-space character". A line feed alone is a line break here too.
-use Rattle.std.specs.Prelude.{◌≡◌, ℕ, ◌+◌, ◌-◌, ◌==◌, Bool, true, false, not, ◌&&◌, ◌||◌, if◌then◌else◌, List, [], ◌∷◌, ◌++◌, slice_index, replicate, codes, refl}
+use Rattle.std.specs.Prelude.{◌≡◌, ℕ, ◌+◌, ◌-◌, ◌==◌, Bool, true, not, ◌&&◌, ◌||◌, if◌then◌else◌, List, [], ◌∷◌, ◌++◌, slice_index, replicate, codes, refl}
 use Rattle.std.specs.Str.{byte}
 use Rattle.chrono_text.specs.Lists.{is_blank}
 

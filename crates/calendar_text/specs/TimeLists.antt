@@ -1,5 +1,5 @@
 -- The times that a list has left.
-use Rattle.std.specs.Prelude.{◌≡◌, ℕ, ◌+◌, List, [], ◌∷◌, ◌++◌, length, Option, Some, None}
+use Rattle.std.specs.Prelude.{ℕ, ◌+◌, List, [], ◌++◌, length, Option, Some, None}
 use Rattle.chrono_text.specs.Lists.{pieces}
 use Rattle.calendar_text.specs.CalendarTexts.{lines, listed_times, times_of}
 use Rattle.calendar_text.specs.declared.calendar_time.CalendarTime.{CalendarTime}

@@ -1,5 +1,5 @@
 -- The lines that are written for a calendar.
-use Rattle.std.specs.Prelude.{◌≡◌, ℕ, List, [], ◌++◌, Option, Some, None, codes}
+use Rattle.std.specs.Prelude.{ℕ, List, [], ◌++◌, Option, Some, None, codes}
 use Rattle.std.specs.List.{flat_map}
 use Rattle.calendar_text.specs.CalendarTexts.{CalendarParts}
 use Rattle.calendar_text.specs.CalendarTimes.{time_text}

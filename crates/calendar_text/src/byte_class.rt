@@ -20,11 +20,13 @@ fn is_of(class: ByteClass, byte: u8) -> bool
     match class {
         ByteClass::Safe => {
             (byte >= 32 || byte == b'\t')
-                && !(byte == b'"' || (byte == b',' || (byte == b':' || (byte == b';' || byte == 127))))
+                && !(byte == b'"'
+                    || (byte == b',' || (byte == b':' || (byte == b';' || byte == 127))))
         }
         ByteClass::Rule => {
             byte.is_ascii_alphanumeric()
-                || (byte == b'=' || (byte == b';' || (byte == b',' || (byte == b'+' || byte == b'-'))))
+                || (byte == b'='
+                    || (byte == b';' || (byte == b',' || (byte == b'+' || byte == b'-'))))
         }
     }
 }

@@ -82,7 +82,13 @@ impl<'a> CalendarLines<'a> {
         ensures length { length buffer.new ≡ length buffer.old }
     {
         let end = put_times(buffer, len, Property::Dates, self.zone, self.dates)?;
-        put_times(buffer, end, Property::Exceptions, self.zone, self.exceptions)
+        put_times(
+            buffer,
+            end,
+            Property::Exceptions,
+            self.zone,
+            self.exceptions,
+        )
     }
 }
 

@@ -84,12 +84,7 @@ fn with_line(start: &[u8], seen: Seen, line: &[u8]) -> Result<Seen, CalendarErro
 
 // What was seen, with a property and its parameters in front of a colon, and its value behind it.
 #[tactic(auto, unfolding(crate::specs::Lines::with_property))]
-fn with_property(
-    start: &[u8],
-    seen: Seen,
-    head: &[u8],
-    value: &[u8],
-) -> Result<Seen, CalendarError>
+fn with_property(start: &[u8], seen: Seen, head: &[u8], value: &[u8]) -> Result<Seen, CalendarError>
     ensures read { result ≡ with_property start.now seen head.now value.now (property_of (before_first (λ x. x == byte ";") head.now)) }
     ensures byte { IfErr result (λ e. e.byte ≤ length head.now + 1 + length value.now) }
 {
@@ -148,12 +143,7 @@ fn with_rule(seen: Seen, head: &[u8], value: &[u8]) -> Result<Seen, CalendarErro
 
 // What was seen, with RDATE or EXDATE. Their times change nothing.
 #[tactic(auto, unfolding(crate::specs::Lines::with_list))]
-fn with_list(
-    start: &[u8],
-    seen: Seen,
-    head: &[u8],
-    value: &[u8],
-) -> Result<Seen, CalendarError>
+fn with_list(start: &[u8], seen: Seen, head: &[u8], value: &[u8]) -> Result<Seen, CalendarError>
     ensures read { result ≡ with_list start.now seen head.now value.now }
     ensures byte { IfErr result (λ e. e.byte ≤ length head.now + 1 + length value.now) }
 {

@@ -34,7 +34,7 @@ loop-at-preserved c =
       size = c.put_folded.ensures.length ∙ c.loop-at.invariant.size;
       count = omega (arith, counted, size, put.end, c.loop-at.invariant.count);
       same = ap (λ r. take c.in_ok-len.len c.put_folded.new.buffer ++ r) now ∙ ap (λ f. f ++ rest) put.text
-        ∙ append_assoc (take c.loop-at.len c.loop-at.buffer) front rest ∙ ap (λ r. take c.loop-at.len c.loop-at.buffer ++ r) (sym step) ∙ c.loop-at.invariant.same;
+          ∙ append_assoc (take c.loop-at.len c.loop-at.buffer) front rest ∙ ap (λ r. take c.loop-at.len c.loop-at.buffer ++ r) (sym step) ∙ c.loop-at.invariant.same;
     }
 
 pub returns-clause-text : goal.returns-clause-text

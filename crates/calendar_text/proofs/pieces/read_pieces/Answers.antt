@@ -1,4 +1,4 @@
-use Rattle.std.proofs.Common.{◌≡◌, ◌≤◌, ◌+◌, ◌-◌, [], ◌∷◌, length, take, drop, Ok, Err, ap, sym, ◌∙◌, arith}
+use Rattle.std.proofs.Common.{◌≡◌, ◌≤◌, ◌+◌, ◌-◌, [], ◌∷◌, length, take, drop, Err, ap, sym, ◌∙◌, arith}
 use Rattle.chrono_text.specs.Lists.{pieces, pieces_behind}
 use Rattle.calendar_text.specs.Reads.{placed_through}
 use Rattle.calendar_text.proofs.PieceLemmas.{ends, goes_on, pieces_more, pieces_none, size_more, stops}
