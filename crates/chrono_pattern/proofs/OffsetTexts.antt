@@ -85,6 +85,6 @@ written_read negative hours minutes gap day hour all =
     let q = at_rest [] (record no_parts { offset = Some (signed negative (hours * 3_600 + minutes * 60)) }) in
     ap (λ (o : Result Progress Stop). end_read o)
     (read_from-more Outside 37 (122 ∷ []) r (Opened Usual, Empty) refl
-      ∙ read_from-more (Opened Usual) 122 [] r (Outside, Zoned (Offset Plain)) offset_step
-      ∙ ap (λ (o : Result Progress Stop). behind_item o Outside []) (signed_written negative hours minutes gap day hour all)
-      ∙ read_from-nothing Outside q)
+    ∙ read_from-more (Opened Usual) 122 [] r (Outside, Zoned (Offset Plain)) offset_step
+    ∙ ap (λ (o : Result Progress Stop). behind_item o Outside []) (signed_written negative hours minutes gap day hour all)
+    ∙ read_from-nothing Outside q)
