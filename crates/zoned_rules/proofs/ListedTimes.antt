@@ -3,7 +3,7 @@ use Rattle.std.proofs.Common.{◌≡◌, ◌⊎◌, ⊎_elim, ℕ, ◌+◌, ◌/
 use Rattle.std.proofs.lemmas.Bool.{and_parts, both_ways, eqb-true, ne_eqb}
 use Rattle.std.proofs.lemmas.Int.{by_lt_z, ints}
 use Rattle.chrono_datetime.specs.Moment.{IsMoment, Moment, moment}
-use Rattle.chrono_datetime.specs.PassedOver.{NoneAfter, NoneBefore, PassedBetween, PassedNumbers}
+use Rattle.chrono_datetime.specs.PassedOver.{PassedNumbers}
 use Rattle.chrono_datetime.proofs.Signed.{casts}
 use Rattle.chrono_instant.specs.Instants.{epoch_second}
 use Rattle.chrono_rules.specs.Instances.{is_instance}

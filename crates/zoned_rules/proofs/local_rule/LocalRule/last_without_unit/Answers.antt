@@ -1,5 +1,5 @@
 use Rattle.std.proofs.Common.{◌≡◌, rules, ℕ, ◌<◌, ℤ, pos, ◌+ℤ◌, ◌-ℤ◌, ◌≤ℤ◌, of_z, to_z, w64, arith, subst}
-use Rattle.std.proofs.lemmas.Int.{by_lt_z, ints}
+use Rattle.std.proofs.lemmas.Int.{by_lt_z}
 use Rattle.std.proofs.lemmas.Option.{IfSome_then}
 use Rattle.chrono_datetime.proofs.Signed.{casts}
 use Rattle.chrono_zoned.proofs.OptionLemmas.{none_then}

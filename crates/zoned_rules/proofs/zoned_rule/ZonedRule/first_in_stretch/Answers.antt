@@ -1,6 +1,5 @@
 use Rattle.std.proofs.Common.{◌≡◌, rules, ℤ, pos, SFits, ◌+ℤ◌, ◌-ℤ◌, ◌≤ℤ◌, ◌<ℤ◌, of_z, to_z, w64, arith, ◌∙◌}
 use Rattle.std.proofs.lemmas.Int.{ints, to_z-of_z}
-use Rattle.chrono_datetime.proofs.Signed.{casts}
 use Rattle.chrono_instant.specs.Instants.{epoch_second}
 use Rattle.chrono_zoned.proofs.SecondSums.{carried, near, offset_carried}
 use Rattle.zoned_rules.proofs.HeldStretch.{held_stood, least_held}
