@@ -7,13 +7,15 @@ use Rattle.chrono_instant.specs.Instants.{IsEpochSecond, epoch_second}
 use Rattle.chrono_instant.specs.Offsets.{IsOffset}
 use Rattle.chrono_instant.proofs.InstantLemmas.{IsEpochSecond-moment}
 use Rattle.chrono_zoned.specs.Zones.{HoldsUntil, IsOnly, Shows}
+use Rattle.chrono_zoned.proofs.SecondSums.{near}
+use Rattle.chrono_zoned.proofs.HeldSecondLemmas.{earlier_second, later_second}
 use Rattle.chrono_cron.specs.declared.field_sets.FieldSets.{FieldSets}
 use Rattle.chrono_cron.specs.Due.{NotDueAfter, NotDueBetween, is_due}
 use Rattle.zoned_cron.specs.declared.policy.Policy.{Policy}
 use Rattle.zoned_cron.specs.Fires.{Fires, Takes}
 use Rattle.zoned_cron.specs.Private.{IsAtLeast, IsInDates, IsPlanned, IsSettled}
 use Rattle.zoned_cron.proofs.Instants.{behind, only_taken, shown}
-use Rattle.zoned_cron.proofs.Windows.{due_fraction, earlier_second, later_second, near, reached}
+use Rattle.zoned_cron.proofs.Windows.{due_fraction, reached}
 
 -- ---- the planned local time after another, and before it
 
@@ -25,7 +27,7 @@ planned_date s l h = subst (λ (x : ℤ). IsEpochSecond x) h.second (IsEpochSeco
 
 pub planned_later : (s : FieldSets) (local next : Moment) {l n : ℤ} → IsMoment local → IsMoment next → IsBefore local next → is_due s next ≡ true → epoch_second local ≡ l → n ≡ epoch_second next → (l <ℤ n) × IsPlanned s n
 planned_later s local next {l} {n} i j before due is_l is_n = (
-  omega (arith, ints, is_l, is_n, later_second local next i j before (due_fraction s next due)),
+  omega (arith, ints, is_l, is_n, later_second local next i before (due_fraction s next due)),
   subst (λ (x : ℤ). IsPlanned s x) (sym is_n) (planned_at s next j due),
 )
 
@@ -172,7 +174,7 @@ all_within s ahead p from until end local k q holds offsets low high is is_k i n
     (λ gt. absurd (both_ways (is_due s f.planned) (none f.planned f.exists (earlier_second q f.planned j f.exists gt) (earlier_second f.planned k f.exists i (omega (arith, ints, reach, less, is_k)))) f.due))
     (λ le. le)
 
-pub last_there : (s : FieldSets) (ahead : ℤ → ℤ) (p : Policy) (from until end local l c : ℤ) → HoldsUntil ahead from until → from ≡ (end -ℤ pos 172_800) → end ≤ℤ until → local ≡ (end +ℤ ahead from) → l <ℤ local → IsPlanned s l → Shows ahead l c → IsSettled ahead c → IsEpochSecond c → (c <ℤ end) × Fires s ahead p c
+pub last_there : (s : FieldSets) (ahead : ℤ → ℤ) (p : Policy) (from until end local l c : ℤ) → HoldsUntil ahead from until → (from +ℤ pos 172_800) ≤ℤ end → end ≤ℤ until → local ≡ (end +ℤ ahead from) → l <ℤ local → IsPlanned s l → Shows ahead l c → IsSettled ahead c → IsEpochSecond c → (c <ℤ end) × Fires s ahead p c
 last_there s ahead p from until end local l c holds begun high is before planned shows settled date = (
   by_lt_z c end (λ lt. lt)
       (λ ge.
