@@ -5,7 +5,7 @@ use Rattle.std.proofs.Math.ListN.{drop_of_length-le}
 use Rattle.std.proofs.lemmas.Bool.{and_from, and_parts, eqb-true, not-true}
 use Rattle.std.proofs.lemmas.List.{drop_more}
 use Rattle.chrono_text.specs.Lists.{is_blank}
-use Rattle.calendar_text.specs.Folds.{column_behind, folded, folded_behind, folded_byte, may_fold, may_fold_behind, may_follow, unfolded, unfolded_behind}
+use Rattle.calendar_text.specs.Folds.{column_behind, folded, folded_behind, folded_byte, may_fold, may_fold_behind, may_stand_behind, unfolded, unfolded_behind}
 
 -- ---- the loop that folds
 
@@ -47,7 +47,7 @@ no_blank : (bs : List ℕ) → may_fold_behind 10 bs ≡ true → is_blank (slic
 unfolding folded_behind
 no_blank [] ok = refl
 no_blank (c ∷ cs) ok =
-    let parts = and_parts (may_follow 10 c) (may_fold_behind c cs) ok in
+    let parts = and_parts (may_stand_behind 10 c) (may_fold_behind c cs) ok in
     let follow = and_parts (not (c == 13)) (not (is_blank c && (10 == 10))) parts.0 in
     no_blank_byte c (folded_behind (column_behind 0 c) cs) (c == 10) (sym (and_true (is_blank c)) ∙ not-true (is_blank c && (10 == 10)) follow.1)
 
@@ -71,7 +71,7 @@ fold_back : (before column : ℕ) (text : List ℕ) → may_fold_behind before t
 unfolding unfolded_behind folded_behind
 fold_back before column [] ok = refl
 fold_back before column (b ∷ bs) ok =
-    let parts = and_parts (may_follow before b) (may_fold_behind b bs) ok in
+    let parts = and_parts (may_stand_behind before b) (may_fold_behind b bs) ok in
     let follow = and_parts (not (b == 13)) (not (is_blank b && (before == 10))) parts.0 in
     cases before column b bs (b == 10) refl (column == 75) (not-true (b == 13) follow.0) (not-true (is_blank b && (before == 10)) follow.1) parts.1
     (λ k. fold_back b k bs parts.1)
@@ -80,9 +80,9 @@ fold_back before column (b ∷ bs) ok =
 begins : (text : List ℕ) → may_fold_behind 10 text ≡ true → may_fold_behind 0 text ≡ true
 begins [] ok = refl
 begins (b ∷ bs) ok =
-    let parts = and_parts (may_follow 10 b) (may_fold_behind b bs) ok in
+    let parts = and_parts (may_stand_behind 10 b) (may_fold_behind b bs) ok in
     let follow = and_parts (not (b == 13)) (not (is_blank b && (10 == 10))) parts.0 in
-    and_from (may_follow 0 b) (may_fold_behind b bs) (and_from (not (b == 13)) (not (is_blank b && (0 == 10))) follow.0 (ap not (and_false (is_blank b)))) parts.1
+    and_from (may_stand_behind 0 b) (may_fold_behind b bs) (and_from (not (b == 13)) (not (is_blank b && (0 == 10))) follow.0 (ap not (and_false (is_blank b)))) parts.1
 
 pub folded_back : (text : List ℕ) → may_fold text ≡ true → unfolded (folded text) ≡ text
 unfolding may_fold

@@ -1,5 +1,6 @@
 mod FoldLemmas
 mod FoldBack
 mod TextLemmas
+mod TimesBack
 mod PieceLemmas
 mod PutLemmas
