@@ -106,10 +106,10 @@ zeros_value (z ∷ zs) all =
 
 filled : (zs ds : List ℕ) (n : ℕ) → list_all is_zero zs ≡ true → IsDigits ds n → IsDigits (zs ++ ds) n
 filled zs ds n zeros is = record {
-    tested = digits_joined zs ds ∙ and_from (all_ascii_digits zs) (all_ascii_digits ds) (zeros_tested zs zeros) is.tested;
-    some = omega (arith, length-append zs ds, is.some);
-    value = value_append zs ds ∙ ap (λ (k : ℕ). k * 10 ^ length ds + value_of ds) (zeros_value zs zeros) ∙ omega (arith, is.value);
-  }
+  tested = digits_joined zs ds ∙ and_from (all_ascii_digits zs) (all_ascii_digits ds) (zeros_tested zs zeros) is.tested;
+  some = omega (arith, length-append zs ds, is.some);
+  value = value_append zs ds ∙ ap (λ (k : ℕ). k * 10 ^ length ds + value_of ds) (zeros_value zs zeros) ∙ omega (arith, is.value);
+}
 
 natural_is : (ds : List ℕ) (n : ℕ) → IsDigits ds n → natural_of ds ≡ Some n
 unfolding natural_of
@@ -259,7 +259,7 @@ number_closed wide field padding n rest fits nine few ends =
     let own = padding_of field padding in
     barred (wide && has_sign field) (is_filled field padding) (length (number_digits own most n)) most rest
     (filled_by (most == 1) (is_zeros own) (length (number_digits own most n)) most
-      (one_filled own most n fits (few_digits own most most n few (omega arith))) (all_filled own most n nine few))
+    (one_filled own most n fits (few_digits own most most n few (omega arith))) (all_filled own most n nine few))
     ends
 
 -- ---- numbers without a sign
@@ -326,6 +326,6 @@ unsigned_back wide field padding b n rest p q unsigned fits few ends put =
     let front = ap (λ (k : ℕ). padded own k [] n ++ rest) (least_is field) ∙ padded_parts own most n [] rest in
     let text = ap (λ (l : List ℕ). behind_blanks (skip b l)) front ∙ skipped b (spaces_of own most n) (ds ++ rest) (spaces_blank own most n) (digits_stay ds rest n are) in
     ap (λ (s : Bool). if s then signed_read field (behind_blanks (skip b (padded own (least_digits field 0) [] n ++ rest))) p
-      else digits_read field most false (behind_blanks (skip b (padded own (least_digits field 0) [] n ++ rest))) p) unsigned
+    else digits_read field most false (behind_blanks (skip b (padded own (least_digits field 0) [] n ++ rest))) p) unsigned
     ∙ ap (λ (l : List ℕ). digits_read field most false l p) text
     ∙ digits_back field most n false ds rest p q are (few_digits own most most n few (omega arith)) (number_closed wide field padding n rest (omega (arith, fits)) within.1 few ends) put

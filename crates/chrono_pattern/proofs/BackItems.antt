@@ -303,7 +303,7 @@ all_back wide b rest q m x time keeps ends =
     let clock = usual_text Hour m ++ (58 ∷ (usual_text Minute m ++ (58 ∷ (usual_text Second m ++ (32 ∷ year))))) in
     let month = 32 ∷ (word_text MonthLetters m ++ (32 ∷ (usual_text SpacedDay m ++ (32 ∷ clock)))) in
     ap (λ (l : List ℕ). then_read (day_read (at_rest (skip b l) (parts_of q m x))) clock_year_read) (all_joined
-      (word_text WeekdayLetters m) (word_text MonthLetters m) (usual_text SpacedDay m) (usual_text Hour m) (usual_text Minute m) (usual_text Second m) (usual_text Year m) rest 32 32 32 58 58 32)
+    (word_text WeekdayLetters m) (word_text MonthLetters m) (usual_text SpacedDay m) (usual_text Hour m) (usual_text Minute m) (usual_text Second m) (usual_text Year m) rest 32 32 32 58 58 32)
     ∙ ap (λ (l : List ℕ). then_read (day_read (at_rest l (parts_of q m x))) clock_year_read) (opens_skips b (word_text WeekdayLetters m ++ month) (word_opens WeekdayLetters month m))
     ∙ ap (λ (o : Result Progress Stop). then_read o clock_year_read) (day_back clock q m x time)
     ∙ clock_year_back wide rest (day_parts q) m x time keeps ends

@@ -35,7 +35,7 @@ use Rattle.chrono_pattern.proofs.BackWords.{colons_stay, opens}
 not_less : (a b : ℕ) → b ≤ a → nat_lt a b ≡ false
 not_less a b h = grind (arith, nat_tests, h)
 
-two_back : (most n : ℕ) (rest : List ℕ) (p : Parsed) → n < 100 → n ≤ most → two_taken most (at_rest (two_digits n ++ rest) p) ≡ Ok (n, at_rest rest p)
+pub two_back : (most n : ℕ) (rest : List ℕ) (p : Parsed) → n < 100 → n ≤ most → two_taken most (at_rest (two_digits n ++ rest) p) ≡ Ok (n, at_rest rest p)
 unfolding two_taken
 two_back most n rest p small few =
     let text = two_digits n ++ rest in
@@ -48,7 +48,7 @@ two_back most n rest p small few =
 no_gap : (d : ℕ) → d ≤ 9 → is_of Gap (48 + d) ≡ false
 no_gap d small = grind (arith, nat_tests)
 
-digits_stay : (n : ℕ) (rest : List ℕ) → n < 100 → behind_colons (two_digits n ++ rest) ≡ two_digits n ++ rest
+pub digits_stay : (n : ℕ) (rest : List ℕ) → n < 100 → behind_colons (two_digits n ++ rest) ≡ two_digits n ++ rest
 digits_stay n rest small = colons_stay (48 + n / 10) ((48 + n % 10) ∷ rest) (no_gap (n / 10) (omega (arith, small)))
 
 colon_goes : (rest : List ℕ) → behind_colons (58 ∷ rest) ≡ behind_colons rest
@@ -71,7 +71,7 @@ digit_stands n rest small =
     some : (k : ℕ) → (1 + k == 0) ≡ false
     some k = grind (arith, nat_tests)
 
-minutes_back : (missing : Bool) (n : ℕ) (text rest : List ℕ) (p : Parsed) → n ≤ 59 → behind_colons text ≡ two_digits n ++ rest
+pub minutes_back : (missing : Bool) (n : ℕ) (text rest : List ℕ) (p : Parsed) → n ≤ 59 → behind_colons text ≡ two_digits n ++ rest
     → minutes_taken missing (at_rest text p) ≡ Ok (n, at_rest rest p)
 unfolding minutes_taken
 minutes_back missing n text rest p few is =
@@ -88,7 +88,7 @@ no_minutes : (text : List ℕ) (p : Parsed) → class_len Digit (behind_colons t
 unfolding minutes_taken
 no_minutes text p none = ap (λ (k : ℕ). if true && k == 0 then Ok (0, at_rest text p) else two_taken 59 (at_rest (behind_colons text) p)) none
 
-no_seconds : (rest : List ℕ) (p : Parsed) → seconds_behind false rest p ≡ Ok (0, at_rest rest p)
+pub no_seconds : (rest : List ℕ) (p : Parsed) → seconds_behind false rest p ≡ Ok (0, at_rest rest p)
 no_seconds [] p = refl
 no_seconds (c ∷ rest) p = refl
 
@@ -169,7 +169,7 @@ size_back Loose n rest p keeps near ends = plain_size Loose n rest p refl near k
 
 -- ---- the sign
 
-given : (t : Taken) (n : ℕ) (negative : Bool) (text rest : List ℕ) (p q : Parsed) → t ≡ Ok (n, at_rest rest p)
+pub given : (t : Taken) (n : ℕ) (negative : Bool) (text rest : List ℕ) (p q : Parsed) → t ≡ Ok (n, at_rest rest p)
     → put OffsetFromUtc (if negative then neg_ℤ (pos n) else pos n) p ≡ Ok q → size_put t negative text ≡ Ok (at_rest rest q)
 given t n negative text rest p q is done =
     ap (λ (s : Taken). size_put s negative text) is ∙ ap (λ (o : Result Parsed ReadFault). progress o rest text) done

@@ -12,7 +12,7 @@ use Rattle.chrono_instant.specs.Instants.{epoch_second}
 use Rattle.chrono_instant.specs.Offsets.{IsOffset}
 use Rattle.chrono_pattern.specs.DateParts.{date_fits, day_fits, in_window, is_present, names_date, says, week_fits, year_fits, year_week_fits}
 use Rattle.chrono_pattern.specs.ItemReads.{item_read}
-use Rattle.chrono_pattern.specs.Kept.{IsKept, given_from, given_parts, is_told, keeps_from, keeps_item, keeps_subsecond, tells_date, tells_fraction, tells_moment, tells_time, tells_zoned, with_few, with_given}
+use Rattle.chrono_pattern.specs.Kept.{LosesNothing, given_from, given_parts, is_told, keeps_from, keeps_item, keeps_subsecond, tells_date, tells_fraction, tells_moment, tells_time, tells_zoned, with_few, with_given}
 use Rattle.chrono_pattern.specs.NamedParts.{named_from, named_parts, with_item, with_named}
 use Rattle.chrono_pattern.specs.OffsetReads.{at_rest}
 use Rattle.chrono_pattern.specs.Parses.{IsDateBy, IsMomentBy, IsTimeBy, IsZonedBy}
@@ -55,7 +55,7 @@ use Rattle.chrono_pattern.proofs.ShapeLemmas.{Like, date_is_named, mark, read_li
 
 -- ---- the definitions, byte by byte
 
-keeps-more : (wide : Bool) (s : State) (c : ℕ) (bytes : List ℕ) (m : Moment) (x : ℤ) (next : State × Item) → pattern_step s c ≡ Some next
+pub keeps-more : (wide : Bool) (s : State) (c : ℕ) (bytes : List ℕ) (m : Moment) (x : ℤ) (next : State × Item) → pattern_step s c ≡ Some next
     → keeps_from wide s (c ∷ bytes) m x ≡ (keeps_item wide next.1 m x && keeps_from wide next.0 bytes m x)
 unfolding keeps_from
 keeps-more wide s c bytes m x next e =
@@ -190,7 +190,7 @@ back wide [] m x time near s bar b q h keeps =
 back wide (c ∷ bytes) m x time near s bar b q h keeps =
     step_back wide c bytes m x time near (back wide bytes m x time near) s bar b q (pattern_step s c) refl h keeps
 
-pub parts_back : (wide : Bool) (bytes : List ℕ) (m : Moment) (x : ℤ) → is_separable wide bytes ≡ true → IsKept wide bytes m x
+pub parts_back : (wide : Bool) (bytes : List ℕ) (m : Moment) (x : ℤ) → is_separable wide bytes ≡ true → LosesNothing wide bytes m x
     → text_read bytes (text_at_offset bytes m x) ≡ Ok (parts_of (given_parts bytes m.time) m x)
 parts_back wide bytes m x separable kept =
     ap (λ (o : Result Progress Stop). end_read o) (back wide bytes m x kept.time kept.offset Outside Free false no_parts separable kept.items)

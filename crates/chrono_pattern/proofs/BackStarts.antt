@@ -59,7 +59,7 @@ unpointed_byte c rest not ends = by_test (is_pattern_blank c) refl ends
     by_test true e h = ap (λ (l : List ℕ). begins_point l) (blank_goes c rest e) ∙ h
     by_test false e h = ap (λ (l : List ℕ). begins_point l) (front_stays c rest e) ∙ not
 
-gap_goes : (c : ℕ) (rest : List ℕ) → is_of Gap c ≡ true → behind_colons (c ∷ rest) ≡ behind_colons rest
+pub gap_goes : (c : ℕ) (rest : List ℕ) → is_of Gap c ≡ true → behind_colons (c ∷ rest) ≡ behind_colons rest
 unfolding class_len
 gap_goes c rest is =
     let more : 1 + prefix_len (is_of Gap) rest ≡ suc (prefix_len (is_of Gap) rest) = omega arith in
@@ -216,7 +216,6 @@ group_starts wide bar HalfClock m rest time keeps takes = by_digit bar _ takes (
 group_starts wide bar DayMonthYear m rest time keeps takes = by_digit bar _ takes (group_start wide bar DayMonthYear m rest time keeps takes)
 group_starts wide bar DateAndTime m rest time keeps takes = opens_ends bar _ (all_opens m rest)
 
-
 -- ---- a fraction
 
 point_ends : (bar : Bar) (rest : List ℕ) → takes_point bar ≡ true → Ends bar (46 ∷ rest)
@@ -273,7 +272,7 @@ fixed_starts bar count m rest some keeps takes =
     subst (λ (l : List ℕ). Ends bar l)
     (sym (ap (λ (k : ℕ). fraction_with false k f ++ rest) (asked count f some) ∙ unpointed (min count 9) f rest held.below))
     (by_digit bar (places (min count 9) f ++ rest) takes
-      (ap (λ (l : List ℕ). begins_point l) (digits_stay (places (min count 9) f) rest _ are) ∙ digits_no_point (places (min count 9) f) rest _ are))
+    (ap (λ (l : List ℕ). begins_point l) (digits_stay (places (min count 9) f) rest _ are) ∙ digits_no_point (places (min count 9) f) rest _ are))
 
 -- ---- an offset, the seconds from 1970, and all
 

@@ -78,10 +78,10 @@ places_worth k f held =
 
 pub places_are : (k f : ℕ) → IsHeld k f → IsDigits (places k f) (value_of (places k f))
 places_are k f held = record {
-    tested = take_tested (all_digits 9 f) k (nine_tested f held.below);
-    some = omega (arith, places_long k f held.few, held.some);
-    value = refl;
-  }
+  tested = take_tested (all_digits 9 f) k (nine_tested f held.below);
+  some = omega (arith, places_long k f held.few, held.some);
+  value = refl;
+}
 
 -- they are read back
 places_back : (k f : ℕ) (rest : List ℕ) (p q : Parsed) → IsHeld k f → put NanosecondOfSecond (pos f) p ≡ Ok q

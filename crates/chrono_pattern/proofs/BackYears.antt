@@ -74,7 +74,7 @@ plain_back field padding b n rest p q signed four small closed put =
     let are = number_digits-are padding 4 n (omega (arith, small)) in
     let few = few_digits padding 4 4 n (at_most 4 n (omega arith) small (omega (arith, small))) (omega arith) in
     let text = ap (λ (l : List ℕ). behind_blanks (skip b l)) (padded_parts padding 4 n [] rest)
-        ∙ skipped b (spaces_of padding 4 n) (ds ++ rest) (spaces_blank padding 4 n) (digits_stay ds rest n are) in
+    ∙ skipped b (spaces_of padding 4 n) (ds ++ rest) (spaces_blank padding 4 n) (digits_stay ds rest n are) in
     by_sign field _ (ds ++ rest) p signed text
     ∙ unsigned_digits field ds rest n p are
     ∙ ap (λ (k : ℕ). digits_read field k false (ds ++ rest) p) four

@@ -1,4 +1,5 @@
--- All serve this crate's own proofs alone.
+-- Other crates cite the first. The others serve this crate's own proofs alone.
+pub mod DateTexts
 mod PatternLemmas
 mod TimelessLemmas
 mod FieldLemmas
@@ -26,3 +27,5 @@ mod BackItems
 mod BackPatterns
 mod BackStamps
 mod BackValues
+mod BackAgain
+mod OffsetTexts

@@ -14,6 +14,7 @@ pub mod NumberReads
 pub mod WordReads
 pub mod SubsecondReads
 pub mod OffsetReads
+pub mod OffsetTexts
 pub mod ItemReads
 pub mod Reads
 pub mod DateParts

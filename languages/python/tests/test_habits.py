@@ -374,7 +374,7 @@ class Names(unittest.TestCase):
             self.assertRaises(ValueError, format, value, "d")
             self.assertRaises(TypeError, value.__format__, 1)
         self.assertRaisesRegex(ValueError, "strftime", format, HOUR, "%H")
-        self.assertEqual((f"{LEAP_DAY:%Y}", f"{NOON:%H:%M}", f"{Time(12, 30):%M}"), ("2024", "12:30", "30"))
+        self.assertEqual((f"{LEAP_DAY:%Y}", f"{NOON:at %H:%M}", f"{Time(12, 30):%M}"), ("2024", "at 12:30", "30"))
 
     def test_patterns(self):
         self.assertEqual(Date.__match_args__, ("year", "month", "day"))

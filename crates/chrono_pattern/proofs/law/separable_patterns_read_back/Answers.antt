@@ -1,5 +1,5 @@
 use Rattle.chrono_pattern.proofs.BackPatterns.{parts_back}
-use Rattle.chrono_pattern.proofs.BackValues.{date_back, moment_back, time_back, zoned_back}
+use Rattle.chrono_pattern.proofs.BackValues.{date_back, moment_back, time_back, whole_kept, zoned_back}
 use Rattle.chrono_pattern.proofs.law.separable_patterns_read_back.Goals as goal
 
 pub returns-clause-parts : goal.returns-clause-parts
@@ -16,3 +16,6 @@ returns-clause-date_time c = moment_back
 
 pub returns-clause-zoned : goal.returns-clause-zoned
 returns-clause-zoned c = zoned_back
+
+pub returns-clause-whole : goal.returns-clause-whole
+returns-clause-whole c = whole_kept

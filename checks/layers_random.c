@@ -1,0 +1,163 @@
+/* Calls each function of calendar_layers.h with random arguments, and holds the answers to one another. The seed is the first
+ * word of the command line, the number of rounds the second. The last line is `N passed, M failed`. */
+#include "calendar_layers.h"
+
+#include <stdio.h>
+#include <stdlib.h>
+#include <string.h>
+
+static int passed, failed;
+static uint64_t state;
+
+static void count(bool is_right, int line)
+{
+    if (is_right) {
+        passed++;
+    } else {
+        failed++;
+        printf("line %d\n", line);
+    }
+}
+
+#define HOLDS(claim) count(claim, __LINE__)
+
+/* A number of all 64-bit numbers (xorshift). */
+static uint64_t any(void)
+{
+    state ^= state << 13;
+    state ^= state >> 7;
+    state ^= state << 17;
+    return state;
+}
+
+/* Bytes of their own, so that a tool sees each one read or written beyond them. */
+static uint8_t *bytes(size_t length)
+{
+    uint8_t *made = malloc(length ? length : 1);
+    for (size_t i = 0; i < length; i++) {
+        made[i] = (uint8_t)any();
+    }
+    return made;
+}
+
+/* A text of letters that stand in texts of schedules and rules. */
+static uint8_t *text(size_t length)
+{
+    static const char letters[] = "0123456789***,,--//  @LW#monjanfri;=FREQDAILYBYTX.%:YmdHMS";
+    uint8_t *made = bytes(length);
+    for (size_t i = 0; i < length; i++) {
+        made[i] = (uint8_t)letters[any() % (sizeof letters - 1)];
+    }
+    return made;
+}
+
+static void fill(void *place, size_t length)
+{
+    uint8_t *made = bytes(length);
+    memcpy(place, made, length);
+    free(made);
+}
+
+/* A date-time of the calendar, or now and then any two numbers. */
+static calendar_date_time moment(void)
+{
+    calendar_date_time made = {(int64_t)any(), (uint32_t)any()};
+    if (any() % 8) {
+        made.seconds = (int64_t)(any() % 16544868105599u) - 8334601228800;
+        made.nanos = any() % 2 ? 0 : (uint32_t)(any() % 1000000000);
+    }
+    return made;
+}
+
+static bool is_before(calendar_date_time a, calendar_date_time b)
+{
+    return a.seconds < b.seconds || (a.seconds == b.seconds && a.nanos < b.nanos);
+}
+
+static bool is_moment(calendar_date_time a)
+{
+    bool has_seconds = -8334601228800 <= a.seconds && a.seconds <= 8210266876799;
+    int64_t second = ((a.seconds % 60) + 60) % 60;
+    return has_seconds && (a.nanos < 1000000000 || (a.nanos < 2000000000 && second == 59));
+}
+
+static void schedule_texts(void)
+{
+    size_t length = any() % 24;
+    uint8_t *given = text(length);
+    calendar_schedule schedule, before;
+    calendar_fault fault = {0, 0, 0, 0};
+    fill(&schedule, sizeof schedule);
+    before = schedule;
+    if (calendar_schedule_read(given, length, &schedule, &fault)) {
+        HOLDS(fault.code == 0);
+    } else {
+        HOLDS(memcmp(&schedule, &before, sizeof schedule) == 0);
+        HOLDS(fault.byte <= fault.end && fault.end <= length);
+        uint8_t *said = bytes(99);
+        HOLDS(calendar_schedule_fault_text(&fault, said, 99) > 0);
+        free(said);
+    }
+    free(given);
+    fill(&fault, sizeof fault);
+    fault.code = (uint32_t)(any() % 20);
+    size_t room = any() % 100;
+    uint8_t *said = bytes(room);
+    int32_t written = calendar_schedule_fault_text(&fault, said, room);
+    HOLDS(written == CALENDAR_NONE || (written > 0 && (size_t)written <= room));
+    free(said);
+}
+
+static void schedules(void)
+{
+    calendar_schedule schedule;
+    fill(&schedule, sizeof schedule);
+    if (any() % 2) {
+        /* (a seldom one) */
+        schedule.minutes &= any() & any() & any();
+        schedule.hours &= any() & any() & any();
+        schedule.days &= any() & any() & any();
+        schedule.months &= any() & any();
+    }
+    calendar_date_time start = moment(), until = moment();
+    calendar_date_time next = calendar_schedule_next(&schedule, start), last = calendar_schedule_prev(&schedule, start);
+    HOLDS(!is_moment(next) || (is_before(start, next) && calendar_schedule_is_due(&schedule, next)));
+    HOLDS(!is_moment(last) || (is_before(last, start) && calendar_schedule_is_due(&schedule, last)));
+    HOLDS(is_moment(start) || (!is_moment(next) && !is_moment(last)));
+    size_t room = any() % 9;
+    calendar_date_time *out = malloc((room ? room : 1) * sizeof *out);
+    size_t written = calendar_schedule_due(&schedule, start, until, out, room);
+    HOLDS(written <= room);
+    calendar_date_time at = start;
+    size_t found = 0;
+    while (is_moment(start) && is_moment(until) && found < room) {
+        at = calendar_schedule_next(&schedule, at);
+        if (!is_moment(at) || is_before(until, at) || found >= written || out[found].seconds != at.seconds || out[found].nanos != at.nanos) {
+            break;
+        }
+        found++;
+    }
+    HOLDS(found == written);
+    free(out);
+}
+
+static void versions(void)
+{
+    size_t room = any() % 9;
+    uint8_t *said = bytes(room);
+    HOLDS((calendar_version(said, room) == CALENDAR_NONE) == (room < strlen(CALENDAR_VERSION)));
+    free(said);
+}
+
+int main(int count_of_words, char **words)
+{
+    state = count_of_words > 1 ? strtoull(words[1], NULL, 10) : 1;
+    long rounds = count_of_words > 2 ? strtol(words[2], NULL, 10) : 1000;
+    for (long i = 0; i < rounds; i++) {
+        versions();
+        schedule_texts();
+        schedules();
+    }
+    printf("%d passed, %d failed\n", passed, failed);
+    return failed != 0;
+}

@@ -1,0 +1,5 @@
+mod FoldLemmas
+mod FoldBack
+mod TextLemmas
+mod PieceLemmas
+mod PutLemmas

@@ -1,0 +1,7 @@
+-- These serve this crate's own proofs alone.
+mod DigitLemmas
+mod FilledLists
+mod MomentLemmas
+mod Numbered
+mod SaidLemmas
+mod SetsOfFields
