@@ -80,6 +80,12 @@ class Making(unittest.TestCase):
                     self.assertRaises(AttributeError, setattr, value, name, 1)
                     self.assertRaises(AttributeError, delattr, value, name)
 
+    def test_extend(self):
+        """Only the types of the module get members from its Python, and those are not changed from outside."""
+        for wrong in (int, 1, Weekday, Day):
+            self.assertRaises(TypeError, proved_calendar._calendar.extend, wrong, "other", 1)
+        self.assertRaises(TypeError, setattr, Date, "today", None)
+
     def test_version_and_names(self):
         self.assertRegex(proved_calendar.__version__, r"^\d+\.\d+\.\d+$")
         for name in proved_calendar.__all__:
