@@ -25,9 +25,6 @@ _OF_DURATION = re.compile(
 )
 _SECOND, _MINUTE, _HOUR, _DAY = 10**9, 60 * 10**9, 3_600 * 10**9, 86_400 * 10**9
 
-# How many bytes of a text a time of day has in each precision, from its hour on.
-_ENDS = {"hours": 2, "minutes": 5, "seconds": 8, "milliseconds": 12, "microseconds": 15, "nanoseconds": 18}
-
 
 # ---- texts that are read
 
@@ -86,24 +83,6 @@ def nanoseconds_of_text(text: str) -> int:
 
 
 # ---- texts that are written
-
-
-def clock_in(clock: str, timespec: str | None) -> str:
-    """The text of a time of day to a precision; what it leaves out is cut off."""
-    if timespec is None or timespec == "auto":
-        return clock
-    if timespec not in _ENDS:
-        raise ValueError(f"timespec {timespec!r}: it is auto, {', '.join(_ENDS)}")
-    whole, _, fraction = clock.partition(".")
-    return f"{whole}.{fraction.ljust(9, '0')}"[: _ENDS[timespec]]
-
-
-def text_of_date_time(text: str, sep: str | None, timespec: str | None) -> str:
-    """The text of a date-time with another separator, or to a precision."""
-    date, _, clock = text.partition("T")
-    if sep is not None and not (isinstance(sep, str) and len(sep) == 1):
-        raise TypeError("the separator is one character")
-    return f"{date}{'T' if sep is None else sep}{clock_in(clock, timespec)}"
 
 
 def _fraction(nanoseconds: int) -> str:
