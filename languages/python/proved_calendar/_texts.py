@@ -3,6 +3,7 @@
 A text in another form is written anew in the form of the proved reader, which then reads it. So whether there is such a date or
 time, and which one it is, comes from there. Nothing here is proved.
 """
+import operator
 import re
 from typing import Any
 
@@ -138,7 +139,7 @@ def rounded(numerator: int, denominator: int) -> int:
 def ratio_of(number: Any) -> tuple[int, int]:
     """The fraction that a number is."""
     if not isinstance(number, float):
-        return number.__index__(), 1
+        return operator.index(number), 1
     ratio = number.as_integer_ratio()
     if not isinstance(ratio, tuple):
         raise TypeError(f"as_integer_ratio answers {type(ratio).__name__}, and no tuple")
