@@ -1,4 +1,3 @@
 pub mod Faults
 pub mod NumberSets
-pub mod OpenDays
 pub mod Schedules
