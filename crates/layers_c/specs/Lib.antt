@@ -1,3 +1,4 @@
 pub mod Faults
 pub mod NumberSets
+pub mod OpenDays
 pub mod Schedules

@@ -7,6 +7,7 @@
 
 mod faults;
 mod number_sets;
+mod open_days;
 mod part_end;
 mod schedule_faults;
 mod schedule_numbers;
