@@ -1,5 +1,5 @@
 -- A time that is written is read back.
-use Rattle.std.proofs.Common.{◌≡◌, ℕ, ◌+◌, ◌*◌, ◌/◌, ◌%◌, ◌<◌, ◌≤◌, ◌==◌, Bool, true, false, ◌||◌, if◌then◌else◌, List, [], ◌∷◌, ◌++◌, min, Some, None, ℤ, ◌≤ℤ◌, refl, sym, ap, ap₂, ◌∙◌, arith}
+use Rattle.std.proofs.Common.{◌≡◌, ℕ, ◌+◌, ◌*◌, ◌/◌, ◌%◌, ◌<◌, ◌≤◌, if◌then◌else◌, List, [], ◌∷◌, ◌++◌, min, Some, None, ℤ, ◌≤ℤ◌, refl, sym, ap, ap₂, ◌∙◌, arith}
 use Rattle.std.specs.Prelude.{int_le, negsuc, pos, nat_le, nat_lt, ◌&&◌}
 use Rattle.std.specs.Fmt.{decimal}
 use Rattle.std.specs.Option.{option_and_then, option_map}
@@ -11,8 +11,7 @@ use Rattle.chrono_text.proofs.NaturalLemmas.{four_digits-read, two_digits-read}
 use Rattle.chrono_datetime.specs.Days.{date_of_ymd, day_of, month_of, year_of}
 use Rattle.chrono_datetime.specs.Moment.{Moment}
 use Rattle.chrono_datetime.specs.Time.{TimeOfDay, hour_of, minute_of, second_of, time_at}
-use Rattle.chrono_datetime.specs.Years.{is_leap_year}
-use Rattle.chrono_datetime.proofs.NamedDates.{IsDate-year, calendar_name-exists, date_of_ymd-again}
+use Rattle.chrono_datetime.proofs.NamedDates.{IsDate-year, calendar_name-exists, date_of_ymd-again, day_of-small}
 use Rattle.chrono_datetime.proofs.Signed.{signed}
 use Rattle.chrono_rules.specs.RuleTexts.{date_of}
 use Rattle.chrono_rules.specs.WrittenRules.{basic_date_text, four_digits}
@@ -33,26 +32,15 @@ eight_back y m d year month day =
     ∙ ap (option_and_then (λ m. option_and_then (date_of_ymd (pos y) m) (digits_of 2 (two_digits d)))) (two_digits-read m month)
     ∙ ap (option_and_then (date_of_ymd (pos y) m)) (two_digits-read d day)
 
-length_few : (leap a b : Bool) → (if a then (if leap then 29 else 28) else (if b then 30 else 31)) ≤ 31
-length_few true true b = omega arith
-length_few false true b = omega arith
-length_few leap false true = omega arith
-length_few leap false false = omega arith
-
-name_small : (n : ℤ) → (month_of n < 100) × (day_of n < 100)
-name_small n =
-    let name = calendar_name-exists n in
-    let m = month_of n in
-    let few = length_few (is_leap_year (year_of n)) (m == 2) ((m == 4) || (m == 6) || (m == 9) || (m == 11)) in
-    (omega (arith, name.0.1), omega (arith, name.1.1, few))
-
-year_digits : (y : ℤ) → pos 0 ≤ℤ y → y ≤ℤ pos 9_999 → (k : ℕ) × (y ≡ pos k) × (k ≤ 9_999) × (four_digits y ≡ two_digits (k / 100) ++ two_digits (k % 100))
-year_digits (pos k) low high =
+-- the text of a date with a year in four digits
+date_digits : (n y : ℤ) → year_of n ≡ y → pos 0 ≤ℤ y → y ≤ℤ pos 9_999 → (k : ℕ) × (y ≡ pos k) × (k ≤ 9_999) × (basic_date_text n ≡ eight k (month_of n) (day_of n))
+date_digits n (pos k) is low high =
     let few : k ≤ 9_999 = omega (arith, signed, high) in
-    let four : four_digits (pos k) ≡ all_digits 4 k =
-    ap (λ t. if t then all_digits 4 k else decimal k) (and_from (int_le (pos 0) (pos k)) (int_le (pos k) (pos 9_999)) (le-leb 0 k (omega arith)) (le-leb k 9_999 few)) in
-    (k, refl, few, four ∙ four_places k (omega (arith, few)))
-year_digits (negsuc k) low high = absurd (omega (arith, signed, low))
+    let both = and_from (int_le (pos 0) (pos k)) (int_le (pos k) (pos 9_999)) (le-leb 0 k (omega arith)) (le-leb k 9_999 few) in
+    let four : four_digits (pos k) ≡ all_digits 4 k = ap (λ t. if t then all_digits 4 k else decimal k) both in
+    let year = ap four_digits is ∙ four ∙ four_places k (omega (arith, few)) in
+    (k, refl, few, ap (λ text. (text ++ two_digits (month_of n)) ++ two_digits (day_of n)) year)
+date_digits n (negsuc k) is low high = absurd (omega (arith, signed, low))
 
 -- a date's text is eight bytes, of which the date is read
 record IsEight (n : ℤ) : Type 0 where
@@ -64,15 +52,17 @@ record IsEight (n : ℤ) : Type 0 where
 
 day_back : (n : ℤ) → HasFourDigits n → IsEight n
 day_back n (low, high) =
-    let year = year_digits (year_of n) low high in
-    let size = name_small n in
+    let digits = date_digits n (year_of n) refl low high in
+    let name = calendar_name-exists n in
+    let month : month_of n < 100 = omega (arith, name.0.1) in
+    let day : day_of n < 100 = omega (arith, day_of-small n) in
     let is = IsDate-year n (omega (arith, signed, low), omega (arith, signed, high)) in
     record {
-      y = year.0;
+      y = digits.0;
       m = month_of n;
       d = day_of n;
-      written = ap (λ text. (text ++ two_digits (month_of n)) ++ two_digits (day_of n)) year.3;
-      read = eight_back year.0 (month_of n) (day_of n) year.2 size.0 size.1 ∙ ap (λ y. date_of_ymd y (month_of n) (day_of n)) (sym year.1) ∙ date_of_ymd-again n is;
+      written = digits.3;
+      read = eight_back digits.0 (month_of n) (day_of n) digits.2 month day ∙ ap (λ y. date_of_ymd y (month_of n) (day_of n)) (sym digits.1) ∙ date_of_ymd-again n is;
     }
 
 -- ---- a time of day in six digits
