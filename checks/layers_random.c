@@ -33,7 +33,7 @@ static uint64_t any(void)
 /* Bytes of their own, so that a tool sees each one read or written beyond them. */
 static uint8_t *bytes(size_t length)
 {
-    uint8_t *made = malloc(length ? length : 1);
+    uint8_t *made = (uint8_t *)malloc(length ? length : 1);
     for (size_t i = 0; i < length; i++) {
         made[i] = (uint8_t)any();
     }
@@ -125,7 +125,7 @@ static void schedules(void)
     HOLDS(!is_moment(last) || (is_before(last, start) && calendar_schedule_is_due(&schedule, last)));
     HOLDS(is_moment(start) || (!is_moment(next) && !is_moment(last)));
     size_t room = any() % 9;
-    calendar_date_time *out = malloc((room ? room : 1) * sizeof *out);
+    calendar_date_time *out = (calendar_date_time *)malloc((room ? room : 1) * sizeof *out);
     size_t written = calendar_schedule_due(&schedule, start, until, out, room);
     HOLDS(written <= room);
     calendar_date_time at = start;

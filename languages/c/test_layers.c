@@ -75,7 +75,7 @@ static void texts_of_schedules(void)
     IS(has_fault("0 25,7 * * *", CALENDAR_SCHEDULE_OUT_OF_RANGE, 2, 2, 4), true);
     IS(has_fault("5,60 * * * *", CALENDAR_SCHEDULE_OUT_OF_RANGE, 1, 2, 4), true);
     IS(has_fault("* * * *", CALENDAR_SCHEDULE_TOO_FEW_FIELDS, 0, 7, 7), true);
-    IS(has_fault("", CALENDAR_SCHEDULE_TOO_FEW_FIELDS, 0, 0, 0), true);
+    IS(has_fault("", CALENDAR_SCHEDULE_EMPTY, 0, 0, 0), true);
     IS(has_fault("* * * * * *", CALENDAR_SCHEDULE_TOO_MANY_FIELDS, 0, 10, 11), true);
     IS(has_fault("* * * foo *", CALENDAR_SCHEDULE_UNKNOWN_NAME, 4, 6, 9), true);
     IS(has_fault("* * * * */0", CALENDAR_SCHEDULE_STEP_OF_ZERO, 5, 10, 11), true);

@@ -49,12 +49,12 @@ abbrev pub folded : List ℕ → List ℕ
 folded text = folded_behind 0 text
 
 -- a byte may stand behind another in a text that can be folded: it is no carriage return, and no blank at the beginning of a line
-abbrev pub may_follow : ℕ → ℕ → Bool
-may_follow before b = not (b == byte "\r") && not (is_blank b && (before == byte "\n"))
+abbrev pub may_stand_behind : ℕ → ℕ → Bool
+may_stand_behind before b = not (b == byte "\r") && not (is_blank b && (before == byte "\n"))
 
 abbrev pub may_fold_behind : ℕ → List ℕ → Bool
 may_fold_behind before [] = true
-may_fold_behind before (b ∷ bs) = may_follow before b && may_fold_behind b bs
+may_fold_behind before (b ∷ bs) = may_stand_behind before b && may_fold_behind b bs
 
 -- no line begins with a blank, and no byte is a carriage return
 unfoldable pub may_fold : List ℕ → Bool

@@ -1,6 +1,6 @@
 -- The content lines of a calendar's text: "contentline = name *(";" param) ":" value CRLF" (RFC 5545, section 3.1). Names of properties and of
 -- parameters, and the values of parameters, are "case-insensitive" (section 2).
-use Rattle.std.specs.Prelude.{ℕ, ◌+◌, ◌==◌, nat_le, Bool, true, false, not, ◌&&◌, ◌||◌, if◌then◌else◌, List, [], ◌∷◌, length, drop, Option, Some, None, Result, Ok, Err, is_some, codes}
+use Rattle.std.specs.Prelude.{ℕ, ◌+◌, ◌==◌, nat_le, Bool, true, false, not, ◌&&◌, ◌||◌, if◌then◌else◌, List, [], ◌∷◌, length, drop, Option, Some, None, Result, Ok, Err, is_some, codes, ◌≡◌, refl}
 use Rattle.std.specs.Borrow.{Bor}
 use Rattle.std.specs.Char.{is_ascii_alphanumeric}
 use Rattle.std.specs.List.{after_first, before_first, prefix_len}
@@ -8,7 +8,7 @@ use Rattle.std.specs.Option.{option_map}
 use Rattle.std.specs.Str.{byte, str_eq_ignore_ascii_case}
 use Rattle.chrono_text.specs.Lists.{begins_alike, pieces, stands_in}
 use Rattle.calendar_text.specs.CalendarTimes.{time_of}
-use Rattle.calendar_text.specs.Reads.{behind, error_at, placed_through, then_read}
+use Rattle.calendar_text.specs.Reads.{behind, calendar_error_at, placed_through, and_then_read}
 use Rattle.calendar_text.specs.declared.byte_class.ByteClass.{ByteClass}
 use Rattle.calendar_text.specs.declared.byte_class.ByteClass.TheVariants.{Safe, Rule as OfRule}
 use Rattle.calendar_text.specs.declared.calendar_error.CalendarError.{CalendarError}
@@ -30,24 +30,24 @@ text_in text = option_map (λ (t : Bor (List ℕ)). t.now) text
 abbrev pub head_of : List ℕ → List ℕ
 head_of line = before_first (λ x. x == byte ":") line
 
-abbrev pub value_of : List ℕ → List ℕ
-value_of line = after_first (λ x. x == byte ":") line
+abbrev pub line_value : List ℕ → List ℕ
+line_value line = after_first (λ x. x == byte ":") line
 
 -- the name in front of the parameters
-abbrev pub name_of : List ℕ → List ℕ
-name_of line = before_first (λ x. x == byte ";") (head_of line)
+abbrev pub property_name : List ℕ → List ℕ
+property_name line = before_first (λ x. x == byte ";") (head_of line)
 
 -- ---- bytes
 
 -- "SAFE-CHAR = WSP / %x21 / %x23-2B / %x2D-39 / %x3C-7E / NON-US-ASCII": any character but controls, `"`, `;`, `:` and `,`. And the bytes of
 -- a rule: letters, digits, signs, and what stands between
-unfoldable pub is_of : ByteClass → ℕ → Bool
-is_of Safe b = (nat_le 32 b || (b == byte "\t")) && not ((b == byte "\"") || ((b == byte ",") || ((b == byte ":") || ((b == byte ";") || (b == 127)))))
-is_of OfRule b = is_ascii_alphanumeric b || ((b == byte "=") || ((b == byte ";") || ((b == byte ",") || ((b == byte "+") || (b == byte "-")))))
+unfoldable pub has_class : ByteClass → ℕ → Bool
+has_class Safe b = (nat_le 32 b || (b == byte "\t")) && not ((b == byte "\"") || ((b == byte ",") || ((b == byte ":") || ((b == byte ";") || (b == 127)))))
+has_class OfRule b = is_ascii_alphanumeric b || ((b == byte "=") || ((b == byte ";") || ((b == byte ",") || ((b == byte "+") || (b == byte "-")))))
 
 -- a text of a class: some bytes, each of the class
 abbrev pub is_of_class : ByteClass → List ℕ → Bool
-is_of_class class text = not (length text == 0) && (prefix_len (is_of class) text == length text)
+is_of_class class text = not (length text == 0) && (prefix_len (has_class class) text == length text)
 
 -- ---- parameters
 
@@ -59,25 +59,25 @@ no_parameters = record { has_zone = false; has_type = false; is_date = false }
 -- to DATE properties"
 unfoldable pub with_zone : Parameters → List ℕ → Result Parameters CalendarError
 with_zone p name =
-    if p.has_zone then Err (error_at 0 ParameterTwice)
-    else if p.is_date then Err (error_at 0 ZoneOfDate)
+    if p.has_zone then Err (calendar_error_at 0 ParameterTwice)
+    else if p.is_date then Err (calendar_error_at 0 ZoneOfDate)
     else if is_of_class Safe name then Ok (record p { has_zone = true })
-    else Err (error_at (5 + prefix_len (is_of Safe) name) NotAZoneName)
+    else Err (calendar_error_at (5 + prefix_len (has_class Safe) name) NotAZoneName)
 
 -- "VALUE" "=" ("DATE-TIME" / "DATE"). RDATE may also have PERIOD, which is not read here
 unfoldable pub with_type : Parameters → List ℕ → Result Parameters CalendarError
 with_type p word =
-    if p.has_type then Err (error_at 0 ParameterTwice)
-    else if str_eq_ignore_ascii_case word (codes "DATE") then (if p.has_zone then Err (error_at 0 ZoneOfDate) else Ok (record p { has_type = true; is_date = true }))
+    if p.has_type then Err (calendar_error_at 0 ParameterTwice)
+    else if str_eq_ignore_ascii_case word (codes "DATE") then (if p.has_zone then Err (calendar_error_at 0 ZoneOfDate) else Ok (record p { has_type = true; is_date = true }))
     else if str_eq_ignore_ascii_case word (codes "DATE-TIME") then Ok (record p { has_type = true })
-    else Err (error_at 6 UnknownValueType)
+    else Err (calendar_error_at 6 UnknownValueType)
 
 -- one more parameter. Each is "OPTIONAL, but MUST NOT occur more than once"
 unfoldable pub with_parameter : Parameters → List ℕ → Result Parameters CalendarError
 with_parameter p text =
     if begins_alike (codes "TZID=") text then with_zone p (drop 5 text)
     else if begins_alike (codes "VALUE=") text then with_type p (drop 6 text)
-    else Err (error_at 0 UnknownParameter)
+    else Err (calendar_error_at 0 UnknownParameter)
 
 -- the parameters in front of a line's colon, with a semicolon in front of each
 unfoldable pub parameters_read : List ℕ → Result Parameters CalendarError
@@ -118,7 +118,7 @@ property_of name =
 
 -- a line is of a property
 abbrev pub is_line_of : Property → List ℕ → Bool
-is_line_of property line = is_name property (name_of line)
+is_line_of property line = is_name property (property_name line)
 
 -- ---- times of a line
 
@@ -135,10 +135,10 @@ time_fault k (Utc m) = if k.utcs then None else Some OtherKind
 -- a time, unless that is wrong with it
 abbrev pub unless_fault : CalendarTime → Option CalendarFault → Result CalendarTime CalendarError
 unless_fault t None = Ok t
-unless_fault t (Some fault) = Err (error_at 0 fault)
+unless_fault t (Some fault) = Err (calendar_error_at 0 fault)
 
 abbrev pub checked_time : Kinds → Option CalendarTime → Result CalendarTime CalendarError
-checked_time k None = Err (error_at 0 NotATime)
+checked_time k None = Err (calendar_error_at 0 NotATime)
 checked_time k (Some t) = unless_fault t (time_fault k t)
 
 -- the time that a text writes in a line
@@ -147,7 +147,7 @@ time_read k text = checked_time k (time_of text)
 
 -- one more time of a list. `true` says that all so far are times
 unfoldable pub with_time : Kinds → Bool → List ℕ → Result Bool CalendarError
-with_time k before text = then_read (time_read k text) (λ t. Ok true)
+with_time k before text = and_then_read (time_read k text) (λ t. Ok true)
 
 -- two names of zones are one, in letters of either case; or there is none in both
 abbrev pub same_zone : Option (List ℕ) → Option (List ℕ) → Bool
@@ -165,7 +165,7 @@ is_local (Some (Utc m)) = false
 
 -- a line has local times of the same zone as the line of DTSTART
 unfoldable pub zones_agree : List ℕ → List ℕ → Bool
-zones_agree start head = is_local (time_of (value_of start)) && same_zone (zone_of head) (zone_of (head_of start))
+zones_agree start head = is_local (time_of (line_value start)) && same_zone (zone_of head) (zone_of (head_of start))
 
 -- ---- lines
 
@@ -176,26 +176,26 @@ nothing_seen = record { start = None; has_rule = false }
 -- DTSTART: parameters and one time. It "MUST NOT occur more than once"
 unfoldable pub with_start : Seen → List ℕ → List ℕ → Result Seen CalendarError
 with_start s head value =
-    if is_some s.start then Err (error_at 0 PropertyTwice)
-    else then_read (parameters_read head) (λ p. then_read (behind (length head + 1) (time_read (kinds_of p true) value)) (λ t. Ok (record s { start = Some t })))
+    if is_some s.start then Err (calendar_error_at 0 PropertyTwice)
+    else and_then_read (parameters_read head) (λ p. and_then_read (behind (length head + 1) (time_read (kinds_of p true) value)) (λ t. Ok (record s { start = Some t })))
 
 -- RRULE: no parameter, and the bytes of a rule. The rule itself is not read. More than one is not read here
 unfoldable pub with_rule : Seen → List ℕ → List ℕ → Result Seen CalendarError
 with_rule s head value =
-    if s.has_rule then Err (error_at 0 PropertyTwice)
-    else if stands_in (byte ";") head then Err (error_at (length (before_first (λ x. x == byte ";") head) + 1) UnknownParameter)
+    if s.has_rule then Err (calendar_error_at 0 PropertyTwice)
+    else if stands_in (byte ";") head then Err (calendar_error_at (length (before_first (λ x. x == byte ";") head) + 1) UnknownParameter)
     else if is_of_class OfRule value then Ok (record s { has_rule = true })
-    else Err (error_at (length head + 1 + prefix_len (is_of OfRule) value) NotARule)
+    else Err (calendar_error_at (length head + 1 + prefix_len (has_class OfRule) value) NotARule)
 
 -- RDATE and EXDATE: parameters, and times with a comma between each two. A local time is in the zone of DTSTART
 unfoldable pub with_list : List ℕ → Seen → List ℕ → List ℕ → Result Seen CalendarError
 with_list start s head value =
-    then_read (parameters_read head) (λ p.
-    then_read (behind (length head + 1) (placed_through (with_time (kinds_of p (zones_agree start head))) false 0 (pieces (byte ",") value))) (λ t. Ok s))
+    and_then_read (parameters_read head) (λ p.
+    and_then_read (behind (length head + 1) (placed_through (with_time (kinds_of p (zones_agree start head))) false 0 (pieces (byte ",") value))) (λ t. Ok s))
 
 -- a property with its parameters and its value
 unfoldable pub with_property : List ℕ → Seen → List ℕ → List ℕ → Option Property → Result Seen CalendarError
-with_property start s head value None = Err (error_at 0 UnknownProperty)
+with_property start s head value None = Err (calendar_error_at 0 UnknownProperty)
 with_property start s head value (Some Start) = with_start s head value
 with_property start s head value (Some Rule) = with_rule s head value
 with_property start s head value (Some Dates) = with_list start s head value
@@ -205,5 +205,60 @@ with_property start s head value (Some Exceptions) = with_list start s head valu
 unfoldable pub with_line : List ℕ → Seen → List ℕ → Result Seen CalendarError
 with_line start s line =
     if length line == 0 then Ok s
-    else if stands_in (byte ":") line then with_property start s (head_of line) (value_of line) (property_of (name_of line))
-    else Err (error_at (length line) NoColon)
+    else if stands_in (byte ":") line then with_property start s (head_of line) (line_value line) (property_of (property_name line))
+    else Err (calendar_error_at (length line) NoColon)
+
+-- ---- known values: parameters that go together, and what is wrong with others, behind so many bytes
+parameters_read-zone : parameters_read (codes "DTSTART;TZID=Europe/Berlin") ≡ Ok (record { has_zone = true; has_type = false; is_date = false })
+unfolding parameters_read placed_through with_parameter with_zone has_class
+parameters_read-zone = refl
+
+parameters_read-small : parameters_read (codes "rdate;value=date") ≡ Ok (record { has_zone = false; has_type = true; is_date = true })
+unfolding parameters_read placed_through with_parameter with_type
+parameters_read-small = refl
+
+parameters_read-both : parameters_read (codes "EXDATE;VALUE=DATE;TZID=UTC") ≡ Err (calendar_error_at 18 ZoneOfDate)
+unfolding parameters_read placed_through with_parameter with_zone with_type
+parameters_read-both = refl
+
+parameters_read-twice : parameters_read (codes "RDATE;value=date;Value=DATE-TIME") ≡ Err (calendar_error_at 17 ParameterTwice)
+unfolding parameters_read placed_through with_parameter with_type
+parameters_read-twice = refl
+
+parameters_read-period : parameters_read (codes "RDATE;VALUE=PERIOD") ≡ Err (calendar_error_at 12 UnknownValueType)
+unfolding parameters_read placed_through with_parameter with_type
+parameters_read-period = refl
+
+parameters_read-quoted : parameters_read (codes "DTSTART;TZID=\"UTC\"") ≡ Err (calendar_error_at 13 NotAZoneName)
+unfolding parameters_read placed_through with_parameter with_zone has_class
+parameters_read-quoted = refl
+
+parameters_read-empty : parameters_read (codes "DTSTART;TZID=") ≡ Err (calendar_error_at 13 NotAZoneName)
+unfolding parameters_read placed_through with_parameter with_zone has_class
+parameters_read-empty = refl
+
+parameters_read-range : parameters_read (codes "DTSTART;RANGE=ALL") ≡ Err (calendar_error_at 8 UnknownParameter)
+unfolding parameters_read placed_through with_parameter
+parameters_read-range = refl
+
+zone_of-behind : zone_of (codes "DTSTART;VALUE=DATE-TIME;tzid=Asia/Tokyo") ≡ Some (codes "Asia/Tokyo")
+unfolding zone_of
+zone_of-behind = refl
+
+-- a name ends at a semicolon or a colon
+is_line_of-small : is_line_of Dates (codes "rdate;VALUE=DATE:20240131") ≡ true
+unfolding property_key
+is_line_of-small = refl
+
+is_line_of-longer : is_line_of Dates (codes "RDATES:20240131") ≡ false
+unfolding property_key
+is_line_of-longer = refl
+
+-- bytes of a rule, and what is none
+is_of_class-rule : is_of_class OfRule (codes "FREQ=MONTHLY;BYDAY=-1FR,+2MO;UNTIL=20241224T000000Z") ≡ true
+unfolding has_class
+is_of_class-rule = refl
+
+is_of_class-blank : is_of_class OfRule (codes "FREQ=DAILY ") ≡ false
+unfolding has_class
+is_of_class-blank = refl

@@ -1,7 +1,7 @@
 -- The times that a list has left.
 use Rattle.std.specs.Prelude.{ℕ, ◌+◌, List, [], ◌++◌, length, Option, Some, None}
 use Rattle.chrono_text.specs.Lists.{pieces}
-use Rattle.calendar_text.specs.CalendarTexts.{lines, listed_times, times_of}
+use Rattle.calendar_text.specs.CalendarTexts.{content_lines, listed_times, times_of}
 use Rattle.calendar_text.specs.declared.calendar_time.CalendarTime.{CalendarTime}
 use Rattle.calendar_text.specs.declared.property.Property.{Property}
 
@@ -23,7 +23,7 @@ times_listed (Some values) = listed_times values
 -- those of the lines behind it
 abbrev pub times_behind : Property → Option (List ℕ) → List CalendarTime
 times_behind property None = []
-times_behind property (Some text) = times_of property (lines text)
+times_behind property (Some text) = times_of property (content_lines text)
 
 -- both
 unfoldable pub times_left : Property → Option (List ℕ) → Option (List ℕ) → List CalendarTime

@@ -1,7 +1,7 @@
 //! Classes of bytes, and how many of one a text begins with.
 ghost use Rattle.std.specs.Prelude.{◌≡◌, ◌≤◌, length};
 ghost use Rattle.std.specs.List.{prefix_len};
-ghost use Rattle.calendar_text.specs.Lines.{is_of};
+ghost use Rattle.calendar_text.specs.Lines.{has_class};
 
 // A class of bytes.
 #[derive(Clone, Copy)]
@@ -13,9 +13,9 @@ pub(crate) enum ByteClass {
 }
 
 // Whether a byte is of a class.
-#[tactic(auto, unfolding(crate::specs::Lines::is_of))]
+#[tactic(auto, unfolding(crate::specs::Lines::has_class))]
 fn is_of(class: ByteClass, byte: u8) -> bool
-    ensures { result ≡ is_of class byte }
+    ensures { result ≡ has_class class byte }
 {
     match class {
         ByteClass::Safe => {
@@ -33,7 +33,7 @@ fn is_of(class: ByteClass, byte: u8) -> bool
 
 // How many bytes of a class a text begins with.
 pub(crate) fn class_len(class: ByteClass, text: &[u8]) -> usize
-    ensures value { result ≡ prefix_len (is_of class) text.now }
+    ensures value { result ≡ prefix_len (has_class class) text.now }
     ensures within { result ≤ length text.now }
 {
     let mut len = 0;

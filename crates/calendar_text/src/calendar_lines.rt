@@ -1,9 +1,9 @@
 //! `CalendarLines`: what a text of a calendar is written from.
 ghost use Rattle.std.specs.Prelude.{◌≡◌, ◌≤◌, ◌++◌, codes, IfNone, IfSome, length, take};
-ghost use Rattle.calendar_text.specs.CalendarTimes.{time_text};
+ghost use Rattle.calendar_text.specs.CalendarTimes.{calendar_time_text};
 ghost use Rattle.calendar_text.specs.Lines.{property_key, text_in};
 ghost use Rattle.calendar_text.specs.Puts.{IsPut, IsTooLong};
-ghost use Rattle.calendar_text.specs.WrittenCalendars.{calendar_lines, line_text, parameter_text, parts_written, rule_text, times_text, zone_text};
+ghost use Rattle.calendar_text.specs.WrittenCalendars.{calendar_lines, time_line, parameter_text, parts_written, rule_line, times_text, zone_in_line};
 ghost use Rattle.calendar_text.specs.declared.property.Property.TheVariants.{Dates, Exceptions, Start};
 
 use crate::calendar_time::CalendarTime;
@@ -40,7 +40,7 @@ impl<'a> CalendarLines<'a> {
     /// let lines = CalendarLines { start, zone: Some(b"Europe/Berlin"), rule: Some(b"FREQ=DAILY"), dates: &[], exceptions: &[] };
     /// let mut buffer = [0; 64];
     /// let len = lines.write(&mut buffer)?;
-    /// buffer[..len] == *b"DTSTART;TZID=Europe/Berlin:20240131T090000\nRRULE:FREQ=DAILY\n" // true
+    /// Some(&buffer[..len]) == Some(b"DTSTART;TZID=Europe/Berlin:20240131T090000\nRRULE:FREQ=DAILY\n") // true
     /// ```
     pub fn write(&self, buffer: &mut [u8]) -> Option<usize>
         ensures text { IfSome result (λ len. take len buffer.new ≡ calendar_lines (parts_written self.now)) }
@@ -66,8 +66,8 @@ impl<'a> CalendarLines<'a> {
     // Puts DTSTART and RRULE.
     fn put_front(&self, buffer: &mut [u8], len: usize) -> Option<usize>
         requires { len ≤ length buffer.old }
-        ensures put { IfSome result (λ end. IsPut buffer.old buffer.new len (line_text Start (text_in self.now.zone) self.now.start ++ rule_text (text_in self.now.rule)) end) }
-        ensures none { IfNone result (IsTooLong buffer.old len (line_text Start (text_in self.now.zone) self.now.start ++ rule_text (text_in self.now.rule))) }
+        ensures put { IfSome result (λ end. IsPut buffer.old buffer.new len (time_line Start (text_in self.now.zone) self.now.start ++ rule_line (text_in self.now.rule)) end) }
+        ensures none { IfNone result (IsTooLong buffer.old len (time_line Start (text_in self.now.zone) self.now.start ++ rule_line (text_in self.now.rule))) }
         ensures length { length buffer.new ≡ length buffer.old }
     {
         let end = put_line(buffer, len, Property::Start, self.zone, &self.start)?;
@@ -115,7 +115,7 @@ fn put_times(
 }
 
 // Puts a line with a time.
-#[tactic(auto, unfolding(crate::specs::WrittenCalendars::line_text))]
+#[tactic(auto, unfolding(crate::specs::WrittenCalendars::time_line))]
 fn put_line(
     buffer: &mut [u8],
     len: usize,
@@ -124,8 +124,8 @@ fn put_line(
     time: &CalendarTime,
 ) -> Option<usize>
     requires { len ≤ length buffer.old }
-    ensures put { IfSome result (λ end. IsPut buffer.old buffer.new len (line_text property (text_in zone.entry) time.now) end) }
-    ensures none { IfNone result (IsTooLong buffer.old len (line_text property (text_in zone.entry) time.now)) }
+    ensures put { IfSome result (λ end. IsPut buffer.old buffer.new len (time_line property (text_in zone.entry) time.now) end) }
+    ensures none { IfNone result (IsTooLong buffer.old len (time_line property (text_in zone.entry) time.now)) }
     ensures length { length buffer.new ≡ length buffer.old }
 {
     let front = front_of(property, zone, time);
@@ -140,11 +140,11 @@ fn put_line(
 }
 
 // Puts the line of a rule, if there is one.
-#[tactic(auto, unfolding(crate::specs::WrittenCalendars::rule_text))]
+#[tactic(auto, unfolding(crate::specs::WrittenCalendars::rule_line))]
 fn put_rule(buffer: &mut [u8], len: usize, rule: Option<&[u8]>) -> Option<usize>
     requires { len ≤ length buffer.old }
-    ensures put { IfSome result (λ end. IsPut buffer.old buffer.new len (rule_text (text_in rule.entry)) end) }
-    ensures none { IfNone result (IsTooLong buffer.old len (rule_text (text_in rule.entry))) }
+    ensures put { IfSome result (λ end. IsPut buffer.old buffer.new len (rule_line (text_in rule.entry)) end) }
+    ensures none { IfNone result (IsTooLong buffer.old len (rule_line (text_in rule.entry))) }
     ensures length { length buffer.new ≡ length buffer.old }
 {
     match rule {
@@ -180,9 +180,9 @@ fn parameter_text(zone: Option<&[u8]>, time: &CalendarTime) -> &'static [u8]
 }
 
 // The name of the zone of a local time.
-#[tactic(auto, unfolding(crate::specs::WrittenCalendars::zone_text))]
+#[tactic(auto, unfolding(crate::specs::WrittenCalendars::zone_in_line))]
 fn zone_text<'a>(zone: Option<&'a [u8]>, time: &CalendarTime) -> &'a [u8]
-    ensures { result.now ≡ zone_text (text_in zone.entry) time.now }
+    ensures { result.now ≡ zone_in_line (text_in zone.entry) time.now }
 {
     match time {
         CalendarTime::Local(_) => match zone {
@@ -195,7 +195,7 @@ fn zone_text<'a>(zone: Option<&'a [u8]>, time: &CalendarTime) -> &'a [u8]
 
 // A colon, a time and a line feed.
 fn back_of(time: &CalendarTime) -> Text<48>
-    ensures { result ≡ (codes ":" ++ time_text time.now) ++ codes "\n" }
+    ensures { result ≡ (codes ":" ++ calendar_time_text time.now) ++ codes "\n" }
 {
     let mut text = Text::new();
     text.push(b':');

@@ -2,9 +2,9 @@
 ghost use Rattle.std.specs.Prelude.{◌≡◌, ◌≤◌, IfErr, IfNone, IfOk, IfSome, IsOk, Err, length};
 ghost use Rattle.std.specs.Option.{option_map};
 ghost use Rattle.calendar_text.specs.CalendarTexts.{CalendarParts, HasParts, IsCalendarError, IsCalendarText, first_line, start_read};
-ghost use Rattle.calendar_text.specs.Lines.{head_of, text_in, value_of};
+ghost use Rattle.calendar_text.specs.Lines.{head_of, text_in, line_value};
 ghost use Rattle.calendar_text.specs.declared.property.Property.TheVariants.{Rule};
-ghost use Rattle.calendar_text.specs.TextParts.{parts_of};
+ghost use Rattle.calendar_text.specs.TextParts.{parts_read};
 
 use crate::calendar_error::{CalendarError, CalendarFault, error_at};
 use crate::calendar_time::CalendarTime;
@@ -59,7 +59,7 @@ pub fn read_calendar_text<'a>(
     buffer: &'a mut [u8],
 ) -> Result<CalendarText<'a>, CalendarError>
     requires { length text.now ≤ length buffer.old }
-    ensures read { IfOk result (λ c. IsCalendarText text.now (parts_of c)) }
+    ensures read { IfOk result (λ c. IsCalendarText text.now (parts_read c)) }
     ensures every { (p : CalendarParts) → IsCalendarText text.now p → IsOk result }
     ensures error { IfErr result (λ e. IsCalendarError text.now e) }
 {
@@ -73,7 +73,7 @@ pub fn read_calendar_text<'a>(
 // Reads the lines of an unfolded text.
 #[tactic(auto, unfolding(crate::specs::CalendarTexts::start_read))]
 fn read_lines(text: &[u8]) -> Result<CalendarText<'_>, CalendarError>
-    ensures read { IfOk result (λ c. HasParts text.now (parts_of c)) }
+    ensures read { IfOk result (λ c. HasParts text.now (parts_read c)) }
     ensures error { IfErr result (λ e. start_read text.now ≡ Err e) }
 {
     let Some(line) = first_line(Property::Start, text) else {
@@ -108,7 +108,7 @@ fn head_of(line: &[u8]) -> &[u8]
 
 // The text of the rule, if there is one.
 fn rule_of(text: &[u8]) -> Option<&[u8]>
-    ensures { text_in result ≡ option_map value_of (first_line Rule text.now) }
+    ensures { text_in result ≡ option_map line_value (first_line Rule text.now) }
 {
     match first_line(Property::Rule, text) {
         None => None,

@@ -2,7 +2,7 @@
 ghost use Rattle.std.specs.Prelude.{◌≡◌, ◌≤◌, ◌==◌, length};
 ghost use Rattle.std.specs.List.{before_first};
 ghost use Rattle.std.specs.Str.{byte};
-ghost use Rattle.calendar_text.specs.Lines.{is_line_of, name_of, property_key, property_of};
+ghost use Rattle.calendar_text.specs.Lines.{is_line_of, property_name, property_key, property_of};
 
 use crate::pieces::cut_at;
 use chrono_text::{first_piece, same_but_for_case};

@@ -3,7 +3,7 @@ ghost use Rattle.std.specs.Prelude.{◌≡◌, ◌+◌, ◌≤◌, ◌∷◌, []
 ghost use Rattle.std.specs.Iterator.{YieldsFirst, item_count};
 ghost use Rattle.std.specs.Str.{byte};
 ghost use Rattle.chrono_text.specs.Lists.{pieces};
-ghost use Rattle.calendar_text.specs.CalendarTexts.{lines, line_times, times_of};
+ghost use Rattle.calendar_text.specs.CalendarTexts.{content_lines, line_times, times_of};
 ghost use Rattle.calendar_text.specs.Lines.{text_in};
 ghost use Rattle.calendar_text.specs.TimeLists.{pieces_left, size_left, times_left, times_listed};
 
@@ -41,7 +41,7 @@ impl<'a> TimeList<'a> {
     // The times of all lines of a property.
     #[tactic(auto, unfolding(crate::specs::TimeLists::times_left))]
     pub(crate) fn of(property: Property, text: &'a [u8]) -> TimeList<'a>
-        ensures { result ≡ times_of property (lines text.now) }
+        ensures { result ≡ times_of property (content_lines text.now) }
     {
         TimeList {
             property,

@@ -1,17 +1,17 @@
 //! Dates and date-times, written.
 ghost use Rattle.std.specs.Prelude.{◌≡◌, ◌+◌, ◌≤◌, ◌++◌, length};
 ghost use Rattle.chrono_rules.specs.WrittenRules.{basic_date_text, four_digits};
-ghost use Rattle.calendar_text.specs.CalendarTimes.{clock_text, moment_text, time_text};
+ghost use Rattle.calendar_text.specs.CalendarTimes.{basic_clock_text, basic_moment_text, calendar_time_text};
 
 use crate::calendar_time::CalendarTime;
 use chrono_datetime::{Datelike, NaiveDate, NaiveDateTime, NaiveTime, Timelike};
 use chrono_text::Text;
 
 // Puts a time.
-#[tactic(auto, unfolding(crate::specs::CalendarTimes::time_text))]
+#[tactic(auto, unfolding(crate::specs::CalendarTimes::calendar_time_text))]
 pub(crate) fn put_time<const N: usize>(text: &mut Text<N>, time: &CalendarTime)
     requires { length text.old + 32 ≤ N }
-    ensures text { text.new ≡ text.old ++ time_text time.now }
+    ensures text { text.new ≡ text.old ++ calendar_time_text time.now }
     ensures fits { length text.new ≤ length text.old + 23 }
 {
     match time {
@@ -27,7 +27,7 @@ pub(crate) fn put_time<const N: usize>(text: &mut Text<N>, time: &CalendarTime)
 // Puts a date, a `T` and a time of day.
 fn put_moment<const N: usize>(text: &mut Text<N>, moment: NaiveDateTime)
     requires { length text.old + 31 ≤ N }
-    ensures text { text.new ≡ text.old ++ moment_text moment }
+    ensures text { text.new ≡ text.old ++ basic_moment_text moment }
     ensures fits { length text.new ≤ length text.old + 22 }
 {
     put_date(text, moment.date());
@@ -62,7 +62,7 @@ fn put_year<const N: usize>(text: &mut Text<N>, year: i32)
 // Puts an hour, a minute and a second.
 fn put_clock<const N: usize>(text: &mut Text<N>, time: NaiveTime)
     requires { length text.old + 6 ≤ N }
-    ensures text { text.new ≡ text.old ++ clock_text time }
+    ensures text { text.new ≡ text.old ++ basic_clock_text time }
     ensures fits { length text.new ≡ length text.old + 6 }
 {
     text.push_two(time.hour());

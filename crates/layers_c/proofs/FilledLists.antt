@@ -22,14 +22,14 @@ module _ {M C : Type 0} (f : M → C) (p : M → Bool) where
   pub shown-failing : (k : ℕ) (ms : List M) (m : M) (rest : List M) → ms ≡ m ∷ rest → p m ≡ false → shown k ms ≡ []
   shown-failing k ms m rest e fails = ap (shown k) e ∙ failing k m rest fails
     where
-    failing : (k : ℕ) (m : M) (rest : List M) → p m ≡ false → shown k (m ∷ rest) ≡ []
-    failing k m rest fails = rw fails (nothing k)
+      failing : (k : ℕ) (m : M) (rest : List M) → p m ≡ false → shown k (m ∷ rest) ≡ []
+      failing k m rest fails = rw fails (nothing k)
 
   pub shown-passing : (k : ℕ) (ms : List M) (m : M) (rest : List M) → ms ≡ m ∷ rest → p m ≡ true → shown (suc k) ms ≡ f m ∷ shown k rest
   shown-passing k ms m rest e passes = ap (shown (suc k)) e ∙ passing k m rest passes
     where
-    passing : (k : ℕ) (m : M) (rest : List M) → p m ≡ true → shown (suc k) (m ∷ rest) ≡ f m ∷ shown k rest
-    passing k m rest passes = rw (passes, one_more (prefix_len p rest)) refl
+      passing : (k : ℕ) (m : M) (rest : List M) → p m ≡ true → shown (suc k) (m ∷ rest) ≡ f m ∷ shown k rest
+      passing k m rest passes = rw (passes, one_more (prefix_len p rest)) refl
 
   -- one value more is written
   pub one-written : (room count : ℕ) (out : List C) (ms : List M) (m : M) (rest : List M) → count < room → length out ≡ room → ms ≡ m ∷ rest → p m ≡ true

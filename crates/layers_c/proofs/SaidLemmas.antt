@@ -1,5 +1,5 @@
 -- A text that was written over bytes was written whole.
-use Rattle.std.proofs.Common.{◌≡◌, ◌∙◌, ℕ, nat_le, Bool, true, false, if◌then◌else◌, List, length, Option, Some, None, ap, ℤ, pos}
+use Rattle.std.proofs.Common.{◌≡◌, ◌∙◌, ℕ, nat_le, Bool, true, false, if◌then◌else◌, List, length, Some, None, ap, ℤ, pos}
 use Rattle.numbers_c.specs.Answers.{count_or_none, none_number}
 use Rattle.numbers_c.specs.Texts.{length_of, text_within}
 

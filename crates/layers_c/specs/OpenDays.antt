@@ -11,7 +11,7 @@ closed_from_c weekend holidays = closed (set_at weekend) holidays
 
 -- the numbers are the holidays of a calendar, and not too many
 pub record IsCalendar (weekend : ℕ) (holidays : List ℤ) : Type 0 where
-  pub holidays : AreHolidays (set_at weekend) holidays
+  pub are_holidays : AreHolidays (set_at weekend) holidays
   pub few : length holidays ≤ 1000
 
 -- the rolls, numbered from 0

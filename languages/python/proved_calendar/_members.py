@@ -167,7 +167,7 @@ class DateTime:
         return _named(self, (self.hour, self.minute, self.second))
 
     def timestamp(self: Any) -> float:
-        """Returns the POSIX timestamp of this local time."""
+        """Returns the POSIX timestamp of this local time; of a time that comes twice, the one that C's mktime takes."""
         nanosecond: int = self.nanosecond
         return (int(c_time.mktime(self.timetuple())) * 10**9 + nanosecond) / 10**9
 

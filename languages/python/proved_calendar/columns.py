@@ -386,14 +386,14 @@ def days_between(dates: Any, bases: Any) -> Any:
     is_time = kinds[0].kind == "M"
     if is_time != (kinds[1].kind == "M"):
         raise TypeError(f"dates of {kinds[0]} are not compared with dates of {kinds[1]}")
-    out = _np.empty(column.size, "m8[D]" if is_time else _np.int32)
+    out = _np.empty(column.size, _np.int64 if is_time else _np.int32)
     for piece in column.pieces():
         days = _np.empty(piece.stop - piece.start, _np.int32)
         _call("days_between", column.numbers(piece), base.numbers(piece), days)
         out[piece] = days
         if is_time and days.min(initial=0) == _NONE:
-            out[piece][days == _NONE] = "NaT"
-    return out.reshape(shape)
+            out[piece][days == _NONE] = _NAT
+    return (out.view("m8[D]") if is_time else out).reshape(shape)
 
 
 def _made_of(dtype: Any) -> _Layout:

@@ -45,6 +45,13 @@ def number_of(it):
 class Columns(unittest.TestCase):
     def setUp(self):
         self.chance = random.Random(self.id())
+        self.addTypeEqualityFunc(list, self.same_lists)
+
+    def same_lists(self, one, other, msg=None):
+        """Compares lists, and tells the first elements that differ (unittest would look for the shortest way from one to the other)."""
+        if one != other:
+            at = next((at for at, (left, right) in enumerate(zip(one, other)) if left != right), min(len(one), len(other)))
+            self.fail(f"element {at}: {one[at:at + 1]} is not {other[at:at + 1]} {msg or ''}")
 
     def some_numbers(self, count=COUNT):
         """Numbers of dates, near and far and at both ends, and of no dates."""

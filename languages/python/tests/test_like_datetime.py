@@ -202,6 +202,8 @@ class Clocks(Cases):
             for wrong in (math.inf, 1e200, -(10**30)):
                 self.assertRaises(OverflowError, call, wrong)
             self.assertRaises(ValueError, call, math.nan)
+            for wrong in ("1", None, 1j):
+                self.assertRaises(TypeError, call, wrong)
 
     def test_now(self):
         for ours, theirs in ((DateTime.now, datetime.datetime.now), (DateTime.today, datetime.datetime.today)):

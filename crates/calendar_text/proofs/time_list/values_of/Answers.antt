@@ -1,16 +1,16 @@
 use Rattle.std.proofs.Common.{◌≡◌, List, ℕ, [], true, if◌then◌else◌, ap, sym, ◌∙◌}
 use Rattle.calendar_text.specs.CalendarTexts.{line_times, listed_times}
 use Rattle.calendar_text.specs.CalendarTimes.{time_of}
-use Rattle.calendar_text.specs.Lines.{is_line_of, text_in, value_of}
+use Rattle.calendar_text.specs.Lines.{is_line_of, text_in, line_value}
 use Rattle.calendar_text.specs.TimeLists.{times_listed}
 use Rattle.calendar_text.specs.declared.property.Property.{Property}
 use Rattle.calendar_text.proofs.PieceLemmas.{nothing_behind}
 use Rattle.calendar_text.proofs.time_list.values_of.Goals as goal
 
-no_times : (property : Property) (line : List ℕ) → is_line_of property line ≡ true → value_of line ≡ [] → line_times property line ≡ []
+no_times : (property : Property) (line : List ℕ) → is_line_of property line ≡ true → line_value line ≡ [] → line_times property line ≡ []
 unfolding time_of
 no_times property line is none =
-    ap (λ t. if t then listed_times (value_of line) else []) is ∙ ap listed_times none
+    ap (λ t. if t then listed_times (line_value line) else []) is ∙ ap listed_times none
 
 pub returns-in_err-value-clause-times : goal.returns-in_err-value-clause-times
 returns-in_err-value-clause-times c =

@@ -1,4 +1,4 @@
-use Rattle.std.proofs.Common.{◌≡◌, ◌∙◌, ℕ, ap, sym, arith, bit_or}
+use Rattle.std.proofs.Common.{◌∙◌, ap, sym, arith, bit_or}
 use Rattle.std.proofs.lemmas.Nat.{one_shl}
 use Rattle.layers_c.proofs.DigitLemmas.{member-one, no_member-zero, none_more, one_more}
 use Rattle.layers_c.proofs.number_sets.digits_of.Goals.{then-contains, else-contains}

@@ -1,4 +1,4 @@
-use Rattle.std.proofs.Common.{◌≡◌, ◌∙◌, ℕ, inl, inr, ap, sym, false, arith}
+use Rattle.std.proofs.Common.{◌≡◌, ◌∙◌, inl, inr, ap, sym, arith}
 use Rattle.std.specs.Prelude.{slice_index}
 use Rattle.std.proofs.lemmas.Bool.{cases_lt}
 use Rattle.layers_c.specs.Faults.{is_behind_part}
@@ -19,13 +19,16 @@ pub loop-end-smaller : goal.loop-end-smaller
 loop-end-smaller c = omega (arith, c.loop-end-test.true)
 
 pub loop-end-preserved : goal.loop-end-preserved
-loop-end-preserved c =
-    (omega (arith, c.loop-end.invariant.0), omega (arith, c.loop-end-test.true), λ i from to. elim (cases_lt i c.loop-end.end) [
-      | inl earlier ↦ c.loop-end.invariant.2 i from earlier
-      | inr last ↦
-          let here : i ≡ c.loop-end.end = omega (arith, last, to) in
-          ap (λ k. is_behind_part (slice_index c.args.text.now k)) here ∙ sym c.is_behind_part.ensures ∙ c.if-is_behind_part.false
-    ])
+loop-end-preserved c = (
+  omega (arith, c.loop-end.invariant.0),
+  omega (arith, c.loop-end-test.true),
+  λ i from to. elim (cases_lt i c.loop-end.end) [
+    | inl earlier ↦ c.loop-end.invariant.2 i from earlier
+    | inr last ↦
+        let here : i ≡ c.loop-end.end = omega (arith, last, to) in
+        ap (λ k. is_behind_part (slice_index c.args.text.now k)) here ∙ sym c.is_behind_part.ensures ∙ c.if-is_behind_part.false
+  ],
+)
 
 pub returns : goal.returns
 returns c = record {

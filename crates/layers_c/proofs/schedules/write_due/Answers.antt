@@ -1,11 +1,9 @@
-use Rattle.std.proofs.Common.{◌≡◌, ◌∙◌, ◌-◌, ◌++◌, List, [], length, map, take, refl, ap, sym, arith, true, false}
-use Rattle.std.specs.Prelude.{take_while}
+use Rattle.std.proofs.Common.{◌≡◌, ◌∙◌, ◌-◌, [], length, refl, ap, sym, arith, true, false}
 use Rattle.std.proofs.lemmas.List.{length-set}
 use Rattle.chrono_cron.specs.DueMoments.{dues_after, dues_left}
 use Rattle.numbers_c.specs.DateTimes.{numbers_for_c}
-use Rattle.numbers_c.specs.declared.date_time_numbers.CalendarDateTime.{CalendarDateTime}
-use Rattle.layers_c.specs.Schedules.{due_numbers, is_up_to}
-use Rattle.layers_c.proofs.FilledLists.{all-written, nothing, one-written, rest-kept, shown, shown-failing, shown-none, written-count}
+use Rattle.layers_c.specs.Schedules.{is_up_to}
+use Rattle.layers_c.proofs.FilledLists.{all-written, one-written, rest-kept, shown, shown-failing, shown-none, written-count}
 use Rattle.layers_c.proofs.schedules.write_due.Goals as goal
 
 pub loop-count-init : goal.loop-count-init
@@ -91,8 +89,9 @@ loop-count-preserved c =
     let more =
     one-written numbers_for_c (is_up_to c.args.until) (length c.args.out.now) c.loop-count.count c.loop-count.out (dues_left c.loop-count.moments) c.in-Some.moment (dues_left c.step.new.self)
     (omega (arith, c.loop-count-test.true, c.loop-count.invariant.1)) c.loop-count.invariant.1 c.in-Some.ensures.steps passes in
-    rw c.numbers_or_none.ensures
-    (omega (arith, c.loop-count-test.true, c.loop-count.invariant.1),
-    length-set c.loop-count.out c.loop-count.count (numbers_for_c c.in-Some.moment) ∙ c.loop-count.invariant.1,
-    c.loop-count.invariant.2 ∙ more,
-    rest-kept c.loop-count.out c.args.out.now c.loop-count.count (numbers_for_c c.in-Some.moment) c.loop-count.invariant.3)
+    rw c.numbers_or_none.ensures (
+      omega (arith, c.loop-count-test.true, c.loop-count.invariant.1),
+      length-set c.loop-count.out c.loop-count.count (numbers_for_c c.in-Some.moment) ∙ c.loop-count.invariant.1,
+      c.loop-count.invariant.2 ∙ more,
+      rest-kept c.loop-count.out c.args.out.now c.loop-count.count (numbers_for_c c.in-Some.moment) c.loop-count.invariant.3,
+    )

@@ -3,7 +3,7 @@ use Rattle.std.proofs.Common.{◌≡◌, ◌≤◌, ◌-◌, ◌++◌, length, m
 use Rattle.std.specs.Prelude.{take_while}
 use Rattle.chrono_cron.specs.DueMoments.{dues_left}
 use Rattle.numbers_c.specs.DateTimes.{numbers_for_c}
-use Rattle.layers_c.specs.Schedules.{due_numbers, is_up_to}
+use Rattle.layers_c.specs.Schedules.{is_up_to}
 use Rattle.layers_c.proofs.schedules.write_due.Given as goal
 
 abbrev pub invariant-loop-count : goal.invariant-loop-count

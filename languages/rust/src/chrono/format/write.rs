@@ -243,21 +243,15 @@ fn write_padded(w: &mut dyn Write, value: i64, width: usize, pad: Pad) -> fmt::R
 }
 
 /// The numbers from 00 to 99, one behind the other.
-const PAIRS: [u8; 200] = {
-    let mut pairs = [0; 200];
-    let mut number = 0;
-    while number < 100 {
-        pairs[2 * number] = b'0' + number as u8 / 10;
-        pairs[2 * number + 1] = b'0' + number as u8 % 10;
-        number += 1;
-    }
-    pairs
-};
+const PAIRS: &str = "\
+    00010203040506070809101112131415161718192021222324252627282930313233343536373839\
+    40414243444546474849505152535455565758596061626364656667686970717273747576777879\
+    8081828384858687888990919293949596979899";
 
 /// The two digits of a number from 0 to 99.
 fn pair(number: i64) -> &'static str {
     let at = 2 * number as usize;
-    core::str::from_utf8(&PAIRS[at..at + 2]).unwrap_or_default()
+    &PAIRS[at..at + 2]
 }
 
 /// The second, which is 60 in a leap second that ends a minute.
