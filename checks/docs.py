@@ -50,7 +50,7 @@ ABSENT = {
         to_string IntoIterator Ok Option Result Some Sum TryFrom collect fmt::Write if match mod requires self str u8 unsafe unwrap""",
     "of the kit: its words, its tactics and its std": """IfSome_then SomeIff agree_below agree_below_at jiff_tz num_traits omega refl subst
         unfoldable view_is ensures """,
-    "of Python": "OverflowError True TypeError ValueError datetime operator strftime timedelta __slots__ __getstate__",
+    "of Python": "OverflowError True TypeError ValueError datetime operator timedelta __slots__ __getstate__",
     "of JavaScript": "calendarName PlainTime iso8601 RangeError Temporal overflow round toLocaleString",
     "of earlier versions": "check_rule check_schedule Nearest Roll::Nearest",
     "of C": "int32_t memcpy",
