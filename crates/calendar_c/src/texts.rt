@@ -14,7 +14,9 @@ ghost use Rattle.numbers_c.specs.Texts.{length_of, overwritten, text_within};
 
 use chrono_reading::{read_date, read_date_time};
 use chrono_text::Text;
-use numbers_c::{CalendarDateTime, NONE, date_of, date_time_of, number_or_none, numbers_or_none};
+use numbers_c::{
+    CalendarDateTime, NONE, date_of, date_time_of, number_or_none, numbers_or_none, write_over,
+};
 
 // How many bytes the longest date has.
 const LONGEST_DATE: usize = 13;
