@@ -123,7 +123,7 @@ def plain(answer):
         return np.array([plain(it) for it in answer])
     found = np.asarray(answer)
     if found.dtype.kind == "O":
-        found = found.astype("U")
+        found = found.astype("U" if isinstance(found[0], str) else "int64")
     if found.dtype.kind in "SU":
         return found.astype("S10")
     return found.view("int64") if found.dtype.kind in "mM" else found.astype("int64")

@@ -33,6 +33,8 @@ from library import HIGHER, build_higher, find_library, is_left_by_gate, librari
 from results import LANGUAGES, Results, example, read, run  # noqa: E402
 
 CRATE = f"{TOP}/crates/calendar_c"
+# Where the structs of calendar.h are declared.
+NUMBERS = f"{TOP}/crates/numbers_c"
 HEADER = f"{LANGUAGES}/c/calendar.h"
 DECLARATIONS = f"{LANGUAGES}/rust/src/calls.rs"
 WARNINGS = ["-Wall", "-Wextra", "-pedantic", "-Werror"]
@@ -164,7 +166,7 @@ def compare_declarations(results, header):
     compare(results, "declarations of languages/rust", header, of_crate())
     fields = structs("c", HEADER)
     results.count(len(fields) == read(HEADER).count("typedef struct {"), f"calendar.h has the structs {sorted(fields)}")
-    compare(results, "structs of crates/calendar_c", fields, structs("rust", *sources(CRATE)))
+    compare(results, "structs of crates/calendar_c", fields, structs("rust", *sources(CRATE), *sources(NUMBERS)))
     compare(results, "structs of languages/rust", fields, structs("rust", DECLARATIONS))
 
 

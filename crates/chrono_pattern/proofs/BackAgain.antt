@@ -22,7 +22,7 @@ use Rattle.chrono_datetime.specs.declared.Weekday.{Weekday}
 use Rattle.chrono_instant.specs.Instants.{epoch_second}
 use Rattle.chrono_pattern.specs.DateParts.{date_fits, day_fits, is_present, says, week_fits, weekday_at_number, year_fits, year_week_fits}
 use Rattle.chrono_pattern.specs.Groups.{clock_with, group_text}
-use Rattle.chrono_pattern.specs.Kept.{IsKept, given_parts}
+use Rattle.chrono_pattern.specs.Kept.{LosesNothing, given_parts}
 use Rattle.chrono_pattern.specs.NamedParts.{named_from, named_parts, with_clock, with_group, with_half, with_item, with_named, with_number_field, word_part}
 use Rattle.chrono_pattern.specs.NumberReads.{number_part}
 use Rattle.chrono_pattern.specs.Numbers.{field_text, least_digits, padded, padding_of, size_of, year_sign}
@@ -673,11 +673,11 @@ all_same q m x w y date time offset none =
 
 -- ---- the laws
 
-same_parts : (wide : Bool) (bytes : List ℕ) (m : Moment) (x : ℤ) (p : Parsed) → is_separable wide bytes ≡ true → IsKept wide bytes m x
+same_parts : (wide : Bool) (bytes : List ℕ) (m : Moment) (x : ℤ) (p : Parsed) → is_separable wide bytes ≡ true → LosesNothing wide bytes m x
     → text_read bytes (text_at_offset bytes m x) ≡ Ok p → p ≡ kept_parts bytes m x
 same_parts wide bytes m x p separable kept read = same_Ok p (kept_parts bytes m x) (sym read ∙ parts_back wide bytes m x separable kept)
 
-pub date_again : (wide : Bool) (bytes : List ℕ) (m : Moment) (n : ℤ) → is_separable wide bytes ≡ true → IsKept wide bytes m (pos 0) → is_present (named_parts bytes).timestamp ≡ false
+pub date_again : (wide : Bool) (bytes : List ℕ) (m : Moment) (n : ℤ) → is_separable wide bytes ≡ true → LosesNothing wide bytes m (pos 0) → is_present (named_parts bytes).timestamp ≡ false
     → IsDateBy bytes (pattern_text bytes m) n → pattern_text bytes (moment n m.time) ≡ pattern_text bytes m
 date_again wide bytes m n separable kept none is =
     let q = named_parts bytes in
@@ -689,7 +689,7 @@ date_again wide bytes m n separable kept none is =
 own_date : (q : Parsed) (n : ℤ) → DateSame q n n
 own_date q n = record { year = refl; century = refl; place = refl; isoyear = refl; iso_place = refl; quarter = refl; month = refl; isoweek = refl; from_sun = refl; from_mon = refl; weekday = refl; ordinal = refl; day = refl }
 
-pub time_again : (wide : Bool) (bytes : List ℕ) (m : Moment) (u : TimeOfDay) → is_separable wide bytes ≡ true → IsKept wide bytes m (pos 0) → is_present (named_parts bytes).timestamp ≡ false
+pub time_again : (wide : Bool) (bytes : List ℕ) (m : Moment) (u : TimeOfDay) → is_separable wide bytes ≡ true → LosesNothing wide bytes m (pos 0) → is_present (named_parts bytes).timestamp ≡ false
     → IsTimeBy bytes (pattern_text bytes m) u → pattern_text bytes (moment m.date u) ≡ pattern_text bytes m
 time_again wide bytes m u separable kept none is =
     let q = named_parts bytes in
@@ -711,7 +711,7 @@ plain_fits g m x o w y e none fits =
     by_stamp (Some a) None k h f = cc
     by_stamp (Some a) (Some b) k h f = absurd (false≢true (sym h))
 
-fits_again : (wide : Bool) (bytes : List ℕ) (m : Moment) (x : ℤ) (w : Moment) (y : ℤ) → is_separable wide bytes ≡ true → IsKept wide bytes m x
+fits_again : (wide : Bool) (bytes : List ℕ) (m : Moment) (x : ℤ) (w : Moment) (y : ℤ) → is_separable wide bytes ≡ true → LosesNothing wide bytes m x
     → is_present (named_parts bytes).timestamp ≡ false → moment_fits (kept_parts bytes m x) w y ≡ true → if_named (named_parts bytes).offset x ≡ if_named (named_parts bytes).offset y
     → text_at_offset bytes w y ≡ text_at_offset bytes m x
 fits_again wide bytes m x w y separable kept none fits offset =
@@ -722,13 +722,13 @@ fits_again wide bytes m x w y separable kept none fits offset =
     let time = time_same bytes m x w.time like both.1 in
     sym (again wide bytes m x w y Outside Free no_parts separable none (all_same q m x w y date time offset none)).0
 
-pub moment_again : (wide : Bool) (bytes : List ℕ) (m w : Moment) → is_separable wide bytes ≡ true → IsKept wide bytes m (pos 0) → is_present (named_parts bytes).timestamp ≡ false
+pub moment_again : (wide : Bool) (bytes : List ℕ) (m w : Moment) → is_separable wide bytes ≡ true → LosesNothing wide bytes m (pos 0) → is_present (named_parts bytes).timestamp ≡ false
     → IsMomentBy bytes (pattern_text bytes m) w → pattern_text bytes w ≡ pattern_text bytes m
 moment_again wide bytes m w separable kept none is =
     let fits = ap (λ (p : Parsed). moment_fits p w (pos 0)) (sym (same_parts wide bytes m (pos 0) is.parts separable kept is.read)) ∙ is.fits in
     fits_again wide bytes m (pos 0) w (pos 0) separable kept none fits refl
 
-pub zoned_again : (wide : Bool) (bytes : List ℕ) (m : Moment) (x : ℤ) (w : Moment) (y : ℤ) → is_separable wide bytes ≡ true → IsKept wide bytes m x → is_present (named_parts bytes).timestamp ≡ false
+pub zoned_again : (wide : Bool) (bytes : List ℕ) (m : Moment) (x : ℤ) (w : Moment) (y : ℤ) → is_separable wide bytes ≡ true → LosesNothing wide bytes m x → is_present (named_parts bytes).timestamp ≡ false
     → IsZonedBy bytes (text_at_offset bytes m x) w y → text_at_offset bytes w y ≡ text_at_offset bytes m x
 unfolding zoned_fits
 zoned_again wide bytes m x w y separable kept none is =

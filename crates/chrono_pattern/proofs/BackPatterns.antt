@@ -7,7 +7,7 @@ use Rattle.chrono_datetime.specs.Time.{IsTime, TimeOfDay}
 use Rattle.chrono_instant.specs.Instants.{epoch_second}
 use Rattle.chrono_instant.specs.Offsets.{IsOffset}
 use Rattle.chrono_pattern.specs.ItemReads.{item_read}
-use Rattle.chrono_pattern.specs.Kept.{IsKept, given_from, given_parts, keeps_from, keeps_item, keeps_subsecond, with_few, with_given}
+use Rattle.chrono_pattern.specs.Kept.{LosesNothing, given_from, given_parts, keeps_from, keeps_item, keeps_subsecond, with_few, with_given}
 use Rattle.chrono_pattern.specs.NamedParts.{with_named}
 use Rattle.chrono_pattern.specs.OffsetReads.{at_rest}
 use Rattle.chrono_pattern.specs.Parts.{no_parts}
@@ -179,7 +179,7 @@ back wide [] m x time near s bar b q h keeps =
 back wide (c ∷ bytes) m x time near s bar b q h keeps =
     step_back wide c bytes m x time near (back wide bytes m x time near) s bar b q (pattern_step s c) refl h keeps
 
-pub parts_back : (wide : Bool) (bytes : List ℕ) (m : Moment) (x : ℤ) → is_separable wide bytes ≡ true → IsKept wide bytes m x
+pub parts_back : (wide : Bool) (bytes : List ℕ) (m : Moment) (x : ℤ) → is_separable wide bytes ≡ true → LosesNothing wide bytes m x
     → text_read bytes (text_at_offset bytes m x) ≡ Ok (parts_of (given_parts bytes m.time) m x)
 parts_back wide bytes m x separable kept =
     ap (λ (o : Result Progress Stop). end_read o) (back wide bytes m x kept.time kept.offset Outside Free false no_parts separable kept.items)

@@ -3,6 +3,7 @@ use Rattle.std.proofs.Common.{◌≡◌, ℕ, ◌+◌, ◌-◌, ◌≤◌, ◌<�
 use Rattle.std.proofs.lemmas.Bool.{agree_below_at, eqb-true, false≢true, le-leb}
 use Rattle.std.proofs.lemmas.Bool.Decides.{nat_tests}
 use Rattle.std.specs.Char.{is_ascii_digit}
+use Rattle.std.proofs.lemmas.List.{length-take}
 use Rattle.std.specs.List.{prefix_len}
 use Rattle.std.specs.Str.{str_eq_ignore_ascii_case}
 use Rattle.chrono_calendar.proofs.NamedDates.{calendar_name-exists}
@@ -19,6 +20,7 @@ use Rattle.chrono_datetime.specs.declared.Month.{Month}
 use Rattle.chrono_datetime.specs.declared.Month.TheVariants.{January, February, March, April, May, June, July, August, September, October, November, December}
 use Rattle.chrono_datetime.specs.declared.Weekday.{Weekday}
 use Rattle.chrono_datetime.specs.declared.Weekday.TheVariants.{Mon, Tue, Wed, Thu, Fri, Sat, Sun}
+use Rattle.chrono_datetime.proofs.DayNames.{length-weekday_text}
 use Rattle.chrono_pattern.specs.NamedParts.{with_named, word_part}
 use Rattle.chrono_pattern.specs.OffsetReads.{at_rest, behind_colons}
 use Rattle.chrono_pattern.specs.Parts.{put}
@@ -143,20 +145,6 @@ month_same October rest = refl
 month_same November rest = refl
 month_same December rest = refl
 
-month_long : (k : Month) → 3 ≤ length (month_name k)
-month_long January = omega arith
-month_long February = omega arith
-month_long March = omega arith
-month_long April = omega arith
-month_long May = omega arith
-month_long June = omega arith
-month_long July = omega arith
-month_long August = omega arith
-month_long September = omega arith
-month_long October = omega arith
-month_long November = omega arith
-month_long December = omega arith
-
 month_opens : (k : Month) (rest : List ℕ) → opens (month_name k ++ rest) ≡ true
 month_opens January rest = refl
 month_opens February rest = refl
@@ -257,15 +245,6 @@ weekday_letters_open Fri rest = refl
 weekday_letters_open Sat rest = refl
 weekday_letters_open Sun rest = refl
 
-weekday_letters_are : (k : Weekday) → length (weekday_text k) ≡ 3
-weekday_letters_are Mon = refl
-weekday_letters_are Tue = refl
-weekday_letters_are Wed = refl
-weekday_letters_are Thu = refl
-weekday_letters_are Fri = refl
-weekday_letters_are Sat = refl
-weekday_letters_are Sun = refl
-
 -- ---- a word
 
 not_less : (a b : ℕ) → b ≤ a → nat_lt a b ≡ false
@@ -296,7 +275,7 @@ month_name_back : (k : Month) (rest : List ℕ) (p q : Parsed) → put MonthOfYe
     → word_read MonthName (at_rest (month_name k ++ rest) p) ≡ Ok (at_rest rest q)
 unfolding month_read
 month_name_back k rest p q put =
-    long_enough MonthName (month_name k) rest p (month_long k)
+    long_enough MonthName (month_name k) rest p (omega (arith, month_letters_are k, length-take 3 (month_name k)))
     ∙ ap (λ (o : Option Month). month_behind o true (month_name k ++ rest) p) (month_named k rest)
     ∙ put_front _ (month_name k) rest MonthOfYear _ p q (whole_len (month_name k) rest (month_same k rest)) put
 
@@ -320,9 +299,9 @@ weekday_letters_back : (k : Weekday) (rest : List ℕ) (p q : Parsed) → put Da
     → word_read WeekdayLetters (at_rest (weekday_text k ++ rest) p) ≡ Ok (at_rest rest q)
 unfolding weekday_read
 weekday_letters_back k rest p q put =
-    long_enough WeekdayLetters (weekday_text k) rest p (omega (arith, weekday_letters_are k))
+    long_enough WeekdayLetters (weekday_text k) rest p (omega (arith, length-weekday_text k))
     ∙ ap (λ (o : Option Weekday). weekday_behind o false (weekday_text k ++ rest) p) (weekday_begins k rest)
-    ∙ put_front 3 (weekday_text k) rest DayOfWeek _ p q (sym (weekday_letters_are k)) put
+    ∙ put_front 3 (weekday_text k) rest DayOfWeek _ p q (sym (length-weekday_text k)) put
 
 -- the half of the day by its first hour
 abbrev half_at : Bool → ℤ
@@ -359,16 +338,15 @@ small_half_opens false rest = refl
 abbrev month_test : ℕ → Bool
 month_test k = number_from_month (month_from_number (k + 1)) == k + 1
 
-month_again : (n : ℕ) → 1 ≤ n → n ≤ 12 → number_from_month (month_from_number n) ≡ n
-month_again n low high =
-    let same : n - 1 + 1 ≡ n = omega (arith, low) in
-    eqb-true (number_from_month (month_from_number n)) n
-    (sym (ap (λ (k : ℕ). number_from_month (month_from_number k) == k) same) ∙ agree_below_at month_test (λ j. true) 12 (n - 1) refl (omega (arith, low, high)))
+month_again : (n : ℤ) → number_from_month (month_from_number (month_of n)) ≡ month_of n
+month_again n =
+    let name = (calendar_name-exists n).0 in
+    let same : month_of n - 1 + 1 ≡ month_of n = omega (arith, name) in
+    eqb-true (number_from_month (month_from_number (month_of n))) (month_of n)
+    (sym (ap (λ (k : ℕ). number_from_month (month_from_number k) == k) same) ∙ agree_below_at month_test (λ j. true) 12 (month_of n - 1) refl (omega (arith, name)))
 
 month_put : (q : Parsed) (m : Moment) (x : ℤ) → put MonthOfYear (pos (number_from_month (month_from_number (month_of m.date)))) (parts_of q m x) ≡ Ok (parts_of (with_named MonthOfYear q) m x)
-month_put q m x =
-    let name = (calendar_name-exists m.date).0 in
-    ap (λ (k : ℕ). put MonthOfYear (pos k) (parts_of q m x)) (month_again (month_of m.date) (omega (arith, name)) (omega (arith, name))) ∙ put_month q m x
+month_put q m x = ap (λ (k : ℕ). put MonthOfYear (pos k) (parts_of q m x)) (month_again m.date) ∙ put_month q m x
 
 half_put : (q : Parsed) (m : Moment) (x : ℤ) → IsTime m.time → put HourDiv12 (half_at (nat_lt (hour_of m.time) 12)) (parts_of q m x) ≡ Ok (parts_of (with_named HourDiv12 q) m x)
 half_put q m x time = ap (λ (v : ℤ). put HourDiv12 v (parts_of q m x)) (sym (half_is m.time time (nat_lt (hour_of m.time) 12) refl)) ∙ put_half q m x time

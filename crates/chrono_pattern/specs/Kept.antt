@@ -91,7 +91,7 @@ keeps_from wide s (c ∷ bytes) m x = elim (pattern_step s c) [ None ↦ false |
 
 -- The pattern loses nothing of a local date-time where the clock is x seconds ahead of UTC, but what it does not name. This is so of every
 -- whole second of the years 0 to 9999, or of all years, at an offset of whole hours.
-pub record IsKept (wide : Bool) (bytes : List ℕ) (m : Moment) (x : ℤ) : Type 0 where
+pub record LosesNothing (wide : Bool) (bytes : List ℕ) (m : Moment) (x : ℤ) : Type 0 where
   pub time : IsTime m.time
   pub offset : IsOffset x
   pub items : keeps_from wide Outside bytes m x ≡ true

@@ -21,7 +21,7 @@ ghost use Rattle.chrono_pattern.specs.declared.class.Class.TheVariants.{Gap};
 ghost use Rattle.chrono_pattern.specs.Parses.{IsDateBy, IsMomentBy, IsTimeBy, IsZonedBy};
 ghost use Rattle.chrono_pattern.specs.Parts.{no_parts};
 ghost use Rattle.chrono_pattern.specs.PatternItems.{pattern_items};
-ghost use Rattle.chrono_pattern.specs.Kept.{IsKept, given_parts, keeps_stamp, keeps_year, tells_date, tells_moment, tells_time, tells_zoned};
+ghost use Rattle.chrono_pattern.specs.Kept.{LosesNothing, given_parts, keeps_stamp, keeps_year, tells_date, tells_moment, tells_time, tells_zoned};
 ghost use Rattle.chrono_pattern.specs.ReadBack.{parts_of};
 ghost use Rattle.chrono_pattern.specs.Separable.{is_separable};
 ghost use Rattle.chrono_pattern.specs.Reads.{text_read};
@@ -207,16 +207,16 @@ pub fn fields_tell_what_is_named()
 pub fn separable_patterns_read_back()
     ensures whole { (wide : Bool) → (bytes : List ℕ) → (m : Moment) → (x : ℤ) → is_separable wide bytes ≡ true → IsTime m.time → IsOffset x
         → keeps_year wide (year_of m.date) ≡ true → keeps_year wide (iso_year_of m.date) ≡ true → m.time.fraction % nanos_per_second ≡ 0
-        → unsigned_abs x % 3_600 ≡ 0 → keeps_stamp (epoch_second m -ℤ x) ≡ true → IsKept wide bytes m x }
-    ensures parts { (wide : Bool) → (bytes : List ℕ) → (m : Moment) → (x : ℤ) → is_separable wide bytes ≡ true → IsKept wide bytes m x
+        → unsigned_abs x % 3_600 ≡ 0 → keeps_stamp (epoch_second m -ℤ x) ≡ true → LosesNothing wide bytes m x }
+    ensures parts { (wide : Bool) → (bytes : List ℕ) → (m : Moment) → (x : ℤ) → is_separable wide bytes ≡ true → LosesNothing wide bytes m x
         → text_read bytes (text_at_offset bytes m x) ≡ Ok (parts_of (given_parts bytes m.time) m x) }
-    ensures date { (wide : Bool) → (bytes : List ℕ) → (m : Moment) → is_separable wide bytes ≡ true → IsKept wide bytes m (pos 0)
+    ensures date { (wide : Bool) → (bytes : List ℕ) → (m : Moment) → is_separable wide bytes ≡ true → LosesNothing wide bytes m (pos 0)
         → names_date (named_parts bytes) ≡ true → tells_date (named_parts bytes) m.date ≡ true → IsDateBy bytes (pattern_text bytes m) m.date }
-    ensures time { (wide : Bool) → (bytes : List ℕ) → (m : Moment) → is_separable wide bytes ≡ true → IsKept wide bytes m (pos 0)
+    ensures time { (wide : Bool) → (bytes : List ℕ) → (m : Moment) → is_separable wide bytes ≡ true → LosesNothing wide bytes m (pos 0)
         → names_time (named_parts bytes) ≡ true → tells_time (named_parts bytes) m.time ≡ true → IsTimeBy bytes (pattern_text bytes m) m.time }
-    ensures date_time { (wide : Bool) → (bytes : List ℕ) → (m : Moment) → is_separable wide bytes ≡ true → IsKept wide bytes m (pos 0)
+    ensures date_time { (wide : Bool) → (bytes : List ℕ) → (m : Moment) → is_separable wide bytes ≡ true → LosesNothing wide bytes m (pos 0)
         → names_moment (named_parts bytes) ≡ true → tells_moment (named_parts bytes) m ≡ true → IsMomentBy bytes (pattern_text bytes m) m }
-    ensures zoned { (wide : Bool) → (bytes : List ℕ) → (m : Moment) → (x : ℤ) → is_separable wide bytes ≡ true → IsKept wide bytes m x
+    ensures zoned { (wide : Bool) → (bytes : List ℕ) → (m : Moment) → (x : ℤ) → is_separable wide bytes ≡ true → LosesNothing wide bytes m x
         → names_zoned (named_parts bytes) ≡ true → tells_zoned (named_parts bytes) m x ≡ true → IsZonedBy bytes (text_at_offset bytes m x) m x }
 {}
 
@@ -225,16 +225,16 @@ pub fn separable_patterns_read_back()
 /// So `%d.%m.%y` of a date of 1900 gives one of 2000, with the same text. The law speaks of what the pattern writes whole, as the law above
 /// does, and of patterns without `%s`.
 pub fn lossy_patterns_write_the_same_again()
-    ensures date { (wide : Bool) → (bytes : List ℕ) → (m : Moment) → (n : ℤ) → is_separable wide bytes ≡ true → IsKept wide bytes m (pos 0)
+    ensures date { (wide : Bool) → (bytes : List ℕ) → (m : Moment) → (n : ℤ) → is_separable wide bytes ≡ true → LosesNothing wide bytes m (pos 0)
         → is_present (named_parts bytes).timestamp ≡ false → IsDateBy bytes (pattern_text bytes m) n
         → pattern_text bytes (moment n m.time) ≡ pattern_text bytes m }
-    ensures time { (wide : Bool) → (bytes : List ℕ) → (m : Moment) → (t : TimeOfDay) → is_separable wide bytes ≡ true → IsKept wide bytes m (pos 0)
+    ensures time { (wide : Bool) → (bytes : List ℕ) → (m : Moment) → (t : TimeOfDay) → is_separable wide bytes ≡ true → LosesNothing wide bytes m (pos 0)
         → is_present (named_parts bytes).timestamp ≡ false → IsTimeBy bytes (pattern_text bytes m) t
         → pattern_text bytes (moment m.date t) ≡ pattern_text bytes m }
-    ensures date_time { (wide : Bool) → (bytes : List ℕ) → (m w : Moment) → is_separable wide bytes ≡ true → IsKept wide bytes m (pos 0)
+    ensures date_time { (wide : Bool) → (bytes : List ℕ) → (m w : Moment) → is_separable wide bytes ≡ true → LosesNothing wide bytes m (pos 0)
         → is_present (named_parts bytes).timestamp ≡ false → IsMomentBy bytes (pattern_text bytes m) w → pattern_text bytes w ≡ pattern_text bytes m }
     ensures zoned { (wide : Bool) → (bytes : List ℕ) → (m : Moment) → (x : ℤ) → (w : Moment) → (y : ℤ) → is_separable wide bytes ≡ true
-        → IsKept wide bytes m x → is_present (named_parts bytes).timestamp ≡ false → IsZonedBy bytes (text_at_offset bytes m x) w y
+        → LosesNothing wide bytes m x → is_present (named_parts bytes).timestamp ≡ false → IsZonedBy bytes (text_at_offset bytes m x) w y
         → text_at_offset bytes w y ≡ text_at_offset bytes m x }
 {}
 

@@ -6,6 +6,7 @@ of its name.
 import datetime
 import re
 import time as c_time
+from collections.abc import Callable
 from typing import Any
 
 from . import _calendar
@@ -36,18 +37,23 @@ def _year_text(year: int) -> str:
     return f"{year:04}" if 0 <= year <= 9999 else f"{year:+05}"
 
 
+# The text of each of them for a date and a fraction of a second.
+_DIRECTIVES: dict[str, Callable[[Any, int], str]] = {
+    "%": lambda date, fraction: "%%", "f": lambda date, fraction: f"{fraction // 1_000:06}",
+    "z": lambda date, fraction: "", "Z": lambda date, fraction: "",
+    "Y": lambda date, fraction: _year_text(date.year), "G": lambda date, fraction: _year_text(date.isocalendar().year),
+    "y": lambda date, fraction: f"{date.year % 100:02}", "C": lambda date, fraction: f"{date.year // 100:02}",
+    "F": lambda date, fraction: f"{_year_text(date.year)}-{date.month:02}-{date.day:02}",
+}
+
+
 def _formatted(date: Any, format: str, fraction: int) -> str:
     """The text of a date or date-time by a format of time.strftime."""
     if not isinstance(format, str):
         raise TypeError(f"a format must be str, not {type(format).__name__}")
 
-    year = _year_text(date.year)
-    own = {
-        "%": "%%", "f": f"{fraction // 1_000:06}", "z": "", "Z": "", "Y": year, "G": _year_text(date.isocalendar().year),
-        "y": f"{date.year % 100:02}", "C": f"{date.year // 100:02}", "F": f"{year}-{date.month:02}-{date.day:02}",
-    }
     moment: c_time.struct_time = date.timetuple()
-    return c_time.strftime(_OWN.sub(lambda found: own[found[1]], format), moment)
+    return c_time.strftime(_OWN.sub(lambda found: _DIRECTIVES[found[1]](date, fraction), format), moment)
 
 
 def _named(date: Any, clock: tuple[int, int, int]) -> c_time.struct_time:
@@ -161,7 +167,7 @@ class DateTime:
         return _named(self, (self.hour, self.minute, self.second))
 
     def timestamp(self: Any) -> float:
-        """Returns the POSIX timestamp of this local time."""
+        """Returns the POSIX timestamp of this local time; of a time that comes twice, the one that C's mktime takes."""
         nanosecond: int = self.nanosecond
         return (int(c_time.mktime(self.timetuple())) * 10**9 + nanosecond) / 10**9
 

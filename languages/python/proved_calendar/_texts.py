@@ -3,6 +3,7 @@
 A text in another form is written anew in the form of the proved reader, which then reads it. So whether there is such a date or
 time, and which one it is, comes from there. Nothing here is proved.
 """
+import operator
 import re
 from typing import Any
 
@@ -24,9 +25,6 @@ _OF_DURATION = re.compile(
     r"(?:T(?=[0-9])(?:(?P<hours>[0-9]+)H)?(?:(?P<minutes>[0-9]+)M)?(?:(?P<seconds>[0-9]+)(?:[.,](?P<fraction>[0-9]{1,9}))?S)?)?"
 )
 _SECOND, _MINUTE, _HOUR, _DAY = 10**9, 60 * 10**9, 3_600 * 10**9, 86_400 * 10**9
-
-# How many bytes of a text a time of day has in each precision, from its hour on.
-_ENDS = {"hours": 2, "minutes": 5, "seconds": 8, "milliseconds": 12, "microseconds": 15, "nanoseconds": 18}
 
 
 # ---- texts that are read
@@ -88,24 +86,6 @@ def nanoseconds_of_text(text: str) -> int:
 # ---- texts that are written
 
 
-def clock_in(clock: str, timespec: str | None) -> str:
-    """The text of a time of day to a precision; what it leaves out is cut off."""
-    if timespec is None or timespec == "auto":
-        return clock
-    if timespec not in _ENDS:
-        raise ValueError(f"timespec {timespec!r}: it is auto, {', '.join(_ENDS)}")
-    whole, _, fraction = clock.partition(".")
-    return f"{whole}.{fraction.ljust(9, '0')}"[: _ENDS[timespec]]
-
-
-def text_of_date_time(text: str, sep: str | None, timespec: str | None) -> str:
-    """The text of a date-time with another separator, or to a precision."""
-    date, _, clock = text.partition("T")
-    if sep is not None and not (isinstance(sep, str) and len(sep) == 1):
-        raise TypeError("the separator is one character")
-    return f"{date}{'T' if sep is None else sep}{clock_in(clock, timespec)}"
-
-
 def _fraction(nanoseconds: int) -> str:
     """The digits of a fraction of a second: three, six or nine of them."""
     digits = f"{nanoseconds:09}"
@@ -159,7 +139,7 @@ def rounded(numerator: int, denominator: int) -> int:
 def ratio_of(number: Any) -> tuple[int, int]:
     """The fraction that a number is."""
     if not isinstance(number, float):
-        return number.__index__(), 1
+        return operator.index(number), 1
     ratio = number.as_integer_ratio()
     if not isinstance(ratio, tuple):
         raise TypeError(f"as_integer_ratio answers {type(ratio).__name__}, and no tuple")

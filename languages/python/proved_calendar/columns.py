@@ -100,37 +100,41 @@ def _from_unix_days(days: Any) -> Any:
 
 
 class _Layout:
-    """How an array holds dates: its day numbers with the rest of each day, and an array of the same type from both."""
+    """How an array holds dates: its day numbers, and an array of the same type from those."""
 
     def __init__(self, dtype: Any) -> None:
         self.dtype = dtype
 
-    def split(self, values: Any) -> tuple[Any, Any]:
-        """The day numbers of a piece, and the rest of each day, or None."""
+    def numbers(self, values: Any) -> Any:
+        """The day numbers of a piece."""
         raise NotImplementedError
 
-    def put(self, found: Any, rest: Any, out: Any) -> None:
-        """Writes a piece of dates from their day numbers and the rest of each day."""
+    def put(self, found: Any, out: Any) -> None:
+        """Writes a piece of dates, without a time of day, from their day numbers."""
         raise NotImplementedError
+
+    def move(self, found: Any, values: Any, starts: Any, out: Any) -> None:
+        """Writes a piece of dates after a move of their day numbers from the starts, with their times of day."""
+        self.put(found, out)
 
 
 class _Int32(_Layout):
     """Day numbers as the library has them."""
 
-    def split(self, values: Any) -> tuple[Any, Any]:
-        return _np.require(values, _np.int32, "CA"), None
+    def numbers(self, values: Any) -> Any:
+        return _np.require(values, _np.int32, "CA")
 
-    def put(self, found: Any, rest: Any, out: Any) -> None:
+    def put(self, found: Any, out: Any) -> None:
         out[...] = found
 
 
 class _Int64(_Layout):
     """Day numbers of 64 bits."""
 
-    def split(self, values: Any) -> tuple[Any, Any]:
-        return _np.clip(values.astype(_np.int64, copy=False), _FIRST - 1, _LAST + 1).astype(_np.int32), None
+    def numbers(self, values: Any) -> Any:
+        return _np.clip(values.astype(_np.int64, copy=False), _FIRST - 1, _LAST + 1).astype(_np.int32)
 
-    def put(self, found: Any, rest: Any, out: Any) -> None:
+    def put(self, found: Any, out: Any) -> None:
         out[...] = found
         out[found == _NONE] = _NAT
 
@@ -138,10 +142,10 @@ class _Int64(_Layout):
 class _Days(_Layout):
     """Days since 1970, as numpy counts them."""
 
-    def split(self, values: Any) -> tuple[Any, Any]:
-        return _from_unix_days(_flat64(values)), None
+    def numbers(self, values: Any) -> Any:
+        return _from_unix_days(_flat64(values))
 
-    def put(self, found: Any, rest: Any, out: Any) -> None:
+    def put(self, found: Any, out: Any) -> None:
         _call("to_unix_days", found, out.view(_np.int64))
 
 
@@ -152,30 +156,35 @@ class _Times(_Layout):
         super().__init__(dtype)
         self.day = day
 
-    def split(self, values: Any) -> tuple[Any, Any]:
+    def numbers(self, values: Any) -> Any:
         times = _flat64(values)
         days = times // self.day
-        rest = times - days * self.day
-        days[times == _NAT] = _NAT
-        return _from_unix_days(days), rest
+        if times.min(initial=0) == _NAT:
+            days[times == _NAT] = _NAT
+        return _from_unix_days(days)
 
-    def put(self, found: Any, rest: Any, out: Any) -> None:
-        days, end = found.astype(_np.int64), out.view(_np.int64)
-        days -= _EPOCH
-        _np.multiply(days, self.day, out=end)
-        if rest is not None:
-            end += rest
-        if self.day > _UNITS["us"]:
-            self.cut(days, rest, end)
-        end[found == _NONE] = _NAT
+    def put(self, found: Any, out: Any) -> None:
+        self.move(found, _np.zeros((), _np.int64), _EPOCH, out)
 
-    def cut(self, days: Any, rest: Any, end: Any) -> None:
-        """Makes NaT of times that 64 bits do not hold; the first and the last that they hold lie inside a day."""
+    def move(self, found: Any, values: Any, starts: Any, out: Any) -> None:
+        times, end = _flat64(values), out.view(_np.int64)
+        _np.subtract(found, starts, out=end, dtype=_np.int64)
+        end *= self.day
+        end += times
+        least, most = (int(it) - _EPOCH for it in (found.min(initial=_EPOCH), found.max(initial=_EPOCH)))
+        # (64 bits of any longer unit hold all dates)
+        if self.day == _UNITS["ns"] and (least <= _NAT // self.day or most >= _MOST // self.day):
+            end[~self.holds(found, times % self.day)] = _NAT
+        elif least == _NONE - _EPOCH:
+            end[found == _NONE] = _NAT
+
+    def holds(self, found: Any, rest: Any) -> Any:
+        """Whether 64 bits hold the time that is the rest after the beginning of a day; none is no date's."""
+        days = found.astype(_np.int64) - _EPOCH
         first, last = _NAT // self.day, _MOST // self.day
-        if days.size and (days.min() <= first or days.max() >= last):
-            over = 0 if rest is None else rest
-            is_early = (days < first) | ((days == first) & (over <= _NAT - first * self.day))
-            end[is_early | (days > last) | ((days == last) & (over > _MOST - last * self.day))] = _NAT
+        is_late = (days > last) | ((days == last) & (rest > _MOST - last * self.day))
+        is_early = (days < first) | ((days == first) & (rest <= _NAT - first * self.day))
+        return ~(is_late | is_early | (found == _NONE))
 
 
 def _layout(dtype: Any) -> _Layout:
@@ -219,7 +228,7 @@ class _Dates:
 
     def numbers(self, piece: slice) -> Any:
         """The day numbers of a piece."""
-        return self.layout.split(self.values[piece])[0]
+        return self.layout.numbers(self.values[piece])
 
     def pieces(self) -> Iterator[slice]:
         return _pieces(self.size)
@@ -310,13 +319,13 @@ def _moved(name: str, column: _Dates, by: Callable[[slice], Any]) -> Any:
     """Each date after a move by what stands in a piece: one number, or one for each date."""
     out = _np.empty(column.size, column.layout.dtype)
     for piece in column.pieces():
-        found, rest = column.layout.split(column.values[piece])
+        starts = column.numbers(piece)
         if type(column.layout) is _Int32:
-            _call(name, found, by(piece), out[piece])
+            _call(name, starts, by(piece), out[piece])
         else:
-            moved = _np.empty(found.size, _np.int32)
-            _call(name, found, by(piece), moved)
-            column.layout.put(moved, rest, out[piece])
+            moved = _np.empty(starts.size, _np.int32)
+            _call(name, starts, by(piece), moved)
+            column.layout.move(moved, column.values[piece], starts, out[piece])
     return out.reshape(column.shape)
 
 
@@ -377,14 +386,14 @@ def days_between(dates: Any, bases: Any) -> Any:
     is_time = kinds[0].kind == "M"
     if is_time != (kinds[1].kind == "M"):
         raise TypeError(f"dates of {kinds[0]} are not compared with dates of {kinds[1]}")
-    out = _np.empty(column.size, "m8[D]" if is_time else _np.int32)
+    out = _np.empty(column.size, _np.int64 if is_time else _np.int32)
     for piece in column.pieces():
         days = _np.empty(piece.stop - piece.start, _np.int32)
         _call("days_between", column.numbers(piece), base.numbers(piece), days)
         out[piece] = days
-        if is_time:
-            out[piece][days == _NONE] = "NaT"
-    return out.reshape(shape)
+        if is_time and days.min(initial=0) == _NONE:
+            out[piece][days == _NONE] = _NAT
+    return (out.view("m8[D]") if is_time else out).reshape(shape)
 
 
 def _made_of(dtype: Any) -> _Layout:
@@ -399,7 +408,7 @@ def _new(layout: _Layout, shape: Any, number: Callable[[slice], Any]) -> Any:
     """An array of dates without a time of day, from a function that answers the day numbers of a piece."""
     out = _np.empty(_np.prod(shape, dtype=_np.int64), layout.dtype)
     for piece in _pieces(out.size):
-        layout.put(number(piece), None, out[piece])
+        layout.put(number(piece), out[piece])
     return out.reshape(shape)
 
 

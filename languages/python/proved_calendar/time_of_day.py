@@ -5,7 +5,7 @@ import datetime
 from typing import TYPE_CHECKING, Any, ClassVar, SupportsIndex
 
 from ._calendar import Date, DateTime, Duration
-from ._texts import clock_in, clock_of_text
+from ._texts import clock_of_text
 
 if TYPE_CHECKING:
     from typing_extensions import Self
@@ -126,7 +126,7 @@ class Time:
 
     def isoformat(self, timespec: str = "auto") -> str:
         """Returns the time as HH:MM:SS, with a fraction of three, six or nine digits if it is not 0; or as DateTime.isoformat says."""
-        return clock_in(self._moment.isoformat()[11:], timespec)
+        return self._moment.isoformat(timespec=timespec)[11:]
 
     def strftime(self, format: str, /) -> str:
         """Returns the time as a format of time.strftime says, with the date 1 January 1970."""

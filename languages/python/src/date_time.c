@@ -1,6 +1,8 @@
 /* date_time.c: the type DateTime. */
 #include "package.h"
 
+#include <string.h>
+
 PyTypeObject *date_time_type;
 static Blocks kept;
 
@@ -431,23 +433,14 @@ static PyObject *date_time_subtract(PyObject *left, PyObject *right)
 /* Room for the longest text of a date-time, such as -262143-01-01T00:00:00.000000001. */
 enum { ROOM = 32 };
 
+/* The bytes of a time of day up to the point of its fraction. */
+enum { CLOCK_LENGTH = 8 };
+
 static PyObject *date_time_text(PyObject *self)
 {
     uint8_t text[ROOM];
     int32_t length = calendar_write_date_time(moment_of(self), text, ROOM);
     return PyUnicode_FromStringAndSize((const char *)text, length);
-}
-
-static PyObject *iso_format(PyObject *self, PyObject *const *arguments, Py_ssize_t count, PyObject *keywords)
-{
-    PyObject *parts[PARTS];
-    if (count == 0 && !keywords) {
-        return date_time_text(self);
-    }
-    if (!take_array(&of_iso_format, arguments, count, keywords, parts)) {
-        return NULL;
-    }
-    return by_python("text_of_date_time", "(NOO)", date_time_text(self), parts[0] ? parts[0] : Py_None, parts[1] ? parts[1] : Py_None);
 }
 
 /* How many bytes stand before the time of day. */
@@ -458,6 +451,59 @@ static size_t length_of_date(const char *bytes, size_t length)
         i++;
     }
     return i;
+}
+
+/* Cuts the text of a clock to a precision, or fills its fraction up with zeros; whether there is such a precision. */
+static bool cut_clock(PyObject *timespec, char *clock)
+{
+    static const struct {
+        const char *name;
+        size_t length;
+    } precisions[] = {{"hours", 2}, {"minutes", 5}, {"seconds", 8}, {"milliseconds", 12}, {"microseconds", 15}, {"nanoseconds", 18}};
+    if (PyUnicode_CompareWithASCIIString(timespec, "auto") == 0) {
+        return true;
+    }
+    for (size_t i = 0; i < sizeof precisions / sizeof precisions[0]; i++) {
+        if (PyUnicode_CompareWithASCIIString(timespec, precisions[i].name) == 0) {
+            for (size_t at = strlen(clock); at < precisions[i].length; at++) {
+                clock[at] = at == CLOCK_LENGTH ? '.' : '0';
+            }
+            clock[precisions[i].length] = 0;
+            return true;
+        }
+    }
+    PyErr_Format(PyExc_ValueError, "timespec %R: it is auto, hours, minutes, seconds, milliseconds, microseconds or nanoseconds", timespec);
+    return false;
+}
+
+/* The text with another separator, or to a precision; each may be left out. */
+static PyObject *text_in(PyObject *self, PyObject *separator, PyObject *timespec)
+{
+    char text[ROOM + 1];
+    size_t length = (size_t)calendar_write_date_time(moment_of(self), (uint8_t *)text, ROOM), date = length_of_date(text, length);
+    text[length] = 0;
+    text[date] = 0;
+    if (separator && (!PyUnicode_Check(separator) || PyUnicode_GetLength(separator) != 1)) {
+        PyErr_SetString(PyExc_TypeError, "the separator is one character");
+        return NULL;
+    }
+    if (timespec && !PyUnicode_Check(timespec)) {
+        return refuse_type("a str", timespec);
+    }
+    if (timespec && !cut_clock(timespec, text + date + 1)) {
+        return NULL;
+    }
+    return separator ? PyUnicode_FromFormat("%s%U%s", text, separator, text + date + 1)
+                     : PyUnicode_FromFormat("%sT%s", text, text + date + 1);
+}
+
+static PyObject *iso_format(PyObject *self, PyObject *const *arguments, Py_ssize_t count, PyObject *keywords)
+{
+    PyObject *parts[PARTS];
+    if (count == 0 && !keywords) {
+        return date_time_text(self);
+    }
+    return take_array(&of_iso_format, arguments, count, keywords, parts) ? text_in(self, parts[0], parts[1]) : NULL;
 }
 
 /* Whether the bytes have the form of a time of day, a separator in front of it; then its parts are written. */

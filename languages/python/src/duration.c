@@ -436,8 +436,10 @@ static int duration_bool(PyObject *self)
 static PyObject *duration_compare(PyObject *left, PyObject *right, int order)
 {
     calendar_duration one = length_of(left), other;
-    bool is_one;
-    if (!read_length(right, &other, &is_one)) {
+    bool is_one = is_duration(right);
+    if (is_one) {
+        other = length_of(right);
+    } else if (!read_length(right, &other, &is_one)) {
         return NULL;
     }
     if (!is_one) {

@@ -30,6 +30,10 @@ PyObject *extend(PyObject *module, PyObject *const *arguments, Py_ssize_t count)
     if (!has_arguments("extend", 3, count)) {
         return NULL;
     }
+    PyTypeObject *type = (PyTypeObject *)arguments[0];
+    if (type != date_type && type != date_time_type && type != duration_type) {
+        return refuse_type("a type of this module", arguments[0]);
+    }
     const char *name = PyUnicode_AsUTF8AndSize(arguments[1], NULL);
     if (!name || !set_on_type(arguments[0], name, arguments[2])) {
         return NULL;

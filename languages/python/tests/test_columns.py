@@ -45,6 +45,13 @@ def number_of(it):
 class Columns(unittest.TestCase):
     def setUp(self):
         self.chance = random.Random(self.id())
+        self.addTypeEqualityFunc(list, self.same_lists)
+
+    def same_lists(self, one, other, msg=None):
+        """Compares lists, and tells the first elements that differ (unittest would look for the shortest way from one to the other)."""
+        if one != other:
+            at = next((at for at, (left, right) in enumerate(zip(one, other)) if left != right), min(len(one), len(other)))
+            self.fail(f"element {at}: {one[at:at + 1]} is not {other[at:at + 1]} {msg or ''}")
 
     def some_numbers(self, count=COUNT):
         """Numbers of dates, near and far and at both ends, and of no dates."""
@@ -84,7 +91,9 @@ class Columns(unittest.TestCase):
     def number_array(self, array):
         """The dates of an array as numbers, or None; and what is left of their days."""
         if array.dtype.kind != "M":
-            return [it if FIRST <= it <= LAST else None for it in array.tolist()], 0
+            none = NONE if array.dtype == numpy.int32 else NAT
+            self.assertTrue(all(FIRST <= it <= LAST or it == none for it in array.tolist()))
+            return [None if it == none else it for it in array.tolist()], 0
         unit = numpy.datetime_data(array.dtype)[0]
         times, day = array.view(numpy.int64).tolist(), UNITS.get(unit, 1)
         return [None if it == NAT else it // day + EPOCH for it in times], [None if it == NAT else it % day for it in times]
@@ -422,7 +431,7 @@ class Arrays(Columns):
             self.assertTrue(getattr(columns, name).__doc__)
 
     def test_examples(self):
-        failed, tried = doctest.testmod(columns)
+        failed, tried = doctest.testmod(columns, verbose=False)
         self.assertEqual((failed, tried > 2), (0, True))
 
 

@@ -80,6 +80,12 @@ class Making(unittest.TestCase):
                     self.assertRaises(AttributeError, setattr, value, name, 1)
                     self.assertRaises(AttributeError, delattr, value, name)
 
+    def test_extend(self):
+        """Only the types of the module get members from its Python, and those are not changed from outside."""
+        for wrong in (int, 1, Weekday, Day):
+            self.assertRaises(TypeError, proved_calendar._calendar.extend, wrong, "other", 1)
+        self.assertRaises(TypeError, setattr, Date, "today", None)
+
     def test_version_and_names(self):
         self.assertRegex(proved_calendar.__version__, r"^\d+\.\d+\.\d+$")
         for name in proved_calendar.__all__:
@@ -374,7 +380,7 @@ class Names(unittest.TestCase):
             self.assertRaises(ValueError, format, value, "d")
             self.assertRaises(TypeError, value.__format__, 1)
         self.assertRaisesRegex(ValueError, "strftime", format, HOUR, "%H")
-        self.assertEqual((f"{LEAP_DAY:%Y}", f"{NOON:%H:%M}", f"{Time(12, 30):%M}"), ("2024", "12:30", "30"))
+        self.assertEqual((f"{LEAP_DAY:%Y}", f"{NOON:at %H:%M}", f"{Time(12, 30):%M}"), ("2024", "at 12:30", "30"))
 
     def test_patterns(self):
         self.assertEqual(Date.__match_args__, ("year", "month", "day"))
@@ -512,7 +518,7 @@ class Refusals(unittest.TestCase):
             lambda: Time.fromisoformat("12h"): "'12h' is no text of a time of day",
             lambda: Duration.fromisoformat("P1Y"): "'P1Y' is no text of a duration",
             lambda: NOON.isoformat(timespec="days"):
-                "timespec 'days': it is auto, hours, minutes, seconds, milliseconds, microseconds, nanoseconds",
+                "timespec 'days': it is auto, hours, minutes, seconds, milliseconds, microseconds or nanoseconds",
             lambda: Date.fromisoformat("2024W541"): "week 54 of ISO year 2024: the year has 52 weeks",
             lambda: Date.fromisoformat("20240230"): "day 30 of 2024-02: the month has 29 days",
             lambda: DateTime.fromisoformat("2024-02-29T24:00:00."): "'2024-02-29T24:00:00.' is no text of a date-time",

@@ -202,6 +202,8 @@ class Clocks(Cases):
             for wrong in (math.inf, 1e200, -(10**30)):
                 self.assertRaises(OverflowError, call, wrong)
             self.assertRaises(ValueError, call, math.nan)
+            for wrong in ("1", None, 1j):
+                self.assertRaises(TypeError, call, wrong)
 
     def test_now(self):
         for ours, theirs in ((DateTime.now, datetime.datetime.now), (DateTime.today, datetime.datetime.today)):
@@ -257,6 +259,7 @@ class Durations(Cases):
         self.assertEqual(Duration(milliseconds=2**63 - 1), Duration.max)
         self.assertRaises(OverflowError, Duration, milliseconds=2**63)
         self.assertEqual(Duration(microseconds=10**18, nanoseconds=2**62 + 1).nanoseconds, 10**21 + 2**62 + 1)
+        self.assertEqual(Duration(milliseconds=2**39, nanoseconds=2**63 - 2).nanoseconds, 10**6 * 2**39 + 2**63 - 2)
         self.assertEqual(Duration(weeks=-(10**9), milliseconds=10**18).nanoseconds, -604_800 * 10**18 + 10**24)
 
     def test_texts(self):
@@ -399,7 +402,7 @@ class Examples(unittest.TestCase):
             ((name, getattr(kind, name)) for name in dir(kind)) if name not in ("__doc__", "__class__")
         }
         documented = {**members, **{name: it.__doc__ for name, it in names.items()}}
-        runner, parser = doctest.DocTestRunner(), doctest.DocTestParser()
+        runner, parser = doctest.DocTestRunner(verbose=False), doctest.DocTestParser()
         for name, text in documented.items():
             if isinstance(text, str) and ">>>" in text:
                 runner.run(parser.get_doctest(text, dict(names), name, None, None))

@@ -71,6 +71,11 @@ fn operators_panic_out_of_range() {
 fn the_ends_of_dates() {
     assert_eq!(NaiveDate::MIN.to_string(), "-262143-01-01");
     assert_eq!(NaiveDate::MAX.to_string(), "+262142-12-31");
+    assert_eq!((MIN_DATE, MAX_DATE), (NaiveDate::MIN, NaiveDate::MAX));
+    assert_eq!(
+        (MIN_DATETIME.naive_utc(), MAX_DATETIME.naive_utc()),
+        (naive::MIN_DATETIME, naive::MAX_DATETIME)
+    );
     assert_eq!(NaiveDate::MAX.checked_add_days(Days::new(u64::MAX)), None);
     assert_eq!(
         NaiveDate::MIN.checked_sub_months(Months::new(u32::MAX)),

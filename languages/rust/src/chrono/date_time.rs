@@ -97,11 +97,10 @@ impl NaiveDateTime {
 
     /// The date-time as the library takes it; not for a leap second that does not end a minute.
     fn moment(self) -> Moment {
-        let (second, nanos) = (
-            self.time.num_seconds_from_midnight(),
-            self.time.nanosecond(),
-        );
-        calendar_date_time_new(self.date.num_days_from_ce(), second, nanos)
+        Moment {
+            seconds: self.timestamp(),
+            nanos: self.time.nanosecond(),
+        }
     }
 
     /// The date-time that a text gives by a pattern of `format::strftime`. An offset in it counts for nothing.

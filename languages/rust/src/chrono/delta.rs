@@ -161,19 +161,25 @@ impl TimeDelta {
     /// The whole milliseconds, rounded towards zero.
     #[must_use]
     pub const fn num_milliseconds(&self) -> i64 {
-        (self.all_nanoseconds() / 1_000_000) as i64
+        self.num_seconds() * 1_000 + self.subsec_millis() as i64
     }
 
     /// The whole microseconds, rounded towards zero; `None` if they are no `i64`.
     #[must_use]
     pub const fn num_microseconds(&self) -> Option<i64> {
-        as_i64(self.all_nanoseconds() / 1_000)
+        match self.num_seconds().checked_mul(1_000_000) {
+            Some(micros) => micros.checked_add(self.subsec_micros() as i64),
+            None => None,
+        }
     }
 
     /// The nanoseconds; `None` if they are no `i64`.
     #[must_use]
     pub const fn num_nanoseconds(&self) -> Option<i64> {
-        as_i64(self.all_nanoseconds())
+        match self.num_seconds().checked_mul(1_000_000_000) {
+            Some(nanos) => nanos.checked_add(self.subsec_nanos() as i64),
+            None => None,
+        }
     }
 
     /// The whole milliseconds past `num_seconds`, with the sign of the length.
@@ -191,7 +197,12 @@ impl TimeDelta {
     /// The nanoseconds past `num_seconds`, with the sign of the length.
     #[must_use]
     pub const fn subsec_nanos(&self) -> i32 {
-        (self.all_nanoseconds() % NANOS) as i32
+        let (seconds, nanos) = (self.0.seconds(), self.0.nanos() as i32);
+        if seconds < 0 && nanos > 0 {
+            nanos - NANOS as i32
+        } else {
+            nanos
+        }
     }
 
     /// The length in seconds, rounded to an `f64`.
@@ -209,13 +220,15 @@ impl TimeDelta {
     /// The sum; `None` if it is too long.
     #[must_use]
     pub const fn checked_add(&self, rhs: &TimeDelta) -> Option<TimeDelta> {
-        TimeDelta::of_nanoseconds(self.all_nanoseconds() + rhs.all_nanoseconds())
+        let nanos = self.0.nanos() + rhs.0.nanos();
+        let seconds = self.0.seconds() + rhs.0.seconds() + (nanos / NANOS as u32) as i64;
+        TimeDelta::new(seconds, nanos % NANOS as u32)
     }
 
     /// The difference; `None` if it is too long.
     #[must_use]
     pub const fn checked_sub(&self, rhs: &TimeDelta) -> Option<TimeDelta> {
-        TimeDelta::of_nanoseconds(self.all_nanoseconds() - rhs.all_nanoseconds())
+        self.checked_add(&rhs.turned())
     }
 
     /// The product; `None` if it is too long.
@@ -314,10 +327,13 @@ impl TimeDelta {
 
     /// The same length the other way.
     const fn turned(&self) -> TimeDelta {
-        known(
-            TimeDelta::of_nanoseconds(-self.all_nanoseconds()),
-            "a duration has its like the other way",
-        )
+        let (seconds, nanos) = (self.0.seconds(), self.0.nanos());
+        let turned = if nanos == 0 {
+            TimeDelta::new(-seconds, 0)
+        } else {
+            TimeDelta::new(-seconds - 1, NANOS as u32 - nanos)
+        };
+        known(turned, "a duration has its like the other way")
     }
 
     /// The length as the library takes it.

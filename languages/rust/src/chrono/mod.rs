@@ -58,6 +58,14 @@ pub const MIN_DATE: NaiveDate = NaiveDate::MIN;
 #[deprecated(note = "use `NaiveDate::MAX`")]
 pub const MAX_DATE: NaiveDate = NaiveDate::MAX;
 
+/// The first instant.
+#[deprecated(note = "use `DateTime::MIN_UTC`")]
+pub const MIN_DATETIME: DateTime<Utc> = DateTime::MIN_UTC;
+
+/// The last instant.
+#[deprecated(note = "use `DateTime::MAX_UTC`")]
+pub const MAX_DATETIME: DateTime<Utc> = DateTime::MAX_UTC;
+
 /// The types with no time zone.
 pub mod naive {
     pub use super::{

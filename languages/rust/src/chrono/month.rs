@@ -141,7 +141,7 @@ impl FromStr for Month {
     fn from_str(text: &str) -> Result<Month, ParseMonthError> {
         let is_named =
             |it: &&str| text.eq_ignore_ascii_case(it) || text.eq_ignore_ascii_case(&it[..3]);
-        let place = NAMES.iter().position(|it| is_named(&it));
+        let place = NAMES.iter().position(is_named);
         place.map(|it| ALL[it]).ok_or(ParseMonthError(()))
     }
 }

@@ -386,7 +386,7 @@ pub(super) fn write_moment(
     let mut room = [0; TEXT_ROOM];
     // SAFETY: so many bytes lie in the array.
     let length = unsafe { calendar_write_date_time(moment, room.as_mut_ptr(), TEXT_ROOM) } as usize;
-    let text = &mut room[from..length];
+    let text = room.get_mut(from..length).ok_or(fmt::Error)?;
     if let Some(it) = text.iter_mut().find(|it| **it == b'T') {
         *it = between;
     }

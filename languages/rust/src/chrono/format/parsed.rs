@@ -194,52 +194,12 @@ impl Parsed {
     pub fn to_naive_date(&self) -> ParseResult<NaiveDate> {
         let year = whole_year(self.year, self.year_div_100, self.year_mod_100)?;
         let isoyear = whole_year(self.isoyear, self.isoyear_div_100, self.isoyear_mod_100)?;
-        let date = match (year, isoyear, self) {
-            (
-                Some(year),
-                _,
-                &Parsed {
-                    month: Some(month),
-                    day: Some(day),
-                    ..
-                },
-            ) => NaiveDate::from_ymd_opt(year, month, day),
-            (
-                Some(year),
-                _,
-                &Parsed {
-                    ordinal: Some(ordinal),
-                    ..
-                },
-            ) => NaiveDate::from_yo_opt(year, ordinal),
-            (
-                Some(year),
-                _,
-                &Parsed {
-                    week_from_sun: Some(week),
-                    weekday: Some(weekday),
-                    ..
-                },
-            ) => day_of_week(year, week, Weekday::Sun, weekday),
-            (
-                Some(year),
-                _,
-                &Parsed {
-                    week_from_mon: Some(week),
-                    weekday: Some(weekday),
-                    ..
-                },
-            ) => day_of_week(year, week, Weekday::Mon, weekday),
-            (
-                _,
-                Some(year),
-                &Parsed {
-                    isoweek: Some(week),
-                    weekday: Some(weekday),
-                    ..
-                },
-            ) => NaiveDate::from_isoywd_opt(year, week, weekday),
-            _ => return Err(NOT_ENOUGH),
+        let date = if let (Some(year), Some(month), Some(day)) = (year, self.month, self.day) {
+            NaiveDate::from_ymd_opt(year, month, day)
+        } else if let (Some(year), Some(ordinal)) = (year, self.ordinal) {
+            NaiveDate::from_yo_opt(year, ordinal)
+        } else {
+            self.date_of_week(year, isoyear)?
         };
         let date = date.ok_or(OUT_OF_RANGE)?;
         if self.fits(date) {
@@ -249,33 +209,57 @@ impl Parsed {
         }
     }
 
+    /// The date by a week and a weekday, if it exists.
+    fn date_of_week(
+        &self,
+        year: Option<i32>,
+        isoyear: Option<i32>,
+    ) -> ParseResult<Option<NaiveDate>> {
+        let weekday = self.weekday.ok_or(NOT_ENOUGH)?;
+        let of_year = |week: Option<u32>, start| Some(day_of_week(year?, week?, start, weekday));
+        let of_isoyear = || Some(NaiveDate::from_isoywd_opt(isoyear?, self.isoweek?, weekday));
+        of_year(self.week_from_sun, Weekday::Sun)
+            .or_else(|| of_year(self.week_from_mon, Weekday::Mon))
+            .or_else(of_isoyear)
+            .ok_or(NOT_ENOUGH)
+    }
+
     /// Whether all fields of a date are those of this one.
     fn fits(&self, date: NaiveDate) -> bool {
-        fn is<T: PartialEq>(field: Option<T>, value: T) -> bool {
-            field.map_or(true, |it| it == value)
+        // (only the fields that are set are asked of the date)
+        fn is<T: PartialEq>(field: Option<T>, value: impl FnOnce() -> T) -> bool {
+            field.is_none_or(|it| it == value())
         }
-        let (weekday, iso_week) = (date.weekday(), date.iso_week());
+        let is_set = self
+            .isoyear
+            .or(self.isoyear_div_100)
+            .or(self.isoyear_mod_100)
+            .is_some();
         fits_year(date.year(), self.year, self.year_div_100, self.year_mod_100)
-            && fits_year(
-                iso_week.year(),
-                self.isoyear,
-                self.isoyear_div_100,
-                self.isoyear_mod_100,
-            )
-            && is(self.quarter, date.quarter())
-            && is(self.month, date.month())
-            && is(self.day, date.day())
-            && is(self.ordinal, date.ordinal())
-            && is(self.weekday, weekday)
-            && is(self.isoweek, iso_week.week())
-            && is(
-                self.week_from_sun,
-                weeks(date, weekday.num_days_from_sunday()) as u32,
-            )
-            && is(
-                self.week_from_mon,
-                weeks(date, weekday.num_days_from_monday()) as u32,
-            )
+            && (!is_set || self.fits_isoyear(date))
+            && is(self.quarter, || date.quarter())
+            && is(self.month, || date.month())
+            && is(self.day, || date.day())
+            && is(self.ordinal, || date.ordinal())
+            && is(self.weekday, || date.weekday())
+            && is(self.isoweek, || date.iso_week().week())
+            && is(self.week_from_sun, || {
+                weeks(date, date.weekday().num_days_from_sunday()) as u32
+            })
+            && is(self.week_from_mon, || {
+                weeks(date, date.weekday().num_days_from_monday()) as u32
+            })
+    }
+
+    /// Whether all parts of the ISO year are those of a date.
+    fn fits_isoyear(&self, date: NaiveDate) -> bool {
+        let year = date.iso_week().year();
+        fits_year(
+            year,
+            self.isoyear,
+            self.isoyear_div_100,
+            self.isoyear_mod_100,
+        )
     }
 
     /// The time of the fields. The second and the nanoseconds are 0 if they are missing.
@@ -313,7 +297,7 @@ impl Parsed {
             let stamp = moment.timestamp() - i64::from(offset);
             let is_leap = moment.nanosecond() >= 1_000_000_000;
             let fits = |it| it == stamp || is_leap && it == stamp + 1;
-            return if self.timestamp.map_or(true, fits) {
+            return if self.timestamp.is_none_or(fits) {
                 Ok(moment)
             } else {
                 Err(IMPOSSIBLE)
@@ -392,7 +376,7 @@ impl Parsed {
         let local = self.to_naive_datetime_with_offset(offset)?;
         let fits = |it: &DateTime<Tz>| {
             self.offset
-                .map_or(true, |wanted| it.offset().fix().local_minus_utc() == wanted)
+                .is_none_or(|wanted| it.offset().fix().local_minus_utc() == wanted)
         };
         match zone.from_local_datetime(&local) {
             MappedLocalTime::Single(it) if fits(&it) => Ok(it),
@@ -434,9 +418,9 @@ fn whole_year(
 
 /// Whether all parts are those of a year. One below 0 has no hundreds and no rest.
 fn fits_year(value: i32, year: Option<i32>, hundreds: Option<i32>, rest: Option<i32>) -> bool {
-    year.map_or(true, |it| it == value)
-        && hundreds.map_or(true, |it| value >= 0 && it == value / 100)
-        && rest.map_or(true, |it| value >= 0 && it == value % 100)
+    year.is_none_or(|it| it == value)
+        && hundreds.is_none_or(|it| value >= 0 && it == value / 100)
+        && rest.is_none_or(|it| value >= 0 && it == value % 100)
 }
 
 /// The day with a weekday in a week of a year, where week 1 begins with the first `start` of the year. `None` if it is not

@@ -139,12 +139,14 @@ const fn internal(kind: InternalKind) -> Fixed {
 
 /// The part that a specifier names, and the rest behind it; `None` for no specifier.
 fn named(text: &str) -> Option<(Part<'_>, &str)> {
-    for (name, fixed) in LONGER {
-        if let Some(rest) = text.strip_prefix(name) {
-            return Some((Part::Item(Item::Fixed(fixed)), rest));
+    let letter = text.chars().next()?;
+    if !letter.is_ascii_alphabetic() {
+        for (name, fixed) in LONGER {
+            if let Some(rest) = text.strip_prefix(name) {
+                return Some((Part::Item(Item::Fixed(fixed)), rest));
+            }
         }
     }
-    let letter = text.chars().next()?;
     let part = number(letter)
         .map(|(numeric, pad)| Part::Item(Item::Numeric(numeric, pad)))
         .or_else(|| fixed(letter).map(|it| Part::Item(Item::Fixed(it))))

@@ -13,40 +13,46 @@ const NANOS: u32 = 1_000_000_000;
 /// The room for the name of a zone, in bytes.
 const NAME_ROOM: usize = 64;
 
-/// The name of a zone.
+/// The room for a text that is made at once, in bytes.
+const TEXT_ROOM: usize = 128;
+
+/// A text of at most `N` bytes.
 #[derive(Clone, Copy, Debug)]
-struct Name {
-    bytes: [u8; NAME_ROOM],
-    /// `None` for a name that has no room.
-    length: Option<usize>,
+struct Text<const N: usize> {
+    bytes: [u8; N],
+    length: usize,
 }
 
-impl Name {
-    /// The text of an offset.
-    fn of(offset: &impl fmt::Display) -> Name {
-        let mut name = Name {
-            bytes: [0; NAME_ROOM],
-            length: Some(0),
-        };
-        if write!(name, "{offset}").is_err() {
-            name.length = None;
-        }
-        name
-    }
+impl<const N: usize> Text<N> {
+    /// No text.
+    const EMPTY: Text<N> = Text {
+        bytes: [0; N],
+        length: 0,
+    };
 
-    fn text(&self) -> Option<&str> {
-        core::str::from_utf8(self.bytes.get(..self.length?)?).ok()
+    fn text(&self) -> &str {
+        core::str::from_utf8(&self.bytes[..self.length]).unwrap_or_default()
     }
 }
 
-impl Write for Name {
+impl<const N: usize> Write for Text<N> {
     fn write_str(&mut self, text: &str) -> fmt::Result {
-        let start = self.length.ok_or(fmt::Error)?;
-        let room = self.bytes.get_mut(start..start + text.len());
-        room.ok_or(fmt::Error)?.copy_from_slice(text.as_bytes());
-        self.length = Some(start + text.len());
+        let end = self.length + text.len();
+        let room = self.bytes.get_mut(self.length..end).ok_or(fmt::Error)?;
+        room.copy_from_slice(text.as_bytes());
+        self.length = end;
         Ok(())
     }
+}
+
+/// The name of a zone, if it has room.
+type Name = Option<Text<NAME_ROOM>>;
+
+/// The text of an offset.
+fn name_of(offset: &impl fmt::Display) -> Name {
+    let mut name = Text::EMPTY;
+    write!(name, "{offset}").ok()?;
+    Some(name)
 }
 
 /// A text by a pattern, which is made when it is printed. It has an error then if the pattern is wrong, or asks for what
@@ -85,7 +91,7 @@ impl<I> DelayedFormat<I> {
         offset: &Off,
         items: I,
     ) -> DelayedFormat<I> {
-        let offset = Some((Name::of(offset), offset.fix()));
+        let offset = Some((name_of(offset), offset.fix()));
         DelayedFormat {
             date,
             time,
@@ -143,11 +149,7 @@ impl<I> DelayedFormat<I> {
             Numeric::Timestamp => (self.stamp()?, 1),
             _ => date_number(self.date()?, number),
         };
-        match pad {
-            Pad::None => write!(w, "{value}"),
-            Pad::Zero => write!(w, "{value:0width$}"),
-            Pad::Space => write!(w, "{value:>width$}"),
-        }
+        write_padded(w, value, width, pad)
     }
 
     /// The seconds since 1970-01-01T00:00:00 in UTC.
@@ -188,8 +190,8 @@ impl<I> DelayedFormat<I> {
         let is_zulu = matches!(fixed, Fixed::TimezoneOffsetColonZ | Fixed::TimezoneOffsetZ);
         match fixed {
             Fixed::TimezoneName => {
-                let name = self.offset.as_ref().and_then(|(name, _)| name.text());
-                w.write_str(name.ok_or(fmt::Error)?)
+                let name = self.offset.as_ref().and_then(|(name, _)| name.as_ref());
+                w.write_str(name.ok_or(fmt::Error)?.text())
             }
             _ if is_zulu && offset == 0 => w.write_str("Z"),
             Fixed::TimezoneOffset | Fixed::TimezoneOffsetZ => write_offset(w, offset, ""),
@@ -226,6 +228,30 @@ impl<I> DelayedFormat<I> {
         )?;
         write_offset(w, self.offset()?, "")
     }
+}
+
+/// Writes a number with so many digits at least.
+fn write_padded(w: &mut dyn Write, value: i64, width: usize, pad: Pad) -> fmt::Result {
+    match (value, width, pad) {
+        // (the common cases, for speed)
+        (10..=99, 2, _) => w.write_str(pair(value)),
+        (0..=9, 2, Pad::Zero) => w.write_str(pair(value)),
+        (_, _, Pad::None) => write!(w, "{value}"),
+        (_, _, Pad::Zero) => write!(w, "{value:0width$}"),
+        (_, _, Pad::Space) => write!(w, "{value:>width$}"),
+    }
+}
+
+/// The numbers from 00 to 99, one behind the other.
+const PAIRS: &str = "\
+    00010203040506070809101112131415161718192021222324252627282930313233343536373839\
+    40414243444546474849505152535455565758596061626364656667686970717273747576777879\
+    8081828384858687888990919293949596979899";
+
+/// The two digits of a number from 0 to 99.
+fn pair(number: i64) -> &'static str {
+    let at = 2 * number as usize;
+    &PAIRS[at..at + 2]
 }
 
 /// The second, which is 60 in a leap second that ends a minute.
@@ -279,8 +305,11 @@ pub(crate) fn write_year(w: &mut dyn Write, year: i32) -> fmt::Result {
 /// The same with some padding.
 fn write_padded_year(w: &mut dyn Write, year: i32, pad: Pad) -> fmt::Result {
     match ((0..=9_999).contains(&year), pad) {
+        (true, Pad::Zero) => {
+            w.write_str(pair(i64::from(year / 100)))?;
+            w.write_str(pair(i64::from(year % 100)))
+        }
         (true, Pad::None) => write!(w, "{year}"),
-        (true, Pad::Zero) => write!(w, "{year:04}"),
         (true, Pad::Space) => write!(w, "{year:>4}"),
         (false, Pad::None) => write!(w, "{year:+}"),
         (false, Pad::Zero) => write!(w, "{year:+05}"),
@@ -350,8 +379,9 @@ impl Write for Limited<'_, '_> {
     }
 }
 
-impl<'a, I: Iterator<Item = B> + Clone, B: Borrow<Item<'a>>> fmt::Display for DelayedFormat<I> {
-    fn fmt(&self, f: &mut fmt::Formatter<'_>) -> fmt::Result {
+impl<'a, I: Iterator<Item = B> + Clone, B: Borrow<Item<'a>>> DelayedFormat<I> {
+    /// Writes a text that has no room, with its padding.
+    fn write_long(&self, f: &mut fmt::Formatter<'_>) -> fmt::Result {
         let (width, left) = (f.width().unwrap_or(0), f.precision().unwrap_or(usize::MAX));
         // (so that nothing is written of a wrong pattern, and the padding is known)
         let mut counted = Limited {
@@ -374,6 +404,16 @@ impl<'a, I: Iterator<Item = B> + Clone, B: Borrow<Item<'a>>> fmt::Display for De
             count: 0,
         })?;
         (before..padding).try_for_each(|_| f.write_char(fill))
+    }
+}
+
+impl<'a, I: Iterator<Item = B> + Clone, B: Borrow<Item<'a>>> fmt::Display for DelayedFormat<I> {
+    fn fmt(&self, f: &mut fmt::Formatter<'_>) -> fmt::Result {
+        let mut text = Text::<TEXT_ROOM>::EMPTY;
+        match self.write(&mut text) {
+            Ok(()) => f.pad(text.text()),
+            Err(fmt::Error) => self.write_long(f),
+        }
     }
 }
 
