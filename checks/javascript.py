@@ -57,12 +57,6 @@ class Findings(Results):
 # ---- in node
 
 
-def node_words():
-    """Node, with the flag that its versions before 24 need for 64-bit memories."""
-    told = subprocess.run(["node", "--version"], check=True, capture_output=True, text=True).stdout
-    return ["node", *["--experimental-wasm-memory64"] * (int(re.match(r"v(\d+)", told)[1]) < 24)]
-
-
 def make_project(room, package):
     """A project that has the package as npm puts it, and the tests."""
     shutil.rmtree(room, ignore_errors=True)
@@ -77,7 +71,7 @@ def run_tests(project):
     """Runs the tests in a project: what passed and failed, and what was printed."""
     names = [f"test/{it}" for it in sorted(os.listdir(f"{project}/test")) if it.endswith(".test.js")]
     ran = subprocess.run(
-        [*node_words(), "--test", *names], cwd=project, stdout=subprocess.PIPE, stderr=subprocess.STDOUT, text=True, timeout=120
+        ["node", "--test", *names], cwd=project, stdout=subprocess.PIPE, stderr=subprocess.STDOUT, text=True, timeout=120
     )
     passed, failed = (sum(int(it) for it in re.findall(rf"^# {name} (\d+)$", ran.stdout, re.M)) for name in ("pass", "fail"))
     return passed, failed or int(ran.returncode != 0 or not passed), ran.stdout
@@ -90,7 +84,7 @@ def compare_exports(results, module):
     with tempfile.NamedTemporaryFile(suffix=".wasm") as it:
         it.write(module)
         it.flush()
-        ran = subprocess.run([*node_words(), "-e", script, it.name], check=True, capture_output=True, text=True)
+        ran = subprocess.run(["node", "-e", script, it.name], check=True, capture_output=True, text=True)
     imports, exports = json.loads(ran.stdout)
     results.equal(imports, [], "imports of the module")
     wanted = sorted(it for it in languages.of_header() if not re.fullmatch(languages.C_ALONE, it))
@@ -109,7 +103,7 @@ def compare_example(results, project):
     wanted = re.findall(r"^console\.log\(.*\); // (.*)$", example, re.M)
     with open(f"{project}/example.js", "w", encoding="utf-8") as it:
         it.write(example)
-    ran = subprocess.run([*node_words(), "example.js"], cwd=project, capture_output=True, text=True)
+    ran = subprocess.run(["node", "example.js"], cwd=project, capture_output=True, text=True)
     results.equal(ran.stdout.splitlines(), wanted, f"the example of languages/javascript/README.md {ran.stderr[-2000:]}")
     results.count(wanted, "languages/javascript/README.md has no example that prints")
 
@@ -365,13 +359,13 @@ def look(results, page, path):
     results.count(len(papers) == 2, "the page is as bright in dark as in light")
 
 
-def use_without_memories(results, page, path):
-    """Where there are no 64-bit memories the page says so."""
-    script = "WebAssembly.Module = function () { throw new WebAssembly.CompileError('no memory64'); };"
+def use_without_module(results, page, path):
+    """Where the module does not load the page says so."""
+    script = "WebAssembly.Module = function () { throw new WebAssembly.CompileError('none'); };"
     added = page.call("Page.addScriptToEvaluateOnNewDocument", source=script)
     page.open(path)
     told = page.text("#trouble")
-    results.count("no 64-bit memories here" in told and "Firefox" in told, f"a page with no 64-bit memories says {told!r}")
+    results.count("does not load here" in told and "Firefox" in told, f"a page without its module says {told!r}")
     page.call("Page.removeScriptToEvaluateOnNewDocument", identifier=added["identifier"])
     page.events.clear()
 
@@ -381,7 +375,7 @@ def in_chromium(results, path):
         print("not run: the page, since there is no chromium")
         return
     with chromium.Chromium() as page:
-        use_without_memories(results, page, path)
+        use_without_module(results, page, path)
         page.open(path)
         results.equal(page.run("document.querySelector('#trouble').hidden"), True, "whether the page has no trouble to tell")
         results.equal(page.text("#answer"), "2024-02-29 738945 Thu 2024-W09 60", "the first answer of the page")

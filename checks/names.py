@@ -1,10 +1,11 @@
 #!/usr/bin/env python3
-"""Whether each name means one thing: no definition of `specs/` and no public type stands in two crates.
+"""Whether each thing stands once: no definition of `specs/` and no public type has its name in two crates, and no two crates have one lemma.
 
     checks/names.py
 
-A definition is what a file of `specs/` exports. A type is a public struct, enum or trait of a library. The crates of tests and measures
-are left out, since nothing lists them. The check then plants a second definition and a second type, and has to find both.
+A definition is what a file of `specs/` exports. A type is a public struct, enum or trait of a library. Two lemmas are one if their
+statements differ in the names of variables alone. The crates of tests and measures are left out, since nothing lists them. The check
+then plants a second definition, a second type and a second lemma, and has to find all three.
 """
 import collections
 import os
@@ -18,6 +19,10 @@ DEFINITION = re.compile(r"^(?:(?:abbrev|unfoldable) )?pub (?:(?:record|data|rule
 TYPE = re.compile(r"^pub (?:struct|enum|trait) (\w+)", re.M)
 # The root of a crate's definitions, which only names the other files.
 NODE = "Lib.antt"
+# A lemma of a crate's own begins at the margin and binds a variable. Those that the prover asks for stand in folders, and are left out.
+LEMMA = re.compile(r"^(?:pub )?([^\s:(){}]+) : ([({].* : .*(?:\n    .*)*)", re.M)
+BINDER = re.compile(r"[({]([^(){}:]+) : |λ \(?([^\s().:]+)")
+WORD = re.compile(r"[\w'_◌-]+|\S")
 
 
 def read_files():
@@ -44,18 +49,56 @@ def doubled(files):
     return {key: sorted(those) for key, those in sorted(crates.items()) if len(those) > 1}
 
 
+def read_lemmas():
+    """The files of a crate's own lemmas, by their paths below crates/."""
+    found = {}
+    for name in sorted(os.listdir(f"{TOP}/crates")):
+        folder = f"{TOP}/crates/{name}/proofs"
+        for it in sorted(os.listdir(folder)) if os.path.isdir(folder) and not APART.match(name) else ():
+            if it.endswith(".antt") and it != NODE:
+                with open(f"{folder}/{it}", encoding="utf-8") as text:
+                    found[f"{name}/proofs/{it}"] = text.read()
+    return found
+
+
+def statement_of(text):
+    """The words of a statement, in which a variable is its number."""
+    bound = {name for names in BINDER.findall(text) for name in " ".join(names).split()}
+    numbers = {}
+    return " ".join(f"${numbers.setdefault(it, len(numbers))}" if it in bound else it for it in WORD.findall(text))
+
+
+def same_lemmas(files):
+    """The lemmas of two crates that say the same, by their statement."""
+    places = collections.defaultdict(list)
+    for path, text in files.items():
+        for name, statement in LEMMA.findall(text):
+            # (behind a statement come its equations, at the margin)
+            places[statement_of(statement)].append((path.split("/")[0], f"{name} of {path}"))
+    return {key: [name for _, name in those] for key, those in places.items() if len({crate for crate, _ in those}) > 1}
+
+
 def main():
-    files = read_files()
+    files, lemmas = read_files(), read_lemmas()
     faults = doubled(files)
+    same = same_lemmas(lemmas)
+    for those in same.values():
+        print(f"one lemma stands as {' and as '.join(those)}")
     for (kind, name), those in faults.items():
         print(f"the {kind} {name} stands in {' and '.join(those)}")
     planted = {**files, "zone/specs/Planted.antt": "pub date_of_ymd : ℕ\n", "zone/src/planted.rt": "pub struct NaiveDate {\n"}
     missed = {("definition", "date_of_ymd"), ("type", "NaiveDate")} - set(doubled(planted))
     for kind, name in sorted(missed):
         print(f"the planted second {kind} {name} was not found")
-    failed = len(faults) + len(missed)
+    again = "pub two_times : (n : ℕ) (other : ℕ) → (2 * n) ≡ (n + n)\n"
+    two = {"zone/proofs/Planted.antt": again, "chrono_sets/proofs/Planted.antt": again.replace(" n", " k").replace("(n", "(k")}
+    if len(same_lemmas({**lemmas, **two})) != len(same) + 1:
+        missed.add(("lemma", "two_times"))
+        print("the planted second lemma was not found")
+    failed = len(faults) + len(same) + len(missed)
     names = sum(len((DEFINITION if it.endswith(".antt") else TYPE).findall(text)) for it, text in files.items())
-    print(f"{names + 2 - failed} passed, {failed} failed")
+    statements = sum(len(LEMMA.findall(text)) for text in lemmas.values())
+    print(f"{names + statements + 3 - failed} passed, {failed} failed")
     return 1 if failed else 0
 
 

@@ -55,6 +55,16 @@ export type DurationLike = Duration | DurationFields | string;
 export type DateLike = PlainDate | PlainDateTime | DateFields | CodedDateFields | string;
 export type DateTimeLike = PlainDateTime | PlainDate | ((DateFields | CodedDateFields) & TimeFields) | string;
 
+/** How a number between two multiples is rounded. */
+export type RoundingMode = "ceil" | "floor" | "expand" | "trunc" | "halfCeil" | "halfFloor" | "halfExpand" | "halfTrunc" | "halfEven";
+
+/** To which multiple of which unit is rounded. */
+export interface RoundingOptions {
+  smallestUnit?: Unit<ExactUnit>;
+  roundingIncrement?: number;
+  roundingMode?: RoundingMode;
+}
+
 type ExactUnit = "day" | "hour" | "minute" | "second" | "millisecond" | "microsecond" | "nanosecond";
 
 /** A length of time: years, months and weeks, which a calendar measures, and days of 24 hours and shorter units. */
@@ -96,7 +106,10 @@ export class Duration {
   abs(): Duration;
   add(other: DurationLike): Duration;
   subtract(other: DurationLike): Duration;
+  round(options: Unit<ExactUnit> | (RoundingOptions & DifferenceOptions<ExactUnit>)): Duration;
+  total(options: Unit<ExactUnit> | { unit: Unit<ExactUnit> }): number;
   toString(): string;
+  toLocaleString(locales?: string | string[], options?: object): string;
   toJSON(): string;
   valueOf(): never;
   readonly [Symbol.toStringTag]: "Duration";
@@ -177,6 +190,7 @@ export class PlainDate implements Named {
   equals(other: DateLike): boolean;
   toPlainDateTime(time?: TimeFields): PlainDateTime;
   toString(options?: TextOptions): string;
+  toLocaleString(locales?: string | string[], options?: Intl.DateTimeFormatOptions): string;
   toJSON(): string;
   valueOf(): never;
   readonly [Symbol.toStringTag]: "PlainDate";
@@ -233,9 +247,11 @@ export class PlainDateTime implements Named {
   subtract(duration: DurationLike, options?: OverflowOptions): PlainDateTime;
   until(other: DateTimeLike, options?: DifferenceOptions<ExactUnit>): Duration;
   since(other: DateTimeLike, options?: DifferenceOptions<ExactUnit>): Duration;
+  round(options: Unit<ExactUnit> | RoundingOptions): PlainDateTime;
   equals(other: DateTimeLike): boolean;
   toPlainDate(): PlainDate;
   toString(options?: TextOptions): string;
+  toLocaleString(locales?: string | string[], options?: Intl.DateTimeFormatOptions): string;
   toJSON(): string;
   valueOf(): never;
   readonly [Symbol.toStringTag]: "PlainDateTime";

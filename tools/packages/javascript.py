@@ -1,8 +1,8 @@
 """The package for JavaScript: the library as a module of WebAssembly, the wrapper over it, and a page that needs nothing else.
 
 The module is made of the sources of crates/calendar_c, as a crate of the kind wasm64 in a repository of its own, over
-what is proved of the libraries below: a repository has one kind of each crate. It is kept beside the static library and
-serves until a source changes.
+what is proved of the libraries below: a repository has one kind of each crate. Binaryen then gives it a memory of 32-bit
+addresses, which more hosts can load. It is kept beside the static library and serves until a source changes.
 """
 import base64
 import json
@@ -21,7 +21,7 @@ CRATE = "calendar_c"
 KEPT = f"crates/{CRATE}/out/calendar.wasm"
 # What only C has a use for, columns of dates and a date's names as a struct: modules of the crate, and the library below them.
 C_ALONE, BELOW_C_ALONE = ("columns", "split"), "chrono_columns"
-SOURCES = ("numbers", "calendar", "texts", "library", "duration", "plain_date", "plain_date_time", "index")
+SOURCES = ("numbers", "rounding", "calendar", "texts", "library", "duration", "plain_date", "plain_date_time", "index")
 PAGE = ("answers", "parts", "page")
 
 
@@ -75,6 +75,16 @@ def build_module(top, room):
     return f"{room}/crates/{CRATE}/out/{CRATE}.wasm"
 
 
+def lower(wide, module):
+    """Gives the module at a path a memory of 32-bit addresses, at another path. Its functions keep the types of their arguments."""
+    if not shutil.which("wasm-opt"):
+        raise Missing("no wasm-opt, of Debian's binaryen")
+    words = ["wasm-opt", "--enable-memory64", "--enable-bulk-memory", "--memory64-lowering", wide, "-o", module]
+    ran = subprocess.run(words, stdout=subprocess.PIPE, stderr=subprocess.STDOUT, text=True)
+    if ran.returncode:
+        raise RuntimeError(f"wasm-opt of the module:\n{ran.stdout[-4000:]}")
+
+
 def module(top):
     """The bytes of the module: the one that is kept, if it is newer than what it is made of, or else one that is built now."""
     sys.path[:0] = [f"{top}/tools", f"{top}/checks"]
@@ -89,7 +99,8 @@ def module(top):
         with tempfile.TemporaryDirectory(prefix="module-") as room:
             built = build_module(top, room)
             os.makedirs(os.path.dirname(f"{top}/{KEPT}"), exist_ok=True)
-            shutil.copy(built, f"{top}/{KEPT}")
+            lower(built, f"{room}/lowered.wasm")
+            shutil.copy(f"{room}/lowered.wasm", f"{top}/{KEPT}")
     with open(f"{top}/{KEPT}", "rb") as it:
         return it.read()
 

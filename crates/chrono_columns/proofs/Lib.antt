@@ -1,4 +1,6 @@
--- All serve this crate's own proofs alone.
+-- Lemmas that other crates cite stand in this module.
+pub mod TenBytes
+-- The rest serve this crate's own proofs alone.
 mod Blocks
 mod Entries
 mod InPlace

@@ -1,7 +1,5 @@
 -- Texts of ten bytes, and the pairs of digits of which they are made.
-use Rattle.std.proofs.Common.{◌≡◌, ◌≢◌, ◌∙◌, ℕ, suc, ◌+◌, ◌*◌, ◌/◌, ◌%◌, ◌^◌, ◌<◌, ℤ, pos, negsuc, unsigned_abs, List, [], ◌∷◌, ◌++◌, length, drop, get_or, Option, Some, None, ap, sym, refl, arith}
-use Rattle.std.proofs.Math.Seq.{drop-cons}
-use Rattle.std.proofs.lemmas.List.{drop_all}
+use Rattle.std.proofs.Common.{◌≡◌, ◌≢◌, ◌∙◌, ℕ, suc, ◌+◌, ◌*◌, ◌/◌, ◌%◌, ◌^◌, ◌<◌, ℤ, pos, negsuc, unsigned_abs, List, [], ◌∷◌, ◌++◌, length, get_or, Option, Some, None, ap, sym, refl, arith}
 use Rattle.chrono_calendar.specs.Days.{date_of_ymd}
 use Rattle.chrono_calendar.proofs.GivenNames.{given_ymd}
 use Rattle.chrono_calendar.proofs.Months.{month_length_in-bounds}
@@ -10,6 +8,7 @@ use Rattle.chrono_text.specs.Text.{calendar_text, two_digits, year_text}
 use Rattle.chrono_text.proofs.DigitLemmas.{by_size}
 use Rattle.chrono_text.proofs.TextLemmas.{calendar_text_injective, length-calendar_text, year_digits-least, year_text-four, year_text-more}
 use Rattle.chrono_reading.specs.DateTexts.{IsDateText}
+use Rattle.chrono_columns.proofs.TenBytes.{ten_bytes}
 use Rattle.chrono_columns.specs.Columns.{IsTextEntry, date_entry, number_entry}
 use Rattle.chrono_calendar.proofs.Years.{IsYear-small}
 
@@ -55,16 +54,6 @@ text_is v w m d h i =
     ∙ four_same (48 + k / 1000) (48 + k % 1000 / 100) (48 + k % 1000 % 100 / 10) (48 + k % 1000 % 100 % 10 / 1) (48 + v / 10) (48 + v % 10) (48 + w / 10) (48 + w % 10) (45 ∷ two_digits m ++ 45 ∷ two_digits d)
     (omega (arith, h, i)) (omega (arith, h, i)) (omega (arith, h, i)) (omega (arith, h, i))
 
--- a text is its ten bytes
-next : (t : List ℕ) (k : ℕ) (rest : List ℕ) → k < length t → drop (suc k) t ≡ rest → drop k t ≡ get_or t k 0 ∷ rest
-next t k rest h e = drop-cons t k 0 h ∙ ap (λ (r : List ℕ). get_or t k 0 ∷ r) e
-
-ten : (t : List ℕ) → length t ≡ 10 → t ≡ get_or t 0 0 ∷ get_or t 1 0 ∷ get_or t 2 0 ∷ get_or t 3 0 ∷ get_or t 4 0 ∷ get_or t 5 0 ∷ get_or t 6 0 ∷ get_or t 7 0 ∷ get_or t 8 0 ∷ get_or t 9 0 ∷ []
-ten t l =
-    let end : drop 10 t ≡ [] = drop_all 10 t (omega (arith, l)) in
-    next t 0 _ (omega (arith, l)) (next t 1 _ (omega (arith, l)) (next t 2 _ (omega (arith, l)) (next t 3 _ (omega (arith, l)) (next t 4 _ (omega (arith, l))
-    (next t 5 _ (omega (arith, l)) (next t 6 _ (omega (arith, l)) (next t 7 _ (omega (arith, l)) (next t 8 _ (omega (arith, l)) (next t 9 _ (omega (arith, l)) end)))))))))
-
 -- the four pairs of digits that a text of ten bytes is made of, with `-` between
 pub record IsPairs (t : List ℕ) (v w m d : ℕ) : Type 0 where
   pub small : (v < 100) × (w < 100) × (m < 100) × (d < 100)
@@ -82,7 +71,7 @@ written_by_pairs : (t : List ℕ) (v w m d : ℕ) → length t ≡ 10 → IsPair
 written_by_pairs t v w m d l p =
     text_is v w m d p.small.0 p.small.1
     ∙ joined (two_digits v) (two_digits w) (two_digits m) (two_digits d) _ _ _ _ 45 45 (get_or t 4 0) (get_or t 7 0) p.hundreds p.years p.month p.day p.first p.second
-    ∙ sym (ten t l)
+    ∙ sym (ten_bytes t l)
 
 -- ---- what is read
 

@@ -26,12 +26,12 @@ first_wrong-others (a ∷ b ∷ c ∷ d ∷ e ∷ f ∷ more) others = refl
 
 pub wrong-others : (text : List ℕ) → AreNotFive (placed_words 0 text) → wrong_field text ≡ None
 unfolding wrong_field
-wrong-others text others = ap first_wrong (words_of text (placed_words 0 text) refl) ∙ first_wrong-others (placed_words 0 text) others
+wrong-others text others = ap first_wrong (words_of 0 text (placed_words 0 text) refl) ∙ first_wrong-others (placed_words 0 text) others
 
 pub wrong-five : (text : List ℕ) (a b c d e : ℕ × List ℕ) (field : ScheduleField) → placed_words 0 text ≡ a ∷ b ∷ c ∷ d ∷ e ∷ []
     → first_wrong (a.1 ∷ b.1 ∷ c.1 ∷ d.1 ∷ e.1 ∷ []) ≡ Some field → wrong_field text ≡ Some field
 unfolding wrong_field
-wrong-five text a b c d e field all wrong = ap first_wrong (words_of text (a ∷ b ∷ c ∷ d ∷ e ∷ []) all) ∙ wrong
+wrong-five text a b c d e field all wrong = ap first_wrong (words_of 0 text (a ∷ b ∷ c ∷ d ∷ e ∷ []) all) ∙ wrong
 
 -- of five fields the first that cannot be read
 unread : (listed : Option Bool) (field : ScheduleField) (later : Option ScheduleField) → listed ≡ None → unless_read listed field later ≡ Some field

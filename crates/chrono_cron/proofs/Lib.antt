@@ -1,3 +1,6 @@
+-- Lemmas that other crates cite stand in this module.
+pub mod TextWords
+-- The rest serve this crate's own proofs alone.
 mod DayCycles
 mod DueLists
 mod EachMinute
@@ -17,7 +20,6 @@ mod WeekdaysReadBack
 mod SameDues
 mod ReadIsWritable
 mod ReadFields
-mod TextWords
 mod DayItems
 mod WrittenFields
 mod WrittenAscii

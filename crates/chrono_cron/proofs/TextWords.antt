@@ -14,7 +14,7 @@ use Rattle.chrono_cron.specs.declared.field_sets.FieldSets.{FieldSets}
 abbrev some_piece : ℕ × List ℕ → Bool
 some_piece word = is_some_text word.1
 
-abbrev piece_of : ℕ × List ℕ → List ℕ
+abbrev pub piece_of : ℕ × List ℕ → List ℕ
 piece_of word = word.1
 
 is_some_length : (text : List ℕ) → 0 < length text → is_some_text text ≡ true
@@ -56,7 +56,7 @@ word_alone at len text e some end within =
     ap (λ pieces. filter some_piece (placed at pieces)) (slice_split_none is_blank text lacks)
     ∙ ap (λ t. cond t ((at, text) ∷ []) []) (is_some_length text (omega (arith, some, within)))
 
-word_here : (at len : ℕ) (text : List ℕ) → position_or_len is_blank text ≡ len → 0 < len → len ≤ length text
+pub word_here : (at len : ℕ) (text : List ℕ) → position_or_len is_blank text ≡ len → 0 < len → len ≤ length text
     → placed_words at text ≡ (at, take len text) ∷ placed_words (at + len) (drop len text)
 word_here at len text e some within =
     elim (cases_lt len (length text)) [
@@ -102,18 +102,18 @@ without_places at [] = refl
 without_places at (piece ∷ pieces) =
     kept (is_some_text piece) at piece (filter some_piece (placed (at + length piece + 1) pieces)) (filter is_some_text pieces) (without_places (at + length piece + 1) pieces)
 
-pub words_of : (text : List ℕ) (placed : List (ℕ × List ℕ)) → placed_words 0 text ≡ placed → text_words text ≡ map piece_of placed
+pub words_of : (at : ℕ) (text : List ℕ) (placed : List (ℕ × List ℕ)) → placed_words at text ≡ placed → text_words text ≡ map piece_of placed
 unfolding placed_words text_words
-words_of text placed e = sym (without_places 0 (slice_split is_blank text)) ∙ ap (map piece_of) e
+words_of at text placed e = sym (without_places at (slice_split is_blank text)) ∙ ap (map piece_of) e
 
 -- the fields of a text with no word, with one, and with five
 pub fields_none : (text : List ℕ) (s : FieldSets) → placed_words 0 text ≡ [] → IsScheduleText text s → ⊥
 unfolding fields_of
-fields_none text s e is = absurd (omega (arith, ap length (sym is.written ∙ ap spelled_out (words_of text [] e))))
+fields_none text s e is = absurd (omega (arith, ap length (sym is.written ∙ ap spelled_out (words_of 0 text [] e))))
 
 fields_one : (text : List ℕ) (word : ℕ × List ℕ) → placed_words 0 text ≡ word ∷ [] → fields_of text ≡ text_words (nickname_meaning word.1)
 unfolding fields_of
-fields_one text word e = ap spelled_out (words_of text (word ∷ []) e)
+fields_one text word e = ap spelled_out (words_of 0 text (word ∷ []) e)
 
 pub nickname_fields : (text meaning : List ℕ) (word : ℕ × List ℕ) (end : ℕ) → placed_words 0 text ≡ word ∷ placed_words (word.0 + length word.1) (drop (word.0 + length word.1) text)
     → end ≡ word.0 + length word.1 → placed_words end (drop end text) ≡ [] → meaning ≡ nickname_meaning word.1 → fields_of text ≡ text_words meaning
@@ -123,7 +123,7 @@ nickname_fields text meaning word end e is none meant =
 
 pub fields_five : (text : List ℕ) (a b c d e : ℕ × List ℕ) → placed_words 0 text ≡ a ∷ b ∷ c ∷ d ∷ e ∷ [] → fields_of text ≡ a.1 ∷ b.1 ∷ c.1 ∷ d.1 ∷ e.1 ∷ []
 unfolding fields_of
-fields_five text a b c d e all = ap spelled_out (words_of text (a ∷ b ∷ c ∷ d ∷ e ∷ []) all)
+fields_five text a b c d e all = ap spelled_out (words_of 0 text (a ∷ b ∷ c ∷ d ∷ e ∷ []) all)
 
 -- words that are not five
 abbrev pub AreNotFive : List (ℕ × List ℕ) → Type 0
@@ -143,10 +143,10 @@ pub fields_more : (text : List ℕ) (s : FieldSets) (word next : ℕ × List ℕ
     → AreNotFive (placed_words 0 text) → IsScheduleText text s → ⊥
 unfolding fields_of
 fields_more text s word next more e others is =
-    let five = ap length (sym is.written ∙ ap spelled_out (words_of text (word ∷ next ∷ more) e)) in
+    let five = ap length (sym is.written ∙ ap spelled_out (words_of 0 text (word ∷ next ∷ more) e)) in
     not_five (placed_words 0 text) others (ap length e ∙ omega (arith, five, length-map more piece_of))
 
 pub fields_unmeant : (text meaning : List ℕ) (s : FieldSets) → fields_of text ≡ text_words meaning → AreNotFive (placed_words 0 meaning) → IsScheduleText text s → ⊥
 fields_unmeant text meaning s e others is =
-    let five = ap length (sym is.written ∙ e ∙ words_of meaning (placed_words 0 meaning) refl) in
+    let five = ap length (sym is.written ∙ e ∙ words_of 0 meaning (placed_words 0 meaning) refl) in
     not_five (placed_words 0 meaning) others (omega (arith, five, length-map (placed_words 0 meaning) piece_of))

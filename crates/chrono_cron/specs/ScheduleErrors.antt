@@ -208,6 +208,10 @@ error_of end words (Some field) = schedule_error_at (Some field) (field_fault fi
 unfoldable pub schedule_error : List ℕ → ScheduleError
 schedule_error text = error_of (length text) (placed_words 0 text) (wrong_field text)
 
+-- the error of a text that stands so many bytes behind the beginning of the whole
+abbrev pub error_behind : ℕ → ScheduleError → ScheduleError
+error_behind n e = record { field = e.field; byte = n + e.byte; fault = e.fault }
+
 -- what a reading with errors answers
 pub record IsScheduleRead (text : List ℕ) (result : Result Schedule ScheduleError) : Type 0 where
   pub read : IfOk result (λ s. IsScheduleText text s.sets)

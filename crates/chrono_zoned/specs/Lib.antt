@@ -4,4 +4,5 @@ pub mod Zones
 pub mod Zoned
 pub mod ZonedText
 pub mod MomentOrder
+pub mod HeldSeconds
 pub mod KnownZones

@@ -69,11 +69,29 @@ impl<Z: TimeZone> DateTime<Z> {
         Some(DateTime { utc, offset, zone })
     }
 
-    // The date-time of a zone where its clock shows `local`, ahead by `offset`.
+    /// Returns the date-time in `zone` whose clock shows `local` there, ahead of UTC by `offset`.
+    ///
+    /// A caller that has the offset from a [`Stretch`](crate::Stretch) need not ask the zone for it again. Returns `None` if UTC has no
+    /// date for the instant.
+    ///
+    /// Requires that the zone has this offset at that instant.
+    ///
+    /// ```
+    /// use chrono_datetime::{AndTime, NaiveDate, NaiveDateTime};
+    /// let india = FixedOffset::east_opt(19_800)?;
+    /// let local = NaiveDate::from_ymd_opt(2024, 2, 29)?.and_hms_opt(9, 30, 0)?;
+    /// DateTime::from_local_and_offset(local, india.stretch_from(0).offset, india) // Some(2024-02-29T09:30:00+05:30)
+    /// DateTime::from_local_and_offset(NaiveDateTime::MIN, india, india) // None
+    /// ```
     #[inline]
-    fn at_offset(local: NaiveDateTime, offset: FixedOffset, zone: Z) -> Option<DateTime<Z>>
+    pub fn from_local_and_offset(
+        local: NaiveDateTime,
+        offset: FixedOffset,
+        zone: Z,
+    ) -> Option<DateTime<Z>>
         requires { Shows (Z.ahead zone) (epoch_second local) (epoch_second local -ℤ offset) }
         ensures second { IfSome result (λ d. epoch_second d.utc ≡ epoch_second local -ℤ offset) }
+        ensures fraction { IfSome result (λ d. d.utc.time.fraction ≡ local.time.fraction) }
         ensures local { IfSome result (IsLocal Z.ahead zone local) }
         ensures exists { IsSome result ↔ IsEpochSecond (epoch_second local -ℤ offset) }
     {
@@ -88,13 +106,15 @@ impl<Z: TimeZone> DateTime<Z> {
     {
         match zone.offset_from_local_datetime(&local) {
             MappedLocalTime::None => MappedLocalTime::None,
-            MappedLocalTime::Single(offset) => match DateTime::at_offset(local, offset, zone) {
+            MappedLocalTime::Single(offset) => match DateTime::from_local_and_offset(
+                local, offset, zone,
+            ) {
                 Some(only) => MappedLocalTime::Single(only),
                 None => MappedLocalTime::None,
             },
             MappedLocalTime::Ambiguous(first, second) => {
-                let earlier = DateTime::at_offset(local, first, zone);
-                let later = DateTime::at_offset(local, second, zone);
+                let earlier = DateTime::from_local_and_offset(local, first, zone);
+                let later = DateTime::from_local_and_offset(local, second, zone);
                 match (earlier, later) {
                     (Some(earlier), Some(later)) => MappedLocalTime::Ambiguous(earlier, later),
                     (Some(only), None) | (None, Some(only)) => MappedLocalTime::Single(only),

@@ -1,8 +1,8 @@
 -- The parts of a date's text of ten bytes in each order, and how the text of one order leads to that of another.
-use Rattle.std.proofs.Common.{◌≡◌, ◌≢◌, ◌∙◌, ◌↔◌, ℕ, suc, ◌+◌, ◌<◌, ℤ, List, [], ◌∷◌, ◌++◌, length, length-append, drop, get_or, codes, ap, sym, refl, arith}
-use Rattle.std.proofs.Math.Seq.{drop-cons}
+use Rattle.std.proofs.Common.{◌≡◌, ◌≢◌, ◌∙◌, ◌↔◌, ℕ, ◌+◌, ℤ, List, [], ◌∷◌, ◌++◌, length, length-append, drop, get_or, codes, ap, sym, refl, arith}
 use Rattle.std.proofs.lemmas.List.{drop_all}
 use Rattle.chrono_text.specs.Text.{calendar_text, two_digits, year_text}
+use Rattle.chrono_columns.proofs.TenBytes.{next_byte, ten_bytes}
 use Rattle.pattern_columns.specs.Layouts.{NamesSame, layout_text, ordered_text}
 use Rattle.pattern_columns.specs.declared.layout.DateLayout.{DateLayout}
 use Rattle.pattern_columns.specs.declared.layout.DateOrder.{DateOrder}
@@ -45,15 +45,6 @@ pub record HasParts (o : DateOrder) (s : ℕ) (y m d t : List ℕ) : Type 0 wher
   pub second : get_or t (second_place o) 0 ≡ s
 
 -- ---- a text and its parts
-
-pub next_byte : (t : List ℕ) (k : ℕ) (rest : List ℕ) → k < length t → drop (suc k) t ≡ rest → drop k t ≡ get_or t k 0 ∷ rest
-next_byte t k rest h e = drop-cons t k 0 h ∙ ap (λ (r : List ℕ). get_or t k 0 ∷ r) e
-
-ten_bytes : (t : List ℕ) → length t ≡ 10 → t ≡ get_or t 0 0 ∷ get_or t 1 0 ∷ get_or t 2 0 ∷ get_or t 3 0 ∷ get_or t 4 0 ∷ get_or t 5 0 ∷ get_or t 6 0 ∷ get_or t 7 0 ∷ get_or t 8 0 ∷ get_or t 9 0 ∷ []
-ten_bytes t l =
-    let end : drop 10 t ≡ [] = drop_all 10 t (omega (arith, l)) in
-    next_byte t 0 _ (omega (arith, l)) (next_byte t 1 _ (omega (arith, l)) (next_byte t 2 _ (omega (arith, l)) (next_byte t 3 _ (omega (arith, l)) (next_byte t 4 _ (omega (arith, l))
-    (next_byte t 5 _ (omega (arith, l)) (next_byte t 6 _ (omega (arith, l)) (next_byte t 7 _ (omega (arith, l)) (next_byte t 8 _ (omega (arith, l)) (next_byte t 9 _ (omega (arith, l)) end)))))))))
 
 pub four_bytes : (t : List ℕ) → length t ≡ 4 → t ≡ get_or t 0 0 ∷ get_or t 1 0 ∷ get_or t 2 0 ∷ get_or t 3 0 ∷ []
 four_bytes t l =

@@ -1,15 +1,13 @@
 -- A text of six words, of which the first has the seconds.
-use Rattle.std.proofs.Common.{◌≡◌, ◌≢◌, ℕ, ◌+◌, ◌≤◌, Bool, true, false, cond, List, [], ◌∷◌, length, get_or, take, drop, refl, ap, sym, ◌∙◌, arith, Option, Some, None, Result, Ok, Err, IfOk, IfErr, IsErr, ◌↔◌}
+use Rattle.std.proofs.Common.{◌≡◌, ◌≢◌, ℕ, ◌≤◌, Bool, true, false, List, [], ◌∷◌, length, get_or, take, drop, refl, ap, sym, ◌∙◌, arith, Option, Some, None, Result, Ok, Err, IfOk, IfErr, IsErr, ◌↔◌}
 use Rattle.std.proofs.lemmas.Bool.{false≢true}
 use Rattle.std.specs.Prelude.{map}
-use Rattle.std.specs.List.{filter, slice_split}
 use Rattle.std.proofs.lemmas.List.{length-map}
-use Rattle.chrono_text.specs.Lists.{is_blank, is_some_text}
 use Rattle.chrono_text.proofs.AnswerLemmas.{no_one, the_one}
 use Rattle.chrono_sets.specs.FiniteSets.{FiniteSet, has}
 use Rattle.chrono_sets.proofs.Members.{same_set}
 use Rattle.chrono_cron.specs.FieldTexts.{field_lists}
-use Rattle.chrono_cron.specs.PlacedWords.{first_word, placed, placed_words}
+use Rattle.chrono_cron.specs.PlacedWords.{first_word, placed_words}
 use Rattle.chrono_cron.specs.ScheduleErrors.{error_of, field_fault, first_wrong, front_fault, front_or, schedule_error, schedule_error_at, told_or, unless_read, wrong_field}
 use Rattle.chrono_cron.specs.ScheduleTexts.{AreListed, IsScheduleText, days_list, fields_of, spelled_out, text_words, weekdays_list}
 use Rattle.chrono_cron.specs.declared.field_sets.FieldSets.{FieldSets}
@@ -17,28 +15,13 @@ use Rattle.chrono_cron.specs.declared.text.number_names.Names.TheVariants.{Month
 use Rattle.chrono_cron.specs.declared.text.schedule_error.ScheduleFault.{ScheduleFault}
 use Rattle.chrono_cron.specs.declared.text.schedule_error.ScheduleField.{ScheduleField}
 use Rattle.chrono_cron.specs.declared.text.schedule_error.ScheduleField.TheVariants.{Minute, Hour, Day, Month, Weekday}
+use Rattle.chrono_cron.proofs.TextWords.{piece_of, words_of}
 use Rattle.timed_cron.specs.Private.{HasFourWords, IsUnreadFirst, IsWordAt, bytes_of}
 use Rattle.timed_cron.specs.TimedErrors.{error_with_seconds, four_fault}
 use Rattle.timed_cron.specs.TimedTexts.{IsAtSecondZero, IsNicknameText, IsSixFieldText}
 use Rattle.timed_cron.specs.declared.timed_error.TimedError.TheVariants.{Fields as InFields}
 use Rattle.timed_cron.specs.declared.timed_schedule.TimedSchedule.{TimedSchedule}
-use Rattle.timed_cron.proofs.TextWords.{cut_at, in_front, piece_of, word_at}
-
--- ---- words without their places
-
-kept : (t : Bool) (at : ℕ) (piece : List ℕ) (words : List (ℕ × List ℕ)) (pieces : List (List ℕ)) → map piece_of words ≡ pieces
-    → map piece_of (cond t ((at, piece) ∷ words) words) ≡ cond t (piece ∷ pieces) pieces
-kept true at piece words pieces e = ap (λ rest. piece ∷ rest) e
-kept false at piece words pieces e = e
-
-without_places : (at : ℕ) (pieces : List (List ℕ)) → map piece_of (filter (λ word. is_some_text word.1) (placed at pieces)) ≡ filter is_some_text pieces
-without_places at [] = refl
-without_places at (piece ∷ pieces) =
-    kept (is_some_text piece) at piece (filter (λ word. is_some_text word.1) (placed (at + length piece + 1) pieces)) (filter is_some_text pieces) (without_places (at + length piece + 1) pieces)
-
-pub words_of : (at : ℕ) (text : List ℕ) (words : List (ℕ × List ℕ)) → placed_words at text ≡ words → text_words text ≡ map piece_of words
-unfolding placed_words text_words
-words_of at text words e = sym (without_places at (slice_split is_blank text)) ∙ ap (map piece_of) e
+use Rattle.timed_cron.proofs.TextWords.{cut_at, in_front, word_at}
 
 -- a text with the same words is one of the same schedule
 respelled : (f g : List ℕ) (s : FieldSets) → text_words f ≡ text_words g → IsScheduleText f s → IsScheduleText g s

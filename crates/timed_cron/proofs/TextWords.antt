@@ -1,36 +1,14 @@
 -- The words of a text, by the places at which they begin and end.
-use Rattle.std.proofs.Common.{◌≡◌, ℕ, zero, suc, ◌+◌, ◌-◌, ◌<◌, ◌≤◌, Bool, true, false, cond, List, [], ◌∷◌, length, get_or, take, drop, refl, ap, sym, ◌∙◌, arith, length-take, inl, inr}
-use Rattle.std.specs.List.{All, filter, slice_split, position_or_len}
-use Rattle.std.proofs.lemmas.Bool.{cases_lt}
-use Rattle.std.proofs.lemmas.List.{at_drop_more, drop-drop, drop-take, drop_all, drop_more, get_or-drop, get_or-take, length-drop, take_all, take-take}
-use Rattle.std.proofs.lemmas.List.Sums.{fails_before_first, passes_at_first, position_or_len_is}
-use Rattle.std.proofs.lemmas.List.Splits.{slice_split-cons_yes, slice_split_none, slice_split_first}
-use Rattle.chrono_text.specs.Lists.{is_blank, is_some_text}
-use Rattle.chrono_cron.specs.PlacedWords.{placed, placed_words}
+use Rattle.std.proofs.Common.{◌≡◌, ℕ, zero, suc, ◌+◌, ◌-◌, ◌≤◌, List, [], ◌∷◌, length, get_or, take, drop, ap, sym, ◌∙◌, arith, length-take}
+use Rattle.std.specs.List.{position_or_len}
+use Rattle.std.proofs.lemmas.List.{drop-drop, drop-take, drop_all, get_or-drop, get_or-take, length-drop, take-take}
+use Rattle.std.proofs.lemmas.List.Sums.{position_or_len_is}
+use Rattle.chrono_text.specs.Lists.{is_blank}
+use Rattle.chrono_cron.specs.PlacedWords.{placed_words}
+use Rattle.chrono_cron.proofs.TextWords.{blank_at, nothing_left, word_here}
 use Rattle.timed_cron.specs.Private.{AreBlank, HasFourWords, IsWordAt, bytes_of}
 
-abbrev some_piece : ℕ × List ℕ → Bool
-some_piece word = is_some_text word.1
-
-abbrev pub piece_of : ℕ × List ℕ → List ℕ
-piece_of word = word.1
-
-is_some_length : (text : List ℕ) → 0 < length text → is_some_text text ≡ true
-is_some_length [] less = absurd (omega (arith, less))
-is_some_length (x ∷ rest) less = refl
-
 -- ---- blanks in front
-
-blank_first : (at x : ℕ) (rest : List ℕ) → is_blank x ≡ true → placed_words at (x ∷ rest) ≡ placed_words (at + 1) rest
-unfolding placed_words
-blank_first at x rest e =
-    ap (λ pieces. filter some_piece (placed at pieces)) (slice_split-cons_yes is_blank x rest e)
-    ∙ ap (λ p. filter some_piece (placed p (slice_split is_blank rest))) (omega arith)
-
-blank_at : (place : ℕ) (text : List ℕ) → place < length text → is_blank (get_or text place 0) ≡ true
-    → placed_words place (drop place text) ≡ placed_words (place + 1) (drop (place + 1) text)
-blank_at place text less e =
-    at_drop_more (placed_words place) text place 0 less ∙ blank_first place (get_or text place 0) (drop (place + 1) text) e
 
 blanks_before : (n from place : ℕ) (text : List ℕ) → from + n ≡ place → place ≤ length text → AreBlank text from place
     → placed_words from (drop from text) ≡ placed_words place (drop place text)
@@ -39,49 +17,13 @@ blanks_before (suc n) from place text e within blanks =
     blank_at from text (omega (arith, e, within)) (blanks from (omega arith) (omega (arith, e)))
     ∙ blanks_before n (from + 1) place text (omega (arith, e)) within (λ k low high. blanks k (omega (arith, low)) high)
 
-nothing_left : (at : ℕ) → placed_words at [] ≡ []
-unfolding placed_words
-nothing_left at = refl
-
 -- no word, where blanks are all that is left
 pub none_at : (text : List ℕ) (from : ℕ) → from ≤ length text → AreBlank text from (length text) → placed_words from (drop from text) ≡ []
 none_at text from within blanks =
     blanks_before (length text - from) from (length text) text (omega (arith, within)) (omega arith) blanks
     ∙ ap (placed_words (length text)) (drop_all (length text) text (omega arith)) ∙ nothing_left (length text)
 
--- ---- the word in front
-
-word_in_front : (at len : ℕ) (text : List ℕ) → position_or_len is_blank text ≡ len → 0 < len → len < length text
-    → placed_words at text ≡ (at, take len text) ∷ placed_words (at + len + 1) (drop (len + 1) text)
-unfolding placed_words
-word_in_front at len text e some less =
-    let rest = λ (n : ℕ). filter some_piece (placed (at + n + 1) (slice_split is_blank (drop (len + 1) text))) in
-    ap (λ pieces. filter some_piece (placed at pieces)) (slice_split_first is_blank text 0 (omega (arith, e, less)))
-    ∙ ap (λ p. filter some_piece (placed at (take p text ∷ slice_split is_blank (drop (p + 1) text)))) e
-    ∙ ap (λ t. cond t ((at, take len text) ∷ rest (length (take len text))) (rest (length (take len text)))) (is_some_length (take len text) (omega (arith, length-take len text)))
-    ∙ ap (λ n. (at, take len text) ∷ rest n) (omega (arith, length-take len text))
-
-word_alone : (at len : ℕ) (text : List ℕ) → position_or_len is_blank text ≡ len → 0 < len → length text ≤ len → len ≤ length text
-    → placed_words at text ≡ (at, text) ∷ []
-unfolding placed_words
-word_alone at len text e some end within =
-    let lacks : All (λ x. is_blank x ≡ false) text = λ k x m. fails_before_first is_blank text k x (omega (arith, e, end, m)) in
-    ap (λ pieces. filter some_piece (placed at pieces)) (slice_split_none is_blank text lacks)
-    ∙ ap (λ t. cond t ((at, text) ∷ []) []) (is_some_length text (omega (arith, some, within)))
-
-word_here : (at len : ℕ) (text : List ℕ) → position_or_len is_blank text ≡ len → 0 < len → len ≤ length text
-    → placed_words at text ≡ (at, take len text) ∷ placed_words (at + len) (drop len text)
-word_here at len text e some within =
-    elim (cases_lt len (length text)) [
-      | inl less ↦
-          let blank = ap (λ n. is_blank (get_or text n 0)) (sym e) ∙ passes_at_first is_blank text 0 (omega (arith, e, less)) in
-          word_in_front at len text e some less
-          ∙ ap (λ words. (at, take len text) ∷ words) (sym (ap (placed_words (at + len)) (drop_more text len 0 less) ∙ blank_first (at + len) (get_or text len 0) (drop (len + 1) text) blank))
-      | inr end ↦
-          word_alone at len text e some end within
-          ∙ ap (λ t. (at, t) ∷ []) (sym (take_all len text end))
-          ∙ ap (λ words. (at, take len text) ∷ words) (sym (ap (placed_words (at + len)) (drop_all len text end) ∙ nothing_left (at + len)))
-    ]
+-- ---- a word by its two ends
 
 word_length : (text : List ℕ) (from place end : ℕ) → IsWordAt text from place end → position_or_len is_blank (drop place text) ≡ end - place
 word_length text from place end is =

@@ -3,12 +3,11 @@ use Rattle.std.specs.Prelude.{◌≡◌, ℕ, ◌+◌, Bool, List, [], ◌∷◌
 use Rattle.chrono_cron.specs.ErrorTexts.{schedule_error_text}
 use Rattle.chrono_cron.specs.FieldTexts.{field_lists, item_lists, item_span, number_between, number_of_name, range_of, spelled_number, step_of}
 use Rattle.chrono_cron.specs.PlacedWords.{placed_items, placed_words}
-use Rattle.chrono_cron.specs.ScheduleErrors.{day_name_fault, fault_in, field_fault, field_item_fault, field_number_fault, front_fault, front_or, is_item, schedule_error, schedule_error_at, span_fault, weekday_name_fault, wrong_field}
+use Rattle.chrono_cron.specs.ScheduleErrors.{day_name_fault, error_behind, fault_in, field_fault, field_item_fault, field_number_fault, front_fault, front_or, is_item, schedule_error, schedule_error_at, span_fault, weekday_name_fault, wrong_field}
 use Rattle.chrono_cron.specs.ScheduleTexts.{days_list, from_end_of, is_last_workday_text, last_weekday_of, names_by_place, names_by_weekday, nearest_workday_of, nth_weekday_of, text_words, weekdays_list}
 use Rattle.chrono_datetime.specs.Names.{month_of_letters, weekday_of_letters}
 use Rattle.chrono_text.specs.Numbers.{digits_of, natural_of}
 use Rattle.chrono_cron.specs.declared.text.number_names.Names.TheVariants.{Numbers}
-use Rattle.chrono_cron.specs.declared.text.schedule_error.ScheduleError.{ScheduleError}
 use Rattle.chrono_cron.specs.declared.text.schedule_error.ScheduleFault.{ScheduleFault}
 use Rattle.chrono_cron.specs.declared.text.schedule_error.ScheduleFault.TheVariants.{Interval, OutOfRange, TimeZone, TooFewFields, TooManyFields, UnknownNickname}
 use Rattle.chrono_cron.specs.declared.text.schedule_error.ScheduleField.TheVariants.{Minute}
@@ -16,10 +15,6 @@ use Rattle.timed_cron.specs.declared.dialect.Dialect.{Dialect}
 use Rattle.timed_cron.specs.declared.dialect.Dialect.TheVariants.{Crontab, Seconds}
 use Rattle.timed_cron.specs.declared.timed_error.TimedError.{TimedError}
 use Rattle.timed_cron.specs.declared.timed_error.TimedError.TheVariants.{Seconds as InSeconds, Fields as InFields}
-
--- an error in a text that begins so many bytes behind the beginning of the whole
-abbrev pub moved_error : ℕ → ScheduleError → ScheduleError
-moved_error by e = record { field = e.field; byte = by + e.byte; fault = e.fault }
 
 -- the byte of an error
 abbrev pub error_byte : TimedError → ℕ
@@ -38,7 +33,7 @@ four_fault end others = (end, TooFewFields)
 -- the error of six fields: if the first is no field of minutes, what is wrong with it as such, and else the error of the text behind it
 abbrev pub unless_seconds : Option Bool → List ℕ → ℕ × List ℕ → TimedError
 unless_seconds None text word = InSeconds (schedule_error_at None (field_fault Minute word))
-unless_seconds (Some listed) text word = InFields (moved_error (placed_word_end word) (schedule_error (drop (placed_word_end word) text)))
+unless_seconds (Some listed) text word = InFields (error_behind (placed_word_end word) (schedule_error (drop (placed_word_end word) text)))
 
 -- the error of words in which seconds stand in front. With fewer words than two it is that of crontab(5)'s fields
 abbrev pub error_with_seconds : List ℕ → List (ℕ × List ℕ) → TimedError

@@ -2,11 +2,11 @@
 ghost use Rattle.std.specs.Prelude.{◌≡◌, ◌↔◌, ◌+◌, ◌<◌, ◌≤◌, ◌^◌, length, drop, Ok, IfOk, IfErr, IsErr, None};
 ghost use Rattle.chrono_cron.specs.FieldTexts.{field_lists};
 ghost use Rattle.chrono_cron.specs.PlacedWords.{first_word, placed_words};
-ghost use Rattle.chrono_cron.specs.ScheduleErrors.{field_fault, front_fault, schedule_error, schedule_error_at, told_or};
+ghost use Rattle.chrono_cron.specs.ScheduleErrors.{error_behind, field_fault, front_fault, schedule_error, schedule_error_at, told_or};
 ghost use Rattle.chrono_cron.specs.declared.text.number_names.Names.TheVariants.{Numbers};
 ghost use Rattle.chrono_cron.specs.declared.text.schedule_error.ScheduleField.TheVariants.{Minute};
 ghost use Rattle.timed_cron.specs.Private.{HasFourWords, IsUnreadFirst, IsWordAt, bytes_of};
-ghost use Rattle.timed_cron.specs.TimedErrors.{error_byte, moved_error, timed_error, unless_seconds};
+ghost use Rattle.timed_cron.specs.TimedErrors.{error_byte, timed_error, unless_seconds};
 ghost use Rattle.timed_cron.specs.TimedTexts.{IsAtSecondZero, IsSixFieldText, IsTimedText};
 ghost use Rattle.timed_cron.specs.declared.dialect.Dialect.TheVariants.{Seconds};
 ghost use Rattle.timed_cron.specs.declared.timed_error.TimedError.TheVariants.{Fields as InFields};
@@ -113,7 +113,7 @@ fn read_six_fields(
     };
     match read_schedule(text_from(text, second.end)) {
         Ok(schedule) => Ok(TimedSchedule::new(schedule, seconds)),
-        Err(error) => Err(TimedError::Fields(moved_error(error, second.end))),
+        Err(error) => Err(TimedError::Fields(error_behind(error, second.end))),
     }
 }
 
@@ -142,9 +142,9 @@ fn text_from(text: &[u8], place: usize) -> &[u8]
 }
 
 // The error of a text that begins so many bytes behind the beginning of the whole.
-fn moved_error(error: ScheduleError, by: usize) -> ScheduleError
+fn error_behind(error: ScheduleError, by: usize) -> ScheduleError
     requires { by + error.byte < 2 ^ 64 }
-    ensures { result ≡ moved_error by error }
+    ensures { result ≡ error_behind by error }
 {
     ScheduleError {
         field: error.field,

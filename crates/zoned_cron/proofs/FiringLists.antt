@@ -1,11 +1,12 @@
 -- The iterator of the instants: what is left of it grows less, and what it gives comes in order.
-use Rattle.std.proofs.Common.{◌≡◌, inl, inr, ◌<◌, ℤ, pos, ◌-ℤ◌, ◌<ℤ◌, Option, Some, None, IfSome, List, [], ◌∷◌, MatchOption, unsigned_abs, arith, ap, subst, sym, ◌∙◌}
+use Rattle.std.proofs.Common.{◌≡◌, ◌<◌, ℤ, pos, ◌-ℤ◌, Option, Some, None, IfSome, List, [], ◌∷◌, MatchOption, unsigned_abs, arith, ap, subst, sym, ◌∙◌}
 use Rattle.std.specs.Prelude.{⊤}
 use Rattle.std.specs.Iterator.{Drains, MakesProgress}
-use Rattle.chrono_datetime.specs.Moment.{IsBefore, IsMoment, Moment}
+use Rattle.chrono_datetime.specs.Moment.{IsBefore, IsMoment}
 use Rattle.chrono_datetime.proofs.Signed.{casts}
 use Rattle.chrono_instant.specs.Instants.{epoch_second}
 use Rattle.chrono_zoned.specs.Zoned.{Zoned}
+use Rattle.chrono_zoned.proofs.HeldSecondLemmas.{later_second}
 use Rattle.chrono_cron.specs.declared.field_sets.FieldSets.{FieldSets}
 use Rattle.zoned_cron.specs.declared.policy.Policy.{Policy}
 use Rattle.zoned_cron.specs.declared.schedule.ZonedSchedule.{ZonedSchedule}
@@ -13,16 +14,10 @@ use Rattle.zoned_cron.specs.declared.search.firings.Firings.{Firings}
 use Rattle.zoned_cron.specs.Fires.{FiresAt}
 use Rattle.zoned_cron.specs.FiringLists.{AreFirings, GivesNext, IsNextFiring, instants_left, seconds_after}
 
--- an instant that begins a second, and comes later, lies in a later second
-later_firing : (start m : Moment) → IsMoment start → m.time.fraction ≡ 0 → IsBefore start m → epoch_second start <ℤ epoch_second m
-later_firing start m is whole (inl later) = omega (arith, casts, is.time.second, later)
-later_firing start m is whole (inr (date, inl later)) = omega (arith, casts, date, later)
-later_firing start m is whole (inr (date, inr same)) = absurd (omega (arith, same.1, whole))
-
 pub goes_on : {Z : Type 0} (s : FieldSets) (clock : ℤ → ℤ) (p : Policy) (it : Firings Z) (start : Zoned Z) (r : Option (Zoned Z)) → it.last ≡ Some start → IsMoment start.utc → IfSome r (λ d. FiresAt s clock p d.utc) → IfSome r (λ d. IsBefore start.utc d.utc) → MakesProgress (λ _. ⊤) (instants_left {Z = Z}) it r (record { schedule = it.schedule; last = r })
 goes_on s clock p it start None was is fires later = record { on = λ _. tt; keeps = tt; rests = λ _. tt }
 goes_on {Z} s clock p it start (Some d) was is fires later =
-    let lt = later_firing start.utc d.utc is fires.0 later in
+    let lt = later_second start.utc d.utc is later fires.0 in
     let fewer : unsigned_abs (pos 8_210_266_876_799 -ℤ epoch_second d.utc) < unsigned_abs (pos 8_210_266_876_799 -ℤ epoch_second start.utc) = omega (arith, casts, lt, fires.1.instant.utc.1) in
     let less : seconds_after (Some d) < seconds_after it.last = subst (λ (o : Option (Zoned Z)). seconds_after (Some d) < seconds_after o) (sym was) fewer in
     record { on = λ _. (tt, tt, less); keeps = tt; rests = λ _. tt }

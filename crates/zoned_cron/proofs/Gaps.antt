@@ -4,9 +4,9 @@ use Rattle.std.proofs.lemmas.Int.{by_lt_z, ints}
 use Rattle.chrono_datetime.proofs.Signed.{casts}
 use Rattle.chrono_instant.specs.Offsets.{IsOffset}
 use Rattle.chrono_zoned.specs.Zones.{HoldsUntil}
+use Rattle.chrono_zoned.proofs.SecondSums.{near}
 use Rattle.zoned_cron.specs.Fires.{IsFirst, IsGap}
 use Rattle.zoned_cron.proofs.Instants.{AreGaps}
-use Rattle.zoned_cron.proofs.Windows.{near}
 
 -- of the instants before `end` at which the clock shows a second behind the gap, it shows the least at `first`, and at none before that: `least`
 pub record IsLeastShown (ahead : ℤ → ℤ) (gap end first least : ℤ) : Type 0 where

@@ -11,6 +11,7 @@ use Rattle.chrono_zoned.specs.declared.mapped_local_time.MappedLocalTime.TheVari
 use Rattle.chrono_zoned.specs.KnownZones.{set_ahead, set_back}
 use Rattle.chrono_zoned.specs.Zones.{IsMapped, IsOnly, Shows}
 use Rattle.chrono_zoned.proofs.OneChangeLemmas.{ChangesOnce-set_ahead, ChangesOnce-set_back, never, once_late, twice}
+use Rattle.chrono_zoned.proofs.SecondSums.{near}
 use Rattle.chrono_cron.specs.declared.field_sets.FieldSets.{FieldSets}
 use Rattle.chrono_cron.specs.Due.{is_due}
 use Rattle.zoned_cron.specs.declared.policy.Fold.{Fold}
@@ -18,7 +19,7 @@ use Rattle.zoned_cron.specs.declared.policy.Fold.TheVariants.{Both, Earlier, Lat
 use Rattle.zoned_cron.specs.declared.policy.Policy.{Policy}
 use Rattle.zoned_cron.specs.Fires.{FiresAt, IsBehindGap, IsFirst, IsGap, IsInstant, Takes, TakesShown, as_shown, once_each}
 use Rattle.zoned_cron.proofs.Instants.{AreGaps, AreTwo-mapped, behind, first_of_two, in_gap, last_of_two, only_taken}
-use Rattle.zoned_cron.proofs.Windows.{near, planned_now}
+use Rattle.zoned_cron.proofs.Windows.{planned_now}
 
 -- ---- a zone of one offset
 

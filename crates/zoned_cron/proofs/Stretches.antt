@@ -7,13 +7,15 @@ use Rattle.chrono_instant.specs.Instants.{IsEpochSecond, epoch_second}
 use Rattle.chrono_instant.specs.Offsets.{IsOffset}
 use Rattle.chrono_instant.proofs.InstantLemmas.{IsEpochSecond-moment}
 use Rattle.chrono_zoned.specs.Zones.{HoldsUntil, IsOnly, Shows}
+use Rattle.chrono_zoned.proofs.SecondSums.{near}
+use Rattle.chrono_zoned.proofs.HeldSecondLemmas.{earlier_second, later_second}
 use Rattle.chrono_cron.specs.declared.field_sets.FieldSets.{FieldSets}
 use Rattle.chrono_cron.specs.Due.{NotDueAfter, NotDueBetween, is_due}
 use Rattle.zoned_cron.specs.declared.policy.Policy.{Policy}
 use Rattle.zoned_cron.specs.Fires.{Fires, Takes}
 use Rattle.zoned_cron.specs.Private.{IsAtLeast, IsInDates, IsPlanned, IsSettled}
 use Rattle.zoned_cron.proofs.Instants.{behind, only_taken, shown}
-use Rattle.zoned_cron.proofs.Windows.{due_fraction, earlier_second, later_second, near, reached}
+use Rattle.zoned_cron.proofs.Windows.{due_fraction, reached}
 
 -- ---- the planned local time after another, and before it
 
@@ -25,7 +27,7 @@ planned_date s l h = subst (λ (x : ℤ). IsEpochSecond x) h.second (IsEpochSeco
 
 pub planned_later : (s : FieldSets) (local next : Moment) {l n : ℤ} → IsMoment local → IsMoment next → IsBefore local next → is_due s next ≡ true → epoch_second local ≡ l → n ≡ epoch_second next → (l <ℤ n) × IsPlanned s n
 planned_later s local next {l} {n} i j before due is_l is_n = (
-  omega (arith, ints, is_l, is_n, later_second local next i j before (due_fraction s next due)),
+  omega (arith, ints, is_l, is_n, later_second local next i before (due_fraction s next due)),
   subst (λ (x : ℤ). IsPlanned s x) (sym is_n) (planned_at s next j due),
 )
 

@@ -1,29 +1,27 @@
 -- Which planned local times can fire in a range, and what a search has seen.
-use Rattle.std.proofs.Common.{◌≡◌, ◌⊎◌, ⊎_elim, inl, inr, true, false, ◌==◌, ◌&&◌, ℕ, ◌/◌, ◌%◌, ◌<◌, ℤ, pos, neg_ℤ, ◌+ℤ◌, ◌-ℤ◌, ◌≤ℤ◌, ◌<ℤ◌, Option, Some, None, IfNone, IfSome, IsSome, IsSomeAnd, unsigned_abs, arith, ap, subst, sym, ◌∙◌}
+use Rattle.std.proofs.Common.{◌≡◌, ◌⊎◌, ⊎_elim, inl, inr, true, false, ◌==◌, ◌&&◌, ℕ, ◌/◌, ◌%◌, ◌<◌, ℤ, pos, neg_ℤ, ◌+ℤ◌, ◌-ℤ◌, ◌≤ℤ◌, ◌<ℤ◌, Option, Some, None, IfSome, IsSomeAnd, unsigned_abs, arith, ap, subst, sym, ◌∙◌}
 use Rattle.std.proofs.lemmas.Bool.{and_parts, both_ways, eqb-true}
 use Rattle.std.proofs.lemmas.Int.{by_lt_z, ints}
 use Rattle.chrono_datetime.specs.Moment.{IsBefore, IsMoment, Moment, moment}
 use Rattle.chrono_datetime.specs.Time.{FractionFits, IsEarlier, IsTime, TimeOfDay, time_at}
 use Rattle.chrono_datetime.proofs.Signed.{casts}
-use Rattle.chrono_instant.specs.Instants.{IsEpochSecond, LiesIn, epoch_second, second_of_minute}
+use Rattle.chrono_instant.specs.Instants.{IsEpochSecond, epoch_second, second_of_minute}
 use Rattle.chrono_instant.specs.Offsets.{IsOffset}
-use Rattle.chrono_instant.proofs.InstantLemmas.{IsBefore-by_second, one_moment}
+use Rattle.chrono_instant.proofs.InstantLemmas.{one_moment}
 use Rattle.chrono_zoned.specs.declared.mapped_local_time.MappedLocalTime.{MappedLocalTime}
 use Rattle.chrono_zoned.specs.Zones.{AreAll, HoldsUntil, IsAmong}
+use Rattle.chrono_zoned.proofs.SecondSums.{near}
+use Rattle.chrono_zoned.proofs.HeldSecondLemmas.{earlier_second, later_second}
 use Rattle.chrono_cron.specs.declared.field_sets.FieldSets.{FieldSets}
 use Rattle.chrono_cron.specs.Due.{NotDueBefore, NotDueBetween, is_day, is_due, is_minute}
 use Rattle.zoned_cron.specs.declared.policy.Gap.{Gap}
 use Rattle.zoned_cron.specs.declared.policy.Gap.TheVariants.{FirstAfter, Skip}
 use Rattle.zoned_cron.specs.declared.policy.Policy.{Policy}
-use Rattle.zoned_cron.specs.Fires.{Fires, FiresAt, NotFiringAfter, NotFiringBefore, NotFiringBetween, Takes, TakesSkipped}
+use Rattle.zoned_cron.specs.Fires.{Fires, Takes, TakesSkipped}
 use Rattle.zoned_cron.specs.Private.{CoversBehind, FiresFor, IsAtMost, IsLastIn, TakesDated}
 use Rattle.zoned_cron.proofs.Instants.{among, behind, shown}
 
 -- ---- how far an instant can be from the local time
-
--- less than a day
-pub near : (x : ℤ) → IsOffset x → (neg_ℤ (pos 86_400) <ℤ x) × (x <ℤ pos 86_400)
-near x h = (omega (arith, casts, h), omega (arith, casts, h))
 
 -- where what is planned for l fires, the clock shows l or more
 pub reached : (p : Policy) (ahead : ℤ → ℤ) (l u : ℤ) → Takes p ahead l u → l ≤ℤ (u +ℤ ahead u)
@@ -50,14 +48,6 @@ due_fraction s m due =
     let begins = and_parts (m.time.second % 60 == 0) (m.time.fraction == 0) minute.1 in
     eqb-true _ _ begins.1
 
-pub earlier_second : (a b : Moment) → IsMoment a → IsMoment b → epoch_second a <ℤ epoch_second b → IsBefore a b
-earlier_second a b i j lt = (IsBefore-by_second a b i j).1 (inl lt)
-
--- one that is later and begins a second lies in a later second
-pub later_second : (a b : Moment) → IsMoment a → IsMoment b → IsBefore a b → b.time.fraction ≡ 0 → epoch_second a <ℤ epoch_second b
-later_second a b i j before whole =
-    ⊎_elim (λ lt. lt) (λ same. absurd (omega (arith, same.1, whole))) ((IsBefore-by_second a b i j).0 before)
-
 -- what fires for a local time is one of its instants
 taken : (s : FieldSets) (ahead : ℤ → ℤ) (p : Policy) (m local : Moment) (u : ℤ) → FiresFor s ahead p m u → epoch_second m ≡ epoch_second local → TakesDated p ahead (epoch_second local) u
 taken s ahead p m local u f same = ((f.instant.local, f.instant.near), subst (λ (l : ℤ). Takes p ahead l u) same f.takes)
@@ -73,31 +63,6 @@ fires_by s ahead p m u utc exists due takes = record {
   due = due;
   takes = takes.1;
 }
-
--- ---- facts of options
-
-pub if_none : {X A B : Type 0} (r : Option X) → IfNone r A → (A → B) → IfNone r B
-if_none None h f = f h
-if_none (Some x) h f = tt
-
-pub if_any : {X B : Type 0} (r : Option X) → B → IfNone r B
-if_any None b = b
-if_any (Some x) b = tt
-
-pub if_never : {X : Type 0} (B : Type 0) (r : Option X) → IsSome r → IfNone r B
-if_never B None h = absurd cc
-if_never B (Some x) h = tt
-
-pub some_and : {X : Type 0} {P Q : X → Type 0} (r : Option X) → IsSomeAnd r P → ((x : X) → P x → Q x) → IsSomeAnd r Q
-some_and None h f = absurd h
-some_and (Some x) h f = f x h
-
-pub one_of : (P : ℤ → Type 0) (a b r : Option ℤ) → (r ≡ a) ⊎ (r ≡ b) → IfSome a P → IfSome b P → IfSome r P
-one_of P a b r is h k = ⊎_elim (λ e. subst (λ (o : Option ℤ). IfSome o P) (sym e) h) (λ e. subst (λ (o : Option ℤ). IfSome o P) (sym e) k) is
-
-pub none_then : {X B : Type 0} (r : Option X) → ((IsSome r → ⊥) → B) → IfNone r B
-none_then None f = f (λ some. absurd cc)
-none_then (Some x) f = tt
 
 -- ---- the measure of the search back
 
@@ -222,64 +187,14 @@ planned_now s ahead p local u i whole is f =
 pub planned_before : (s : FieldSets) (ahead : ℤ → ℤ) (p : Policy) (local earlier : Moment) (u : ℤ) → IsMoment local → IsMoment earlier → IsBefore earlier local → local.time.fraction ≡ 0 → epoch_second local ≡ (u +ℤ ahead u) → NotDueBetween s earlier local → (f : Fires s ahead p u) → TakesSkipped p.gap ahead (epoch_second f.planned) u → IsBefore f.planned local → TakesDated p ahead (epoch_second earlier) u
 planned_before s ahead p local earlier u i j before whole is none f skipped sooner =
     let low : epoch_second f.planned ≤ℤ epoch_second earlier = by_lt_z (epoch_second earlier) (epoch_second f.planned) (λ gt. absurd (both_ways (is_due s f.planned) (none f.planned f.exists (earlier_second earlier f.planned j f.exists gt) sooner) f.due)) (λ le. le) in
-    let high : epoch_second earlier <ℤ (u +ℤ ahead u) = subst (λ (l : ℤ). epoch_second earlier <ℤ l) is (later_second earlier local j i before whole) in
+    let high : epoch_second earlier <ℤ (u +ℤ ahead u) = subst (λ (l : ℤ). epoch_second earlier <ℤ l) is (later_second earlier local j before whole) in
     ((f.instant.local, f.instant.near), inr (later_in_gap p.gap ahead (epoch_second f.planned) (epoch_second earlier) u low high skipped))
 
 -- ---- the public calls
 
--- the schedule fires where UTC shows the second that was found
-pub fires_there : (s : FieldSets) (ahead : ℤ → ℤ) (p : Policy) {X : ℤ} (x : ℤ) (d : Moment) → LiesIn X 0 d → X ≡ x → Fires s ahead p x → FiresAt s ahead p d
-fires_there s ahead p {X} x d h is f = (h.past, subst (λ (u : ℤ). Fires s ahead p u) (sym (h.second ∙ is)) f)
-
 pub due_by : (s : FieldSets) (ahead : ℤ → ℤ) (p : Policy) (m : Moment) (u : ℤ) {U : ℤ} (found : MappedLocalTime ℤ) → AreAll (TakesDated p ahead (epoch_second m)) (λ x. x) found → IsAmong U found → U ≡ u → IsEpochSecond u → IsMoment m → is_due s m ≡ true → Fires s ahead p u
 due_by s ahead p m u {U} found all is_among is date j due =
     fires_by s ahead p m u date j due (subst (λ (x : ℤ). TakesDated p ahead (epoch_second m) x) is ((among (TakesDated p ahead (epoch_second m)) found U all).0 is_among))
-
-pub later_there : (start d : Moment) {S X : ℤ} (x : ℤ) → S <ℤ x → S ≡ epoch_second start → LiesIn X 0 d → X ≡ x → IsMoment start → IsBefore start d
-later_there start d {S} {X} x lt is_s h is i = earlier_second start d i h.exists (omega (arith, ints, lt, is_s, h.second, is))
-
-pub not_between : (s : FieldSets) (ahead : ℤ → ℤ) (p : Policy) (start d : Moment) {S X : ℤ} (x : ℤ) → ((u : ℤ) → S <ℤ u → Fires s ahead p u → x ≤ℤ u) → S ≡ epoch_second start → LiesIn X 0 d → X ≡ x → IsMoment start → NotFiringBetween s ahead p start d
-not_between s ahead p start d {S} {X} x least is_s h is i = λ m j after before fires.
-    let from : S <ℤ epoch_second m = omega (arith, ints, is_s, later_second start m i j after fires.0) in
-    let low : x ≤ℤ epoch_second m = least (epoch_second m) from fires.1 in
-    let high : epoch_second m <ℤ epoch_second d = later_second m d j h.exists before h.past in
-    absurd (omega (arith, ints, low, high, h.second, is))
-
-pub not_after : (s : FieldSets) (ahead : ℤ → ℤ) (p : Policy) (start : Moment) {S : ℤ} → ((u : ℤ) → S <ℤ u → Fires s ahead p u → ⊥) → S ≡ epoch_second start → IsMoment start → NotFiringAfter s ahead p start
-not_after s ahead p start {S} least is_s i = λ m j after fires. least (epoch_second m) (omega (arith, ints, is_s, later_second start m i j after fires.0)) fires.1
-
--- the first second that begins no earlier than a date-time
-pub record IsBegunBy (E : ℤ) (m : Moment) : Type 0 where
-  pub whole : m.time.fraction ≡ 0 → E ≡ epoch_second m
-  pub within : 0 < m.time.fraction → E ≡ (epoch_second m +ℤ pos 1)
-
-by_fraction : {A : Type 0} (n : ℕ) → (n ≡ 0 → A) → (0 < n → A) → A
-by_fraction n f h = by_lt_z (pos 0) (pos n) (λ lt. h (omega (arith, ints, lt))) (λ ge. f (omega (arith, ints, ge)))
-
-begun_before : (E : ℤ) (m end : Moment) → IsBegunBy E end → IsMoment m → IsMoment end → IsBefore m end → m.time.fraction ≡ 0 → epoch_second m <ℤ E
-begun_before E m end h i j before whole =
-    ⊎_elim (λ lt. by_fraction end.time.fraction (λ none. omega (arith, ints, lt, h.whole none)) (λ some. omega (arith, ints, lt, h.within some)))
-    (λ same. omega (arith, ints, same.0, h.within (omega (arith, same.1)))) ((IsBefore-by_second m end i j).0 before)
-
-ends_before : (E : ℤ) (m end : Moment) → IsBegunBy E end → IsMoment m → IsMoment end → epoch_second m <ℤ E → m.time.fraction ≡ 0 → IsBefore m end
-ends_before E m end h i j lt none =
-    by_fraction end.time.fraction (λ whole. (IsBefore-by_second m end i j).1 (inl (omega (arith, ints, lt, h.whole whole))))
-    (λ some.
-    by_lt_z (epoch_second m) (epoch_second end) (λ less. (IsBefore-by_second m end i j).1 (inl less))
-    (λ ge. (IsBefore-by_second m end i j).1 (inr (omega (arith, ints, lt, ge, h.within some), omega (arith, none, some)))))
-
-pub earlier_there : (end d : Moment) {E X : ℤ} (x : ℤ) → x <ℤ E → LiesIn X 0 d → IsBegunBy E end → X ≡ x → IsMoment end → IsBefore d end
-earlier_there end d {E} {X} x lt h begun is i = ends_before E d end begun h.exists i (omega (arith, ints, lt, h.second, is)) h.past
-
-pub not_between_back : (s : FieldSets) (ahead : ℤ → ℤ) (p : Policy) (end d : Moment) {E X : ℤ} (x : ℤ) → ((u : ℤ) → u <ℤ E → Fires s ahead p u → u ≤ℤ x) → LiesIn X 0 d → IsBegunBy E end → X ≡ x → IsMoment end → NotFiringBetween s ahead p d end
-not_between_back s ahead p end d {E} {X} x greatest h begun is i = λ m j after before fires.
-    let to : epoch_second m <ℤ E = begun_before E m end begun j i before fires.0 in
-    let high : epoch_second m ≤ℤ x = greatest (epoch_second m) to fires.1 in
-    let low : epoch_second d <ℤ epoch_second m = later_second d m h.exists j after fires.0 in
-    absurd (omega (arith, ints, low, high, h.second, is))
-
-pub not_before : (s : FieldSets) (ahead : ℤ → ℤ) (p : Policy) (end : Moment) {E : ℤ} → ((u : ℤ) → u <ℤ E → Fires s ahead p u → ⊥) → IsBegunBy E end → IsMoment end → NotFiringBefore s ahead p end
-not_before s ahead p end {E} greatest begun i = λ m j before fires. greatest (epoch_second m) (begun_before E m end begun j i before fires.0) fires.1
 
 -- a date-time of the zone is at each instant at which a schedule fires
 pub exists_there : (s : FieldSets) (ahead : ℤ → ℤ) (p : Policy) (X x : ℤ) → X ≡ x → Fires s ahead p x → IsEpochSecond X × FractionFits (second_of_minute X) 0 × IsEpochSecond (X +ℤ ahead X)

@@ -6,10 +6,11 @@
 -- a wrong clock. Here a change of any length counts, which is our choice.
 use Rattle.std.specs.Prelude.{◌≡◌, ◌⊎◌, ◌<◌, ℕ, true, ℤ, ◌+ℤ◌, ◌≤ℤ◌, ◌<ℤ◌}
 use Rattle.chrono_sets.specs.FiniteSets.{FiniteSet, has}
-use Rattle.chrono_datetime.specs.Moment.{IsBefore, IsMoment, Moment}
+use Rattle.chrono_datetime.specs.Moment.{IsMoment, Moment}
 use Rattle.chrono_instant.specs.Instants.{IsEpochSecond, epoch_second}
 use Rattle.chrono_instant.specs.Offsets.{IsOffset}
 use Rattle.chrono_zoned.specs.Zones.{Shows}
+use Rattle.chrono_zoned.specs.HeldSeconds.{HoldsAt, HoldsNotAfter, HoldsNotBefore, HoldsNotBetween}
 use Rattle.chrono_cron.specs.declared.field_sets.FieldSets.{FieldSets}
 use Rattle.chrono_cron.specs.Due.{is_due}
 use Rattle.zoned_cron.specs.declared.policy.Fold.{Fold}
@@ -70,19 +71,19 @@ pub record Fires (s : FieldSets) (ahead : ℤ → ℤ) (p : Policy) (u : ℤ) : 
 
 -- the schedule fires where UTC shows m, at the beginning of a second
 abbrev pub FiresAt : FieldSets → (ℤ → ℤ) → Policy → Moment → Type 0
-FiresAt s ahead p m = (m.time.fraction ≡ 0) × Fires s ahead p (epoch_second m)
+FiresAt s ahead p m = HoldsAt (Fires s ahead p) m
 
 -- it fires at no instant between two
 abbrev pub NotFiringBetween : FieldSets → (ℤ → ℤ) → Policy → Moment → Moment → Type 0
-NotFiringBetween s ahead p start end = (m : Moment) → IsMoment m → IsBefore start m → IsBefore m end → ¬ FiresAt s ahead p m
+NotFiringBetween s ahead p start end = HoldsNotBetween (Fires s ahead p) start end
 
 -- it fires at none after one
 abbrev pub NotFiringAfter : FieldSets → (ℤ → ℤ) → Policy → Moment → Type 0
-NotFiringAfter s ahead p start = (m : Moment) → IsMoment m → IsBefore start m → ¬ FiresAt s ahead p m
+NotFiringAfter s ahead p start = HoldsNotAfter (Fires s ahead p) start
 
 -- and at none before one
 abbrev pub NotFiringBefore : FieldSets → (ℤ → ℤ) → Policy → Moment → Type 0
-NotFiringBefore s ahead p end = (m : Moment) → IsMoment m → IsBefore m end → ¬ FiresAt s ahead p m
+NotFiringBefore s ahead p end = HoldsNotBefore (Fires s ahead p) end
 
 -- ---- the two policies of Vixie's cron
 

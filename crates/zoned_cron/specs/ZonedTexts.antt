@@ -3,7 +3,6 @@
 use Rattle.std.specs.Prelude.{◌≡◌, ℕ, ◌+◌, if◌then◌else◌, ◌==◌, List, codes, drop, take, refl}
 use Rattle.std.specs.List.{position_or_len}
 use Rattle.chrono_text.specs.Lists.{begins_alike, is_blank}
-use Rattle.chrono_cron.specs.declared.text.schedule_error.ScheduleError.{ScheduleError}
 
 -- how many bytes in front say that a name follows, in letters of either case: 0 if the text does not begin so. The name may be empty
 unfoldable pub mark_len : List ℕ → ℕ
@@ -20,10 +19,6 @@ zone_len text = if mark_len text == 0 then 0 else mark_len text + position_or_le
 -- and the schedule's text
 abbrev pub schedule_part : List ℕ → List ℕ
 schedule_part text = drop (zone_len text) text
-
--- an error in a part of a text that begins so many bytes behind its beginning
-abbrev pub error_behind : ℕ → ScheduleError → ScheduleError
-error_behind n e = record { field = e.field; byte = e.byte + n; fault = e.fault }
 
 -- known values
 zone_name-known : zone_name (codes "CRON_TZ=Asia/Tokyo 0 4 * * *") ≡ codes "Asia/Tokyo"

@@ -3,9 +3,9 @@ ghost use Rattle.std.specs.Prelude.{◌≡◌, ◌↔◌, ◌<◌, ◌≤◌, le
 ghost use Rattle.std.specs.List.{position_or_len};
 ghost use Rattle.chrono_text.specs.Lists.{is_blank};
 ghost use Rattle.chrono_cron.specs.declared.field_sets.FieldSets.{FieldSets};
-ghost use Rattle.chrono_cron.specs.ScheduleErrors.{schedule_error};
+ghost use Rattle.chrono_cron.specs.ScheduleErrors.{error_behind, schedule_error};
 ghost use Rattle.chrono_cron.specs.ScheduleTexts.{IsScheduleText};
-ghost use Rattle.zoned_cron.specs.ZonedTexts.{error_behind, mark_len, schedule_part, zone_len, zone_name};
+ghost use Rattle.zoned_cron.specs.ZonedTexts.{mark_len, schedule_part, zone_len, zone_name};
 
 use chrono_cron::{Schedule, ScheduleError, read_schedule};
 use chrono_text::begins_but_for_case;
@@ -72,7 +72,7 @@ pub fn read_zoned_text(text: &[u8]) -> Result<ZonedText<'_>, ScheduleError>
         }),
         Err(error) => Err(ScheduleError {
             field: error.field,
-            byte: error.byte + (text.len() - part.len()),
+            byte: text.len() - part.len() + error.byte,
             fault: error.fault,
         }),
     }

@@ -1,11 +1,12 @@
 -- The iterator over the instances: what is left of it grows less, and what it gives comes in order.
-use Rattle.std.proofs.Common.{◌≡◌, inl, inr, ◌<◌, ℤ, pos, ◌-ℤ◌, ◌<ℤ◌, Option, Some, None, IfSome, List, [], ◌∷◌, MatchOption, unsigned_abs, arith, ap, subst, sym, ◌∙◌}
+use Rattle.std.proofs.Common.{◌≡◌, ◌<◌, ℤ, pos, ◌-ℤ◌, Option, Some, None, IfSome, List, [], ◌∷◌, MatchOption, unsigned_abs, arith, ap, subst, sym, ◌∙◌}
 use Rattle.std.specs.Prelude.{⊤}
 use Rattle.std.specs.Iterator.{Drains, MakesProgress}
-use Rattle.chrono_datetime.specs.Moment.{IsBefore, IsMoment, Moment}
+use Rattle.chrono_datetime.specs.Moment.{IsBefore, IsMoment}
 use Rattle.chrono_datetime.proofs.Signed.{casts}
 use Rattle.chrono_instant.specs.Instants.{epoch_second}
 use Rattle.chrono_zoned.specs.Zoned.{Zoned}
+use Rattle.chrono_zoned.proofs.HeldSecondLemmas.{later_second}
 use Rattle.zoned_rules.specs.LocalTimes.{LocalParts}
 use Rattle.zoned_rules.specs.declared.bound.Bound.{Bound}
 use Rattle.zoned_rules.specs.declared.zoned_rule.ZonedRule.{ZonedRule}
@@ -13,16 +14,10 @@ use Rattle.zoned_rules.specs.declared.search.zoned_instances.ZonedInstances.{Zon
 use Rattle.zoned_rules.specs.Recurs.{IsInstanceAt}
 use Rattle.zoned_rules.specs.ZonedInstanceLists.{AreZonedInstances, GivesInstance, IsNextInstance, seconds_until_end, zoned_instances_left}
 
--- an instant that begins a second, and comes later, lies in a later second
-later_instance : (start m : Moment) → IsMoment start → m.time.fraction ≡ 0 → IsBefore start m → epoch_second start <ℤ epoch_second m
-later_instance start m is whole (inl later) = omega (arith, casts, is.time.second, later)
-later_instance start m is whole (inr (date, inl later)) = omega (arith, casts, date, later)
-later_instance start m is whole (inr (date, inr same)) = absurd (omega (arith, same.1, whole))
-
 pub goes_on : {Z : Type 0} (r : LocalParts) (clock : ℤ → ℤ) (bound : Bound) (it : ZonedInstances Z) (start : Zoned Z) (given : Option (Zoned Z)) → it.last ≡ Some start → IsMoment start.utc → IfSome given (λ d. IsInstanceAt r clock bound d.utc) → IfSome given (λ d. IsBefore start.utc d.utc) → MakesProgress (λ _. ⊤) (zoned_instances_left {Z = Z}) it given (record { rule = it.rule; last = given })
 goes_on r clock bound it start None was is found later = record { on = λ _. tt; keeps = tt; rests = λ _. tt }
 goes_on {Z} r clock bound it start (Some d) was is found later =
-    let lt = later_instance start.utc d.utc is found.0 later in
+    let lt = later_second start.utc d.utc is later found.0 in
     let fewer : unsigned_abs (pos 8_210_266_876_799 -ℤ epoch_second d.utc) < unsigned_abs (pos 8_210_266_876_799 -ℤ epoch_second start.utc) = omega (arith, casts, lt, found.1.recurs.recurs.dates.utc.1) in
     let less : seconds_until_end (Some d) < seconds_until_end it.last = subst (λ (o : Option (Zoned Z)). seconds_until_end (Some d) < seconds_until_end o) (sym was) fewer in
     record { on = λ _. (tt, tt, less); keeps = tt; rests = λ _. tt }

@@ -6,9 +6,9 @@ use Rattle.std.proofs.lemmas.Bool.Decides.{Decides-int_eq}
 use Rattle.std.proofs.Math.Bool.{or-true}
 use Rattle.chrono_instant.specs.Instants.{epoch_second}
 use Rattle.chrono_zoned.specs.Zoned.{Zoned}
+use Rattle.chrono_zoned.proofs.OptionLemmas.{one_of}
 use Rattle.zoned_rules.specs.LocalInstants.{HasDates}
 use Rattle.zoned_rules.specs.ZonedSets.{lists_second}
-use Rattle.zoned_rules.proofs.Reached.{one_of}
 
 -- R tells what was reached, and N which seconds count
 module _ {Z : Type 0} (R : Option ℤ → ℤ → Type 0) (N : ℤ → Type 0) (ahead : ℤ → ℤ) (all : List (Zoned Z)) where

@@ -1,5 +1,4 @@
 mod Standing
-mod Fitting
 mod ListedTimes
 mod Reached
 mod Numbered

@@ -1,5 +1,5 @@
 -- Which seconds of a day are times of a rule, and which seconds of local time are its local times.
-use Rattle.std.proofs.Common.{◌≡◌, ◌⊎◌, ⊎_elim, ℕ, ◌+◌, ◌/◌, ◌%◌, ◌<◌, ◌≤◌, ◌==◌, ◌&&◌, Bool, true, false, inl, inr, ℤ, pos, ◌≤ℤ◌, ◌<ℤ◌, Option, Some, None, IfNone, arith, ap, refl, subst, ◌∙◌}
+use Rattle.std.proofs.Common.{◌≡◌, ◌⊎◌, ⊎_elim, ℕ, ◌+◌, ◌/◌, ◌%◌, ◌<◌, ◌≤◌, ◌==◌, ◌&&◌, Bool, true, false, inl, inr, ℤ, pos, ◌≤ℤ◌, ◌<ℤ◌, arith, ap, refl, subst, ◌∙◌}
 use Rattle.std.proofs.lemmas.Bool.{and_parts, both_ways, eqb-true}
 use Rattle.std.proofs.lemmas.Int.{by_lt_z, ints}
 use Rattle.chrono_datetime.specs.Moment.{IsMoment, Moment, moment}
@@ -178,10 +178,6 @@ pub earlier_second : (n : ℤ) (end k : ℕ) (m : Moment) → k < end → m ≡ 
 earlier_second n end k m lt is = omega (arith, casts, at_second m n k is, lt)
 
 -- ---- what a call of the rule of days found
-
-pub if_none : {X A B : Type 0} (o : Option X) → IfNone o A → (A → B) → IfNone o B
-if_none None h f = f h
-if_none (Some x) h f = tt
 
 -- a claim on the instances of a rule, by other names of the rule and of its start
 pub renamed : (P : (ℤ → Bool) → Type 0) (r s : Rule) (a b : ℤ) → r ≡ s → a ≡ b → P (is_instance r a) → P (is_instance s b)

@@ -1,5 +1,5 @@
 -- What a search over local times has reached.
-use Rattle.std.proofs.Common.{◌≡◌, ◌⊎◌, inl, inr, ℤ, pos, ◌+ℤ◌, ◌-ℤ◌, ◌≤ℤ◌, ◌<ℤ◌, Option, Some, None, IfSome, IsSomeAnd, arith, subst, sym}
+use Rattle.std.proofs.Common.{◌≡◌, ◌⊎◌, inl, inr, ℤ, pos, ◌+ℤ◌, ◌-ℤ◌, ◌≤ℤ◌, ◌<ℤ◌, Option, Some, None, IsSomeAnd, arith, subst}
 use Rattle.std.proofs.lemmas.Int.{by_lt_z, ints}
 use Rattle.chrono_datetime.specs.Moment.{Moment}
 use Rattle.chrono_instant.specs.Instants.{epoch_second}
@@ -85,11 +85,6 @@ reaches_far_back r ahead end l (Some c) offsets old far m u h earlier =
     by_lt_z l (epoch_second m) (λ gt. old m u h gt earlier) (λ le. omega (arith, ints, le, far, near.1))
 
 -- ---- what was found
-
--- of two values of which P holds, either is one
-pub one_of : (P : ℤ → Type 0) (one other found : Option ℤ) → (found ≡ one) ⊎ (found ≡ other) → IfSome one P → IfSome other P → IfSome found P
-one_of P one other found (inl is) h k = subst (λ (o : Option ℤ). IfSome o P) (sym is) h
-one_of P one other found (inr is) h k = subst (λ (o : Option ℤ). IfSome o P) (sym is) k
 
 -- the instant that a local time stands for, if UTC and the clock have dates there, is the only one
 pub at_one : (r : LocalParts) (ahead : ℤ → ℤ) (after l x : ℤ) → IsInstantOf ahead l x → ReachesAt r ahead after l (Some x)

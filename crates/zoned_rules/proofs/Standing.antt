@@ -1,17 +1,13 @@
 -- Which instant a local time stands for: one at most, less than a day from it.
-use Rattle.std.proofs.Common.{◌≡◌, true, is_some, inl, inr, ℤ, pos, negsuc, ◌+ℤ◌, ◌-ℤ◌, ◌≤ℤ◌, ◌<ℤ◌, ⊎_elim, Option, Some, None, IfSome, IfNone, arith, ap, refl, sym, ◌∙◌}
+use Rattle.std.proofs.Common.{◌≡◌, inl, inr, ℤ, pos, ◌+ℤ◌, ◌-ℤ◌, ◌≤ℤ◌, ◌<ℤ◌, ⊎_elim, IfSome, IfNone, arith, ap, refl, sym, ◌∙◌}
 use Rattle.std.proofs.lemmas.Int.{by_lt_z, ints}
 use Rattle.chrono_instant.specs.Offsets.{IsOffset}
 use Rattle.chrono_zoned.specs.declared.mapped_local_time.MappedLocalTime.{MappedLocalTime}
 use Rattle.chrono_zoned.specs.declared.mapped_local_time.MappedLocalTime.TheVariants.{None as NoInstant, Single, Ambiguous}
 use Rattle.chrono_zoned.specs.Zones.{HoldsUntil, IsMapped, Shows, earliest_of}
+use Rattle.chrono_zoned.proofs.SecondSums.{near}
 use Rattle.zoned_rules.specs.LocalInstants.{IsFirstOccurrence, IsInstantOf, IsSetPast}
 use Rattle.zoned_rules.specs.Private.{IsOffsetBefore}
-
--- an offset is less than a day
-pub small : (x : ℤ) → IsOffset x → ((pos 0 -ℤ pos 86_400) <ℤ x) × (x <ℤ pos 86_400)
-small (pos n) h = (omega (arith, ints, h), omega (arith, ints, h))
-small (negsuc n) h = (omega (arith, ints, h), omega (arith, ints, h))
 
 -- each offset of a clock is
 abbrev pub AreOffsets : (ℤ → ℤ) → Type 0
@@ -40,10 +36,10 @@ stands_once ahead l u v (inr a) (inr b) =
 -- less than a day from it
 pub stands_near : (ahead : ℤ → ℤ) (l u : ℤ) → AreOffsets ahead → IsInstantOf ahead l u → ((l -ℤ pos 86_400) <ℤ u) × (u <ℤ (l +ℤ pos 86_400))
 stands_near ahead l u offsets (inl h) =
-    let o = small (ahead u) (offsets u) in
+    let o = near (ahead u) (offsets u) in
     (omega (arith, ints, h.shown, o.1), omega (arith, ints, h.shown, o.0))
 stands_near ahead l u offsets (inr h) =
-    let o = small (ahead (h.change -ℤ pos 1)) (offsets (h.change -ℤ pos 1)) in
+    let o = near (ahead (h.change -ℤ pos 1)) (offsets (h.change -ℤ pos 1)) in
     (omega (arith, ints, h.by, o.1), omega (arith, ints, h.by, o.0))
 
 -- ---- the offset that leads to it
@@ -102,7 +98,7 @@ goes_on ahead l from until end o skipped holds earlier before lt le low high is 
 
 -- a day before l the clock shows earlier seconds
 pub early_shown : (ahead : ℤ → ℤ) (l v : ℤ) → AreOffsets ahead → v ≤ℤ (l -ℤ pos 86_400) → (v +ℤ ahead v) <ℤ l
-early_shown ahead l v offsets le = let o = small (ahead v) (offsets v) in omega (arith, ints, le, o.1)
+early_shown ahead l v offsets le = let o = near (ahead v) (offsets v) in omega (arith, ints, le, o.1)
 
 pub walk_begins : (ahead : ℤ → ℤ) (l from until end o : ℤ) → AreOffsets ahead → IsNever ahead l → from ≡ (l -ℤ pos 86_400) → HoldsUntil ahead from until → from <ℤ end → end ≤ℤ until → end ≤ℤ (l +ℤ pos 86_400) → o ≡ ahead from → IsWalked ahead l end o
 walk_begins ahead l from until end o offsets skipped at holds lt le high is =
@@ -124,14 +120,4 @@ walk_ends ahead l end o skipped h past = record {
 }
 
 pub shorter : (ahead : ℤ → ℤ) (l v : ℤ) → IsOffset (ahead v) → (v +ℤ ahead v) <ℤ l → v <ℤ (l +ℤ pos 86_400)
-shorter ahead l v offset lt = let o = small (ahead v) offset in omega (arith, ints, lt, o.0)
-
--- ---- answers that may be missing
-
-pub if_any : {T : Type 0} {A : Type 0} (o : Option T) → A → IfNone o A
-if_any None a = a
-if_any (Some x) a = tt
-
-pub if_missing : {T : Type 0} {A : Type 0} (o : Option T) → ((is_some o ≡ true → ⊥) → A) → IfNone o A
-if_missing None h = h (λ e. absurd cc)
-if_missing (Some x) h = tt
+shorter ahead l v offset lt = let o = near (ahead v) offset in omega (arith, ints, lt, o.0)

@@ -1,8 +1,9 @@
 -- At which instants a rule in a zone recurs. `IsInstanceAt` says it, near the end.
 -- What stands in quotation marks is from RFC 5545, section 3.3.10.
 use Rattle.std.specs.Prelude.{◌≡◌, ◌<◌, ℕ, zero, suc, true, ℤ, ◌≤ℤ◌, ◌<ℤ◌}
-use Rattle.chrono_datetime.specs.Moment.{IsBefore, IsMoment, Moment}
+use Rattle.chrono_datetime.specs.Moment.{IsMoment, Moment}
 use Rattle.chrono_instant.specs.Instants.{epoch_second}
+use Rattle.chrono_zoned.specs.HeldSeconds.{HoldsAt, HoldsNotAfter, HoldsNotBefore, HoldsNotBetween}
 use Rattle.zoned_rules.specs.LocalInstants.{HasDates, IsInstantOf}
 use Rattle.zoned_rules.specs.LocalTimes.{LocalParts, is_planned}
 use Rattle.zoned_rules.specs.declared.bound.Bound.{Bound}
@@ -60,22 +61,6 @@ IsWithin (Count c) P u = IsOneOf P c u
 pub record RecursWithin (r : LocalParts) (ahead : ℤ → ℤ) (bound : Bound) (u : ℤ) : Type 0 where
   pub recurs : Recurs r ahead u
   pub within : IsWithin bound (Recurs r ahead) u
-
--- P holds of the second at whose beginning UTC shows m
-abbrev pub HoldsAt : (ℤ → Type 0) → Moment → Type 0
-HoldsAt P m = (m.time.fraction ≡ 0) × P (epoch_second m)
-
--- it does so at no instant between two
-abbrev pub HoldsNotBetween : (ℤ → Type 0) → Moment → Moment → Type 0
-HoldsNotBetween P start end = (m : Moment) → IsMoment m → IsBefore start m → IsBefore m end → ¬ HoldsAt P m
-
--- at none after one
-abbrev pub HoldsNotAfter : (ℤ → Type 0) → Moment → Type 0
-HoldsNotAfter P start = (m : Moment) → IsMoment m → IsBefore start m → ¬ HoldsAt P m
-
--- at none before one
-abbrev pub HoldsNotBefore : (ℤ → Type 0) → Moment → Type 0
-HoldsNotBefore P end = (m : Moment) → IsMoment m → IsBefore m end → ¬ HoldsAt P m
 
 -- the instant at which UTC shows m is an instance
 abbrev pub IsInstanceAt : LocalParts → (ℤ → ℤ) → Bound → Moment → Type 0

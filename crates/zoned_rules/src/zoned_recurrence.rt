@@ -2,8 +2,8 @@
 ghost use Rattle.std.specs.Prelude.{◌≡◌, ◌↔◌, ℤ, pos, neg_ℤ, ◌≤ℤ◌, ◌<ℤ◌, IfNone, IfSome, IsFalse, IsTrue};
 ghost use Rattle.chrono_datetime.specs.Moment.{IsBefore};
 ghost use Rattle.chrono_instant.specs.Instants.{IsEpochSecond};
+ghost use Rattle.chrono_zoned.specs.HeldSeconds.{HoldsAt, HoldsNotAfter, HoldsNotBefore, HoldsNotBetween};
 ghost use Rattle.zoned_rules.specs.Private.{IsReached, IsReachedBack};
-ghost use Rattle.zoned_rules.specs.Recurs.{HoldsAt, HoldsNotAfter, HoldsNotBefore, HoldsNotBetween};
 ghost use Rattle.zoned_rules.specs.ZonedSets.{IsInZonedSet, IsIncluded};
 
 use crate::listed_instants::{first_listed, last_listed, lists};

@@ -1,6 +1,7 @@
 /** Durations. */
 
-import { refuseRounding } from "./numbers.js";
+import { optionsOf, refuseRounding } from "./numbers.js";
+import { CLOCK_UNITS, incrementOf, modeOf, rounded, unitOf } from "./rounding.js";
 
 /** The fields of a duration, from the longest unit on. */
 const FIELDS = [
@@ -19,6 +20,9 @@ const FIELDS = [
 /** Where the units begin that have a fixed length. */
 const DAYS = FIELDS.indexOf("days");
 
+/** A day and the shorter units, in the singular. */
+const EXACT_UNITS = ["day", ...CLOCK_UNITS];
+
 /** The nanoseconds of a day and of each shorter unit. */
 const LENGTHS = [86_400_000_000_000n, 3_600_000_000_000n, 60_000_000_000n, 1_000_000_000n, 1_000_000n, 1_000n, 1n];
 
@@ -27,6 +31,12 @@ const MOST_UNITS = 2 ** 32;
 
 /** Days and shorter units make fewer nanoseconds than this. */
 const MOST_NANOSECONDS = 2n ** 53n * 1_000_000_000n;
+
+/** So many days and shorter units of each kind make fewer nanoseconds together, and their seconds are exact Numbers. */
+const FEW_UNITS = 2 ** 33;
+
+/** Tells the constructor that all ten fields follow, which are whole numbers. */
+const BY_FIELDS = Symbol("by fields");
 
 /** ISO 8601 durations; only seconds have a fraction here. */
 const TEXT =
@@ -41,6 +51,26 @@ function whole(value, field) {
   return number + 0;
 }
 
+/** The Number nearest to a fraction of two whole numbers, of which the second is above 0. */
+function nearest(above, below) {
+  const size = above < 0n ? -above : above;
+  const shift = BigInt(Math.max(0, 66 + below.toString(2).length - size.toString(2).length));
+  const scaled = size << shift;
+  // (66 digits and one that says whether more follow are rounded as all digits would be)
+  const digits = (scaled / below) * 2n + (scaled % below > 0n ? 1n : 0n);
+  const number = Number(digits) * 2 ** -(Number(shift) + 1);
+  return above < 0n ? -number : number;
+}
+
+/** The whole days of a duration's weeks, days and shorter units. */
+export let daysOf;
+
+/** The seconds of a duration's weeks, days and shorter units, and the nanoseconds past them, which are not below 0. */
+export let secondsOf;
+
+/** The duration of ten whole numbers. */
+export let durationOf;
+
 /**
  * A length of time: years, months and weeks, which a calendar measures, and days of 24 hours and shorter units.
  *
@@ -50,16 +80,32 @@ export class Duration {
   #fields;
 
   constructor(...fields) {
-    this.#fields = FIELDS.map((field, index) => whole(fields[index] ?? 0, field));
-    const signs = new Set(this.#fields.map(Math.sign));
-    if (signs.has(1) && signs.has(-1)) {
+    this.#fields = fields[0] === BY_FIELDS ? fields[1] : FIELDS.map((field, index) => whole(fields[index] ?? 0, field));
+    this.#refuse();
+  }
+
+  /** Refuses fields of both signs, and too many units. */
+  #refuse() {
+    let [isAbove, isBelow, isLong] = [false, false, false];
+    for (let index = 0; index < FIELDS.length; index += 1) {
+      const number = this.#fields[index];
+      isAbove ||= number > 0;
+      isBelow ||= number < 0;
+      isLong ||= Math.abs(number) >= (index < DAYS ? MOST_UNITS : FEW_UNITS);
+    }
+    if (isAbove && isBelow) {
       throw new RangeError("one field of the duration is above 0, and another below");
     }
-    const isLong = this.#fields.slice(0, DAYS).some((it) => Math.abs(it) >= MOST_UNITS);
-    const nanoseconds = this.exactNanoseconds;
-    if (isLong || nanoseconds >= MOST_NANOSECONDS || nanoseconds <= -MOST_NANOSECONDS) {
+    // (few units of each kind are never too long together, and need no numbers of many digits)
+    if (isLong && this.#isTooLong) {
       throw new RangeError("the duration is too long");
     }
+  }
+
+  get #isTooLong() {
+    const nanoseconds = this.exactNanoseconds;
+    const isLong = this.#fields.slice(0, DAYS).some((it) => Math.abs(it) >= MOST_UNITS);
+    return isLong || nanoseconds >= MOST_NANOSECONDS || nanoseconds <= -MOST_NANOSECONDS;
   }
 
   static {
@@ -69,20 +115,33 @@ export class Duration {
       };
       Object.defineProperty(this.prototype, field, { get, configurable: true });
     }
+    daysOf = (duration) => duration.#days;
+    secondsOf = (duration) => duration.#seconds;
+    durationOf = (...fields) => new Duration(BY_FIELDS, fields);
   }
 
   /** The duration of a text such as `P1DT2H0.5S`, of an object with some of the fields, or of a duration. */
   static from(item) {
     if (item instanceof Duration) {
-      return new Duration(...item.#fields);
+      return new Duration(BY_FIELDS, item.#fields);
     }
     if (typeof item === "string") {
       return Duration.#read(item);
     }
-    if (item === null || typeof item !== "object" || FIELDS.every((field) => item[field] === undefined)) {
+    const isObject = item !== null && typeof item === "object";
+    const fields = [0, 0, 0, 0, 0, 0, 0, 0, 0, 0];
+    let count = 0;
+    for (let index = 0; isObject && index < FIELDS.length; index += 1) {
+      const value = item[FIELDS[index]];
+      if (value !== undefined) {
+        fields[index] = whole(value, FIELDS[index]);
+        count += 1;
+      }
+    }
+    if (count === 0) {
       throw new TypeError("a duration is made of a text, or of an object with fields such as days");
     }
-    return new Duration(...FIELDS.map((field) => item[field] ?? 0));
+    return new Duration(BY_FIELDS, fields);
   }
 
   static #read(text) {
@@ -112,7 +171,7 @@ export class Duration {
       fields[DAYS + unit] = Number(rest / LENGTHS[unit]);
       rest %= LENGTHS[unit];
     }
-    return new Duration(...fields);
+    return new Duration(BY_FIELDS, fields);
   }
 
   /** Compares the lengths of two durations with no years, months or weeks: -1, 0 or 1. */
@@ -137,12 +196,12 @@ export class Duration {
 
   /** The same length the other way. */
   negated() {
-    return new Duration(...this.#fields.map((it) => -it));
+    return new Duration(BY_FIELDS, this.#fields.map((it) => 0 - it));
   }
 
   /** The same length forward. */
   abs() {
-    return new Duration(...this.#fields.map(Math.abs));
+    return new Duration(BY_FIELDS, this.#fields.map(Math.abs));
   }
 
   /** The sum, in units from the larger of both largest ones on; RangeError for years, months and weeks. */
@@ -176,6 +235,62 @@ export class Duration {
     return LENGTHS.reduce((sum, length, index) => sum + length * BigInt(this.#fields[DAYS + index]), 0n);
   }
 
+  get #isShort() {
+    return this.#fields.every((it) => Math.abs(it) < FEW_UNITS);
+  }
+
+  get #days() {
+    const [, , weeks, days, ...clock] = this.#fields;
+    if (clock.every((it) => it === 0)) {
+      return 7 * weeks + days;
+    }
+    return 7 * weeks + Number(this.exactNanoseconds / LENGTHS[0]);
+  }
+
+  get #seconds() {
+    const [, , weeks, days, hours, minutes, seconds, milliseconds, microseconds, nanoseconds] = this.#fields;
+    if (!this.#isShort) {
+      const all = this.exactNanoseconds + 7n * LENGTHS[0] * BigInt(weeks);
+      const rest = ((all % LENGTHS[3]) + LENGTHS[3]) % LENGTHS[3];
+      return { seconds: (all - rest) / LENGTHS[3], nanos: Number(rest) };
+    }
+    const shorter = 1_000_000 * milliseconds + 1_000 * microseconds + nanoseconds;
+    const more = Math.floor(shorter / 1_000_000_000);
+    const whole = 86_400 * (7 * weeks + days) + 3_600 * hours + 60 * minutes + seconds + more;
+    return { seconds: BigInt(whole), nanos: shorter - 1_000_000_000 * more };
+  }
+
+  /**
+   * The duration in whole multiples of a unit (`smallestUnit`, `roundingIncrement`), in units from `largestUnit` on.
+   *
+   * The multiple is the nearest one, and the one farther from 0 of two that are as near, unless `roundingMode` asks for
+   * another. RangeError for years, months and weeks.
+   */
+  round(options) {
+    const given = typeof options === "string" ? { smallestUnit: options } : optionsOf(options ?? null);
+    if (given.smallestUnit === undefined && given.largestUnit === undefined) {
+      throw new RangeError("round: smallestUnit or largestUnit is asked for");
+    }
+    const nanoseconds = this.totalNanoseconds;
+    const smallest = EXACT_UNITS.indexOf(unitOf(given.smallestUnit ?? "nanosecond", "smallestUnit", EXACT_UNITS));
+    const usual = Math.min(this.#largest - DAYS, smallest);
+    const isUsual = given.largestUnit === undefined || `${given.largestUnit}` === "auto";
+    const largest = isUsual ? usual : EXACT_UNITS.indexOf(unitOf(given.largestUnit, "largestUnit", EXACT_UNITS));
+    if (largest > smallest) {
+      throw new RangeError(`largestUnit ${given.largestUnit}: it is shorter than smallestUnit`);
+    }
+    const increment = incrementOf(given, EXACT_UNITS[smallest], largest === smallest);
+    const length = LENGTHS[smallest] * BigInt(increment);
+    return Duration.fromNanoseconds(rounded(nanoseconds, length, modeOf(given, "halfExpand")), EXACT_UNITS[largest]);
+  }
+
+  /** How many of a unit (`unit`) the duration is, with a fraction; RangeError for years, months and weeks. */
+  total(options) {
+    const { unit } = typeof options === "string" ? { unit: options } : optionsOf(options ?? null);
+    const index = EXACT_UNITS.indexOf(unitOf(unit, "unit", EXACT_UNITS));
+    return nearest(this.totalNanoseconds, LENGTHS[index]);
+  }
+
   /** The first field that is not 0, or else the last. */
   get #largest() {
     const found = this.#fields.findIndex((it) => it !== 0);
@@ -197,6 +312,11 @@ export class Duration {
 
   toJSON() {
     return this.toString();
+  }
+
+  /** The text in the words of a language, by the host's `Intl.DurationFormat`; that of ISO 8601 if it has none. */
+  toLocaleString(locales, options) {
+    return Intl.DurationFormat ? new Intl.DurationFormat(locales, options).format(this) : this.toString();
   }
 
   /** Durations are compared by `Duration.compare`. */

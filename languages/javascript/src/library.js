@@ -25,26 +25,15 @@ function instantiate() {
   try {
     return new WebAssembly.Instance(new WebAssembly.Module(bytes)).exports;
   } catch (cause) {
-    const hosts = "Chromium 133, Firefox 134, node 24, or node 20 and 22 with --experimental-wasm-memory64";
-    throw new Error(`WebAssembly has no 64-bit memories here, which need ${hosts}`, { cause });
+    const hosts = "Chromium 85, Firefox 78, Safari 15 or node 20";
+    throw new Error(`the module does not load here: it needs WebAssembly as ${hosts} have it`, { cause });
   }
 }
 
 export const library = instantiate();
 
-/**
- * Grows the memory by a page, and answers how many it had; node 20 and 22 take and answer numbers, all others BigInts.
- */
-function grow(memory) {
-  try {
-    return BigInt(memory.grow(1n));
-  } catch {
-    return BigInt(memory.grow(1));
-  }
-}
-
 /** The first byte of a page behind the module's own memory. */
-const ROOM = grow(library.memory) * 65_536n;
+const ROOM = BigInt(library.memory.grow(1)) * 65_536n;
 
 const view = new DataView(library.memory.buffer, Number(ROOM), 128);
 const textBytes = new Uint8Array(library.memory.buffer, Number(ROOM + TEXT), LONGEST);
@@ -86,8 +75,17 @@ export function distance(moment, base) {
   return answered();
 }
 
+/** The characters of ASCII, by their numbers. */
+const ASCII = Array.from({ length: 128 }, (_, code) => String.fromCharCode(code));
+
 /** The text that a function left in the room, in so many bytes. */
-const written = (length) => String.fromCharCode(...textBytes.subarray(0, length));
+function written(length) {
+  let text = "";
+  for (let index = 0; index < length; index += 1) {
+    text += ASCII[textBytes[index]];
+  }
+  return text;
+}
 
 /** The text of a date. */
 export const textOfDate = (date) => written(library.calendar_write_date(date, ROOM + TEXT, BigInt(LONGEST)));
@@ -96,10 +94,15 @@ export const textOfDate = (date) => written(library.calendar_write_date(date, RO
 export const textOfDateTime = (moment) =>
   written(library.calendar_write_date_time(put(FIRST, moment), ROOM + TEXT, BigInt(LONGEST)));
 
-/** Puts a text into the room: how many bytes it takes; undefined if it does not fit, so is too long for any date. */
+/** Puts a text of ASCII into the room: how many bytes it takes; undefined if it does not fit, so is too long for any date. */
 function putText(text) {
-  const { read, written: length } = new TextEncoder().encodeInto(text, textBytes);
-  return read === text.length ? BigInt(length) : undefined;
+  if (text.length > LONGEST) {
+    return undefined;
+  }
+  for (let index = 0; index < text.length; index += 1) {
+    textBytes[index] = text.charCodeAt(index);
+  }
+  return BigInt(text.length);
 }
 
 /** The date of a text. */

@@ -1,11 +1,11 @@
 /** Dates. */
 
 import { annotation, ISO8601, refuseArgument, refuseOther, withoutAnnotation } from "./calendar.js";
-import { Duration } from "./duration.js";
+import { daysOf, Duration, durationOf } from "./duration.js";
 import { library, NONE, readDate, textOfDate } from "./library.js";
 import { clipped, integer, isInt32, isUint32, largestUnitOf, overflowOf } from "./numbers.js";
 import { PlainDateTime } from "./plain_date_time.js";
-import { forLibrary, forTemporal } from "./texts.js";
+import { dateText, forTemporal } from "./texts.js";
 
 /** Tells the constructor that a number follows, which is that of a date. */
 const BY_NUMBER = Symbol("by number");
@@ -13,11 +13,14 @@ const BY_NUMBER = Symbol("by number");
 /** The first and the last year of the calendar. */
 const [FIRST_YEAR, LAST_YEAR] = [-262_143, 262_142];
 
-/** The nanoseconds of a day. */
-const DAY = 86_400_000_000_000n;
-
 /** The units of differences between dates. */
 const UNITS = ["year", "month", "week", "day"];
+
+/** What a text in the words of a language has, unless its options say so. */
+const DATE_ALONE = { year: "numeric", month: "numeric", day: "numeric" };
+
+/** The options that ask for parts of a date. */
+const DATE_PARTS = ["dateStyle", "weekday", ...Object.keys(DATE_ALONE)];
 
 /** From `M01` to `M12`. */
 const MONTH_CODE = /^M(0[1-9]|1[0-2])$/;
@@ -102,10 +105,10 @@ export class PlainDate {
         : numberOf(integer(isoYear, "year"), integer(isoMonth, "month"), integer(isoDay, "day"));
   }
 
-  /** The date that a function of the library answers; RangeError if none. */
+  /** The date that a function of the library answers; RangeError, which says why, if none. */
   static #found(number, why) {
     if (number === NONE) {
-      throw new RangeError(why);
+      throw new RangeError(why());
     }
     return new PlainDate(BY_NUMBER, number);
   }
@@ -114,7 +117,7 @@ export class PlainDate {
   static from(item, options) {
     const overflow = overflowOf(options);
     if (typeof item === "string") {
-      return PlainDate.#found(readDate(forLibrary(withoutAnnotation(item))), `${JSON.stringify(item)}: no text of a date`);
+      return PlainDate.#found(readDate(dateText(withoutAnnotation(item))), () => `${JSON.stringify(item)}: no text of a date`);
     }
     if (item instanceof PlainDate) {
       return new PlainDate(BY_NUMBER, item.#number);
@@ -143,14 +146,14 @@ export class PlainDate {
   static fromDayNumber(number) {
     const days = integer(number, "day number");
     const isDate = isInt32(days) && library.calendar_year(days) !== NONE;
-    return PlainDate.#found(isDate ? days : NONE, `day number ${days}: no date`);
+    return PlainDate.#found(isDate ? days : NONE, () => `day number ${days}: no date`);
   }
 
   /** The date of a year and a day of it from 1 to 366 (ISO 8601 ordinal date). */
   static fromDayOfYear(year, dayOfYear) {
     const [named, day] = [integer(year, "year"), integer(dayOfYear, "day of the year")];
     const number = isInt32(named) && isUint32(day) ? library.calendar_from_yo(named, day) : NONE;
-    return PlainDate.#found(number, `day ${day} of year ${named}: no date`);
+    return PlainDate.#found(number, () => `day ${day} of year ${named}: no date`);
   }
 
   /** The date of an ISO year, a week of it and a weekday from 1 for Monday to 7 (ISO 8601 week date). */
@@ -159,7 +162,7 @@ export class PlainDate {
     const weekday = integer(dayOfWeek, "weekday");
     const isNamed = isInt32(year) && isUint32(week) && isUint32(weekday);
     const number = isNamed ? library.calendar_from_isoywd(year, week, weekday) : NONE;
-    return PlainDate.#found(number, `weekday ${weekday} of week ${week} of year ${year}: no date`);
+    return PlainDate.#found(number, () => `weekday ${weekday} of week ${week} of year ${year}: no date`);
   }
 
   /** The n-th day of a month with a weekday, counted from 1. */
@@ -168,7 +171,7 @@ export class PlainDate {
     const isNamed = isInt32(named) && others.every(isUint32);
     const number = isNamed ? library.calendar_from_weekday_of_month(named, ...others) : NONE;
     const [numbered, weekday, count] = others;
-    return PlainDate.#found(number, `weekday ${weekday}, number ${count}, of month ${numbered} of ${named}: no date`);
+    return PlainDate.#found(number, () => `weekday ${weekday}, number ${count}, of month ${numbered} of ${named}: no date`);
   }
 
   /** -1 if the first of two dates is the earlier, 1 if it is the later, 0 if they are the same. */
@@ -256,13 +259,13 @@ export class PlainDate {
   add(duration, options) {
     const by = Duration.from(duration);
     const overflow = overflowOf(options);
-    const why = `${this} moved by ${by} lies beyond the calendar`;
-    const landed = PlainDate.#found(library.calendar_add_months(this.#number, BigInt(by.totalMonths)), why);
+    const why = () => `${this} moved by ${by} lies beyond the calendar`;
+    const [months, days] = [by.totalMonths, daysOf(by)];
+    const landed = months === 0 ? this : PlainDate.#found(library.calendar_add_months(this.#number, BigInt(months)), why);
     if (overflow === "reject" && landed.day !== this.day) {
       throw new RangeError(`day ${this.day}: the month has ${landed.daysInMonth} days`);
     }
-    const days = BigInt(by.weeks) * 7n + by.exactNanoseconds / DAY;
-    return PlainDate.#found(library.calendar_add_days(landed.#number, days), why);
+    return PlainDate.#found(library.calendar_add_days(landed.#number, BigInt(days)), why);
   }
 
   /** The date so much earlier, as `add` of the duration negated. */
@@ -275,10 +278,10 @@ export class PlainDate {
     const end = PlainDate.from(other);
     const unit = largestUnitOf(options, UNITS, "day");
     const months = unit === "year" || unit === "month" ? this.#monthsUntil(end) : 0;
-    const days = end.#number - this.add({ months }).#number;
+    const days = end.#number - (months === 0 ? this.#number : library.calendar_add_months(this.#number, BigInt(months)));
     const years = unit === "year" ? Math.trunc(months / 12) : 0;
     const weeks = unit === "week" ? Math.trunc(days / 7) : 0;
-    return new Duration(years, months - 12 * years, weeks, days - 7 * weeks);
+    return durationOf(years, months - 12 * years, weeks, days - 7 * weeks, 0, 0, 0, 0, 0, 0);
   }
 
   /** How far it is from another date, as `until` negated. */
@@ -297,7 +300,7 @@ export class PlainDate {
   everyMonths(months, index) {
     const [step, count] = [integer(months, "months"), integer(index, "index")];
     const number = isInt32(step) && isUint32(count) ? library.calendar_every_months(this.#number, step, count) : NONE;
-    return PlainDate.#found(number, `${this} moved by ${count} times ${step} months lies beyond the calendar`);
+    return PlainDate.#found(number, () => `${this} moved by ${count} times ${step} months lies beyond the calendar`);
   }
 
   /** The whole years since an earlier date; RangeError if it is later. From 29 February they are whole on 1 March. */
@@ -314,13 +317,13 @@ export class PlainDate {
   firstOfWeek(start = 1) {
     const weekday = integer(start, "weekday");
     const number = isUint32(weekday) ? library.calendar_week_first_day(this.#number, weekday) : NONE;
-    return PlainDate.#found(number, `the week of ${this} from weekday ${weekday}: no date`);
+    return PlainDate.#found(number, () => `the week of ${this} from weekday ${weekday}: no date`);
   }
 
   /** The first date from this one on, itself counted, that falls on one of the weekdays. */
   firstOn(...daysOfWeek) {
     const number = library.calendar_first_on(this.#number, setOf(daysOfWeek));
-    return PlainDate.#found(number, `no date from ${this} on falls on ${daysOfWeek.join(", ") || "no weekday"}`);
+    return PlainDate.#found(number, () => `no date from ${this} on falls on ${daysOfWeek.join(", ") || "no weekday"}`);
   }
 
   /** Whether it is the same date. */
@@ -345,6 +348,16 @@ export class PlainDate {
 
   toJSON() {
     return this.toString();
+  }
+
+  /** The text in the words of a language, by the host's `Intl.DateTimeFormat`. */
+  toLocaleString(locales, options) {
+    const asked = optionsOf(options);
+    if (asked.timeStyle !== undefined) {
+      throw new TypeError("timeStyle: a date has no time");
+    }
+    const isNamed = DATE_PARTS.some((it) => asked[it] !== undefined);
+    return PlainDateTime.from(this).toLocaleString(locales, isNamed ? asked : { ...DATE_ALONE, ...asked });
   }
 
   /** Dates are compared by `PlainDate.compare`. */

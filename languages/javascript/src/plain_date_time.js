@@ -1,11 +1,12 @@
 /** Dates with a time of day. */
 
 import { annotation, refuseArgument, withoutAnnotation } from "./calendar.js";
-import { Duration } from "./duration.js";
-import { dateOf, dateTimeAt, distance, moved, NONE, readDate, readDateTime, secondOfDayOf, textOfDateTime } from "./library.js";
-import { between, clipped, integer, largestUnitOf, overflowOf, refuseRounding } from "./numbers.js";
+import { Duration, secondsOf } from "./duration.js";
+import { dateOf, dateTimeAt, distance, moved, NONE, readDateTime, secondOfDayOf, textOfDateTime } from "./library.js";
+import { between, clipped, integer, largestUnitOf, optionsOf, overflowOf, refuseRounding } from "./numbers.js";
 import { PlainDate, replaced } from "./plain_date.js";
-import { forLibrary, forTemporal } from "./texts.js";
+import { CLOCK_UNITS, incrementOf, modeOf, rounded, unitOf } from "./rounding.js";
+import { dateTimeText, forTemporal } from "./texts.js";
 
 /** Tells the constructor that the two numbers follow that a date-time is. */
 const BY_NUMBERS = Symbol("by numbers");
@@ -15,6 +16,12 @@ const SECOND = 1_000_000_000;
 
 /** The parts of a time of day, and the greatest number of each; the second 60 is a leap second. */
 const TIME = { hour: 23, minute: 59, second: 60, millisecond: 999, microsecond: 999, nanosecond: 999 };
+
+/** What a text in the words of a language shows, unless its options ask for parts. */
+const SHOWN = { year: "numeric", month: "numeric", day: "numeric", hour: "numeric", minute: "numeric", second: "numeric" };
+
+/** The options that ask for parts. */
+const SHOWN_PARTS = ["dateStyle", "timeStyle", "weekday", "dayPeriod", "fractionalSecondDigits", ...Object.keys(SHOWN)];
 
 /** The units of differences between date-times. */
 const UNITS = ["day", "hour", "minute", "second", "millisecond", "microsecond", "nanosecond"];
@@ -30,13 +37,6 @@ function momentAt(date, time) {
     throw new RangeError(`${date} has no such time`);
   }
   return moment;
-}
-
-/** The seconds and nanoseconds of a duration's nanoseconds. */
-function spanOf(nanoseconds) {
-  const seconds = nanoseconds / BigInt(SECOND);
-  const nanos = Number(nanoseconds - seconds * BigInt(SECOND));
-  return nanos < 0 ? { seconds: seconds - 1n, nanos: nanos + SECOND } : { seconds, nanos };
 }
 
 /**
@@ -64,10 +64,10 @@ export class PlainDateTime {
     }
   }
 
-  /** The date-time that a function of the library answers; RangeError if none. */
+  /** The date-time that a function of the library answers; RangeError, which says why, if none. */
   static #found(moment, why) {
     if (moment === undefined) {
-      throw new RangeError(why);
+      throw new RangeError(why());
     }
     return new PlainDateTime(BY_NUMBERS, moment);
   }
@@ -95,10 +95,8 @@ export class PlainDateTime {
   }
 
   static #read(text) {
-    const known = forLibrary(withoutAnnotation(text));
-    const date = readDate(known);
-    const moment = date === NONE ? readDateTime(known) : dateTimeAt(date, 0, 0);
-    return PlainDateTime.#found(moment, `${JSON.stringify(text)}: no text of a date-time`);
+    const moment = readDateTime(dateTimeText(withoutAnnotation(text)));
+    return PlainDateTime.#found(moment, () => `${JSON.stringify(text)}: no text of a date-time`);
   }
 
   /**
@@ -108,7 +106,7 @@ export class PlainDateTime {
   static fromUnix(seconds, nanoseconds = 0) {
     const counted = between(seconds, "seconds", Number.MIN_SAFE_INTEGER, Number.MAX_SAFE_INTEGER);
     const moment = { seconds: BigInt(counted), nanos: between(nanoseconds, "nanoseconds", 0, 2 * SECOND - 1) };
-    const why = `${counted} seconds and ${moment.nanos} nanoseconds since 1970: no date-time`;
+    const why = () => `${counted} seconds and ${moment.nanos} nanoseconds since 1970: no date-time`;
     return PlainDateTime.#found(dateOf(moment) === NONE ? undefined : moment, why);
   }
 
@@ -178,10 +176,17 @@ export class PlainDateTime {
    */
   add(duration, options) {
     const by = Duration.from(duration);
-    const date = this.toPlainDate().add({ months: by.totalMonths }, options);
-    const landed = dateTimeAt(date.dayNumber, this.#secondOfDay, this.#moment.nanos);
-    const nanoseconds = by.exactNanoseconds + BigInt(by.weeks) * 604_800_000_000_000n;
-    return PlainDateTime.#found(moved(landed, spanOf(nanoseconds)), `${this} moved by ${by} lies beyond the calendar`);
+    const landed = this.#monthsLater(by.totalMonths, options);
+    return PlainDateTime.#found(moved(landed, secondsOf(by)), () => `${this} moved by ${by} lies beyond the calendar`);
+  }
+
+  #monthsLater(months, options) {
+    if (months === 0) {
+      overflowOf(options);
+      return this.#moment;
+    }
+    const date = this.toPlainDate().add({ months }, options);
+    return dateTimeAt(date.dayNumber, this.#secondOfDay, this.#moment.nanos);
   }
 
   /** The date-time so much earlier, as `add` of the duration negated. */
@@ -207,6 +212,24 @@ export class PlainDateTime {
     return Duration.fromNanoseconds(seconds * BigInt(SECOND) + BigInt(nanos), unit);
   }
 
+  /**
+   * The date-time at a whole multiple of a unit (`smallestUnit`, `roundingIncrement`), counted from midnight. It is the
+   * nearest one, and the later of two that are as near, unless `roundingMode` asks for another. A leap second is
+   * rounded as the last nanosecond of the second 59.
+   */
+  round(options) {
+    const given = typeof options === "string" ? { smallestUnit: options } : optionsOf(options ?? null);
+    const unit = unitOf(given.smallestUnit, "smallestUnit", ["day", ...CLOCK_UNITS]);
+    const increment = incrementOf(given, unit, false);
+    const nanos = Math.min(this.#moment.nanos, SECOND - 1);
+    const ofDay = BigInt(this.#secondOfDay) * BigInt(SECOND) + BigInt(nanos);
+    const length = BigInt(Duration.from({ [`${unit}s`]: increment }).exactNanoseconds);
+    const date = this.toPlainDate();
+    const midnight = dateTimeAt(date.dayNumber, 0, 0);
+    const by = secondsOf(Duration.fromNanoseconds(rounded(ofDay, length, modeOf(given, "halfExpand"))));
+    return PlainDateTime.#found(moved(midnight, by), () => `${this} rounded to the ${unit} lies beyond the calendar`);
+  }
+
   /** Whether it is the same date-time. */
   equals(other) {
     return PlainDateTime.compare(this, other) === 0;
@@ -221,6 +244,14 @@ export class PlainDateTime {
 
   toJSON() {
     return this.toString();
+  }
+
+  /** The text in the words of a language, by the host's `Intl.DateTimeFormat`; a leap second is shown as 59. */
+  toLocaleString(locales, options) {
+    const milliseconds = 1_000 * this.unixSeconds + Math.min(Math.trunc(this.#moment.nanos / 1_000_000), 999);
+    const asked = optionsOf(options);
+    const isNamed = SHOWN_PARTS.some((it) => asked[it] !== undefined);
+    return new Intl.DateTimeFormat(locales, { ...(isNamed ? {} : SHOWN), ...asked, timeZone: "UTC" }).format(milliseconds);
   }
 
   /** Date-times are compared by `PlainDateTime.compare`. */

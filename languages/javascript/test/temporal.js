@@ -85,6 +85,13 @@
     (it, a) => it.Duration.compare(a.exact, a.otherExact),
     (it, a) => it.Duration.from(a.duration).negated(),
     (it, a) => it.Duration.from(a.duration).abs(),
+    (it, a) => it.Duration.from(a.exact).round(a.rounding),
+    (it, a) => it.Duration.from(a.exact).total(a.rounding.smallestUnit),
+    (it, a) => it.PlainDateTime.from({ ...a.date, ...a.time }).round(a.rounding),
+    (it, a) => it.PlainDateTime.from(a.shortText),
+    (it, a) => it.PlainDate.from(a.shortText),
+    (it, a) => it.PlainDate.from(a.date).toLocaleString(a.language),
+    (it, a) => it.PlainDateTime.from({ ...a.date, ...a.time }).toLocaleString(a.language),
   ];
   const isBeyond = (fields) => fields.year < -271_820 || fields.year > 275_759 || fields.year < -262_143 || fields.year > 262_142;
   let alike = 0;
@@ -98,6 +105,11 @@
       exact: duration(exact), otherExact: duration(exact), unit: among("day", "weeks", "month", "years", "auto"),
       exactUnit: among("auto", "day", "hours", "minute", "seconds", "millisecond"), durationField: among(...UNITS, "sign", "blank"),
     };
+    given.rounding = { smallestUnit: among("day", "hours", "minute", "second", "milliseconds", "microsecond", "nanosecond") };
+    given.rounding.roundingMode = among("ceil", "floor", "expand", "trunc", "halfCeil", "halfFloor", "halfExpand", "halfTrunc", "halfEven", undefined);
+    given.rounding.roundingIncrement = among(1, 1, 2, 5, 12, 15, 20, 500);
+    given.language = among("en-US", "de-DE", "fr-FR", "ja-JP", "sv-SE");
+    given.shortText = texts(among("20240229", "2024-02-29T12", "2024-02-29 12:30", "20240229T1230", "20240229t123059,25", "+0120240229T12", "-000000-01-01"));
     // (a leap second is a second of its own here, and 59 for Temporal)
     given.number = given.clock === "second" ? draw(60) : among(draw(13), draw(40), draw(1_100));
     const sampled = answered(() => Temporal.PlainDate.from(given.date));

@@ -162,3 +162,56 @@ test("nanoseconds beyond a Number", () => {
   assert.equal(Duration.fromNanoseconds(2n ** 53n + 1n, "nanosecond").nanoseconds, 2 ** 53);
   assert.equal(Duration.fromNanoseconds(2n ** 53n + 1n, "second").totalNanoseconds, 2n ** 53n + 1n);
 });
+
+test("rounding", () => {
+  for (const [text, options, rounded] of [
+    ["PT1H29M59S", "hour", "PT1H"], ["PT1H30M", "hour", "PT2H"], ["-PT1H30M", "hour", "-PT2H"], ["PT90M", { largestUnit: "hour" }, "PT1H30M"],
+    ["PT1.5S", { smallestUnit: "second", roundingMode: "halfEven" }, "PT2S"], ["PT2.5S", { smallestUnit: "second", roundingMode: "halfEven" }, "PT2S"],
+    ["-PT1.1S", { smallestUnit: "second", roundingMode: "ceil" }, "-PT1S"], ["-PT1.1S", { smallestUnit: "second", roundingMode: "floor" }, "-PT2S"],
+    ["PT7M", { smallestUnit: "minute", roundingIncrement: 15 }, "PT0S"], ["PT8M", { smallestUnit: "minute", roundingIncrement: 15 }, "PT15M"],
+    ["PT36H", "day", "P2D"], ["P1DT30M", { largestUnit: "hours", smallestUnit: "hours", roundingMode: "expand" }, "PT25H"],
+  ]) {
+    assert.equal(`${Duration.from(text).round(options)}`, rounded);
+  }
+  for (const [text, unit, total] of [["PT90M", "hour", 1.5], ["-PT90M", "day", -0.0625], ["P1DT1S", "second", 86_401], ["PT0.1S", "hours", 0.1 / 3_600]]) {
+    assert.equal(Duration.from(text).total({ unit }), total);
+    assert.equal(Duration.from(text).total(unit), total);
+  }
+  for (const [text, options, rounded] of [
+    ["2024-02-29T23:30:00", "hour", "2024-03-01T00:00:00"], ["2024-02-29T12:00:00", "day", "2024-03-01T00:00:00"],
+    ["2024-02-29T11:52:30", { smallestUnit: "minute", roundingIncrement: 15 }, "2024-02-29T12:00:00"],
+    ["2024-02-29T11:59:59.999", { smallestUnit: "second", roundingMode: "trunc" }, "2024-02-29T11:59:59"],
+    ["2016-12-31T23:59:60.25", "minute", "2017-01-01T00:00:00"], ["2016-12-31T23:59:60.75", { smallestUnit: "second", roundingMode: "floor" }, "2016-12-31T23:59:59"],
+  ]) {
+    assert.equal(`${PlainDateTime.from(text).round(options)}`, rounded);
+  }
+  for (const options of [{}, { smallestUnit: "fortnight" }, { smallestUnit: "hour", roundingIncrement: 5 }, { smallestUnit: "hour", roundingMode: "up" }, { largestUnit: "second", smallestUnit: "hour" }]) {
+    refused(() => Duration.from("PT1H").round(options));
+  }
+  refused(() => Duration.from("P1M").round("day"));
+  refused(() => Duration.from("P1W").total("day"));
+  refused(() => PlainDateTime.from("+262142-12-31T23:59").round("hour"));
+  refused(() => PlainDateTime.from("2024-02-29").round({ smallestUnit: "day", roundingIncrement: 2 }));
+  assert.throws(() => Duration.from("PT1H").round(), TypeError);
+});
+
+test("short texts, and texts in the words of a language", () => {
+  for (const [text, whole] of [
+    ["20240229", "2024-02-29T00:00:00"], ["2024-02-29T12", "2024-02-29T12:00:00"], ["20240229T1230", "2024-02-29T12:30:00"],
+    ["2024-02-29 12:30", "2024-02-29T12:30:00"], ["20240229t123045,5", "2024-02-29T12:30:45.5"], ["+0120240229T12", "+012024-02-29T12:00:00"],
+  ]) {
+    assert.equal(`${PlainDateTime.from(text)}`, whole);
+    assert.equal(`${PlainDate.from(text)}`, whole.slice(0, whole.indexOf("T")));
+  }
+  for (const text of ["2024-0229", "202402-29", "2024-02-29T", "2024-02-29T1", "2024-02-29T12:3045", "2024-02-29T12.5", "-000000-01-01", "24-02-29"]) {
+    refused(() => PlainDate.from(text));
+    refused(() => PlainDateTime.from(text));
+  }
+  const [date, moment] = [new PlainDate(2024, 2, 29), PlainDateTime.from("2016-12-31T23:59:60.5")];
+  assert.equal(date.toLocaleString("en-US"), "2/29/2024");
+  assert.equal(date.toLocaleString("de-DE", { dateStyle: "long" }), "29. Februar 2024");
+  assert.equal(date.toLocaleString("en-GB", { weekday: "long" }), "Thursday");
+  assert.equal(moment.toLocaleString("de-DE"), "31.12.2016, 23:59:59");
+  assert.equal(new PlainDate(-262_143, 1, 1).toLocaleString("en-US", { year: "numeric", era: "short" }), "262144 BC");
+  assert.throws(() => date.toLocaleString("en-US", { timeStyle: "short" }), TypeError);
+});

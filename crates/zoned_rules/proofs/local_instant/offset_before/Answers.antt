@@ -1,8 +1,8 @@
 use Rattle.std.proofs.Common.{◌≡◌, rules, ℤ, pos, SFits, ◌+ℤ◌, ◌-ℤ◌, ◌≤ℤ◌, ◌<ℤ◌, of_z, to_z, w64, arith, refl, subst, sym}
 use Rattle.std.proofs.lemmas.Int.{int_min_is, ints, to_z-of_z}
 use Rattle.chrono_datetime.proofs.Signed.{casts}
+use Rattle.chrono_zoned.proofs.SecondSums.{carried}
 use Rattle.zoned_rules.specs.Private.{IsOffsetBefore}
-use Rattle.zoned_rules.proofs.Fitting.{carried}
 use Rattle.zoned_rules.proofs.Standing.{IsNever, shorter, walk_begins, walk_ends, walk_goes_on}
 use Rattle.zoned_rules.proofs.local_instant.offset_before.Goals as goal
 

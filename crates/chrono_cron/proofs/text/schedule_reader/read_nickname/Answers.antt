@@ -18,13 +18,13 @@ pub returns-in-Ok-read_fields-clause-read : goal.returns-in-Ok-read_fields-claus
 returns-in-Ok-read_fields-clause-read c =
     let word = c.in-Some.word in
     let meant = nickname_fields c.args.text.now c.nickname_meaning.result.now (word.place, word.text.now) c.end.result c.in-Some.ensures.some c.end.ensures c.in_default-next_word.ensures.none c.nickname_meaning.ensures in
-    c.in-Ok-read_fields.ensures.read c.args.text.now (meant ∙ words_of c.nickname_meaning.result.now _ c.in-Ok.ensures.five)
+    c.in-Ok-read_fields.ensures.read c.args.text.now (meant ∙ words_of 0 c.nickname_meaning.result.now _ c.in-Ok.ensures.five)
 
 pub returns-in-Err-read_fields-clause-none : goal.returns-in-Err-read_fields-clause-none
 returns-in-Err-read_fields-clause-none c = λ s is.
     let word = c.in-Some.word in
     let meant = nickname_fields c.args.text.now c.nickname_meaning.result.now (word.place, word.text.now) c.end.result c.in-Some.ensures.some c.end.ensures c.in_default-next_word.ensures.none c.nickname_meaning.ensures in
-    none-wrong c.args.text.now _ s _ (meant ∙ words_of c.nickname_meaning.result.now _ c.in-Ok.ensures.five) c.in-Err-read_fields.ensures.wrong is
+    none-wrong c.args.text.now _ s _ (meant ∙ words_of 0 c.nickname_meaning.result.now _ c.in-Ok.ensures.five) c.in-Err-read_fields.ensures.wrong is
 
 pub returns-in-Err-clause-none : goal.returns-in-Err-clause-none
 returns-in-Err-clause-none c = λ s is.

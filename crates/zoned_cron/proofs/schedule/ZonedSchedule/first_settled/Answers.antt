@@ -1,9 +1,10 @@
 use Rattle.std.proofs.Common.{◌≡◌, rules, ℤ, pos, SFits, ◌+ℤ◌, ◌-ℤ◌, ◌≤ℤ◌, ◌<ℤ◌, of_z, to_z, w64, ap, arith, refl, subst, sym}
 use Rattle.std.proofs.lemmas.Int.{ints, to_z-of_z}
 use Rattle.chrono_datetime.proofs.Signed.{casts}
+use Rattle.chrono_zoned.proofs.SecondSums.{carried, fits_by, offset_carried}
 use Rattle.zoned_cron.specs.Private.{IsPlanned}
 use Rattle.zoned_cron.proofs.Stretches.{first_least, first_there, if_three, near_shows, planned_date, settled_within}
-use Rattle.zoned_cron.proofs.Carried.{carried, date_near, days_before, days_behind, fits_by, minus, offset_carried, plus, showing_days_behind, showing_near, shown_near}
+use Rattle.zoned_cron.proofs.Carried.{date_near, days_before, days_behind, minus, plus, showing_days_behind, showing_near, shown_near}
 use Rattle.zoned_cron.proofs.schedule.ZonedSchedule.first_settled.Goals as goal
 
 pub overflow_sub-near : goal.overflow_sub-near

@@ -3,10 +3,12 @@ use Rattle.std.proofs.lemmas.Int.{ints, to_z-of_z}
 use Rattle.std.proofs.lemmas.Option.{IfSome_then}
 use Rattle.chrono_instant.specs.Instants.{epoch_second}
 use Rattle.chrono_instant.proofs.InstantLemmas.{IsEpochSecond-moment}
+use Rattle.chrono_zoned.proofs.OptionLemmas.{one_of}
+use Rattle.chrono_zoned.proofs.HeldSecondLemmas.{later_second}
 use Rattle.zoned_cron.specs.Fires.{Fires}
 use Rattle.zoned_cron.specs.Private.{TakesDated}
 use Rattle.zoned_cron.proofs.Instants.{last_of_all}
-use Rattle.zoned_cron.proofs.Windows.{closer_back, covers_all_behind, covers_far_behind, covers_previous, due_fraction, fires_last, later_second, one_of}
+use Rattle.zoned_cron.proofs.Windows.{closer_back, covers_all_behind, covers_far_behind, covers_previous, due_fraction, fires_last}
 use Rattle.zoned_cron.proofs.schedule.ZonedSchedule.last_before.Goals as goal
 
 pub returns-in_default-prev_before-clause-fires : goal.returns-in_default-prev_before-clause-fires
@@ -40,7 +42,7 @@ loop-local-smaller g c =
     let next = c.in-Some-prev_before.earlier in
     let exists = c.date_times_exist-in-loop-local.ensures in
     let whole = due_fraction c.args.self.now.schedule.sets local c.loop-local.invariant.1 in
-    closer_back (epoch_second next) (epoch_second local) (later_second next local exists c.loop-local.invariant.0 c.in-Some-prev_before.ensures.earlier whole) (IsEpochSecond-moment next exists).0
+    closer_back (epoch_second next) (epoch_second local) (later_second next local exists c.in-Some-prev_before.ensures.earlier whole) (IsEpochSecond-moment next exists).0
 
 pub loop-local-preserved : goal.loop-local-preserved
 loop-local-preserved g c =

@@ -2,8 +2,9 @@ use Rattle.std.proofs.Common.{◌≡◌, of_z, to_z, w64, arith}
 use Rattle.std.proofs.lemmas.Int.{ints, to_z-of_z}
 use Rattle.std.proofs.lemmas.Bool.{both_ways}
 use Rattle.std.proofs.lemmas.Option.{IfSome_then}
+use Rattle.chrono_zoned.proofs.OptionLemmas.{if_none}
 use Rattle.chrono_cron.specs.Due.{is_due}
-use Rattle.zoned_cron.proofs.Windows.{before_last, if_none, none_behind, none_up_to}
+use Rattle.zoned_cron.proofs.Windows.{before_last, none_behind, none_up_to}
 use Rattle.zoned_cron.proofs.schedule.ZonedSchedule.last_planned.Goals as goal
 
 pub returns-in-Some-clause-later : goal.returns-in-Some-clause-later

@@ -3,9 +3,10 @@ use Rattle.std.proofs.lemmas.Int.{ints, to_z-of_z}
 use Rattle.chrono_datetime.proofs.Signed.{casts}
 use Rattle.chrono_datetime.specs.Moment.{IsMoment}
 use Rattle.chrono_instant.specs.Instants.{epoch_second}
+use Rattle.chrono_zoned.proofs.SecondSums.{near}
+use Rattle.chrono_zoned.proofs.HeldSecondLemmas.{later_second}
 use Rattle.zoned_cron.specs.Private.{IsPlanned}
 use Rattle.zoned_cron.proofs.Stretches.{all_within, if_three, last_there, planned_at, settled_greatest}
-use Rattle.zoned_cron.proofs.Windows.{later_second, near}
 use Rattle.zoned_cron.proofs.schedule.ZonedSchedule.last_settled.Goals as goal
 
 pub returns-clause-fires : goal.returns-clause-fires
@@ -32,7 +33,7 @@ returns-clause-fires g c =
     let at : to_z w64 (of_z w64 c.timestamp.result) ≡ epoch_second q = to_z-of_z w64 c.timestamp.result (record { sfits = c.timestamp.type_inv }) ∙ c.timestamp.ensures.value in
     let exists : IsMoment k = c.in-Some.ensures.value.exists in
     let there = c.settled_instant.ensures in
-    let sooner : epoch_second q <ℤ local = omega (arith, ints, later_second q k c.date_times_exist.ensures exists c.in-Some-prev_before.ensures.earlier c.in-Some.ensures.value.past, c.in-Some.ensures.value.second) in
+    let sooner : epoch_second q <ℤ local = omega (arith, ints, later_second q k c.date_times_exist.ensures c.in-Some-prev_before.ensures.earlier c.in-Some.ensures.value.past, c.in-Some.ensures.value.second) in
     if_three c.settled_instant.result there.shows there.settled there.exists (λ x shows settled date.
     last_there s ahead p from until stop local (to_z w64 (of_z w64 c.timestamp.result)) x stretch.ensures.holds begun high is (omega (arith, ints, at, sooner))
     (subst (λ (l : ℤ). IsPlanned s l) (sym at) (planned_at s q c.date_times_exist.ensures c.in-Some-prev_before.ensures.member)) shows settled date)

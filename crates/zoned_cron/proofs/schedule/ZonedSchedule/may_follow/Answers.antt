@@ -3,9 +3,10 @@ use Rattle.std.proofs.lemmas.Int.{ints, to_z-of_z}
 use Rattle.chrono_datetime.specs.Moment.{Moment}
 use Rattle.chrono_datetime.proofs.Signed.{casts}
 use Rattle.chrono_instant.specs.Instants.{IsEpochSecond, epoch_second}
+use Rattle.chrono_zoned.proofs.SecondSums.{near}
 use Rattle.zoned_cron.specs.Private.{FiresFor}
 use Rattle.zoned_cron.proofs.Stretches.{none_follows}
-use Rattle.zoned_cron.proofs.Windows.{near, too_early}
+use Rattle.zoned_cron.proofs.Windows.{too_early}
 use Rattle.zoned_cron.proofs.schedule.ZonedSchedule.may_follow.Goals as goal
 
 pub returns-in-Some-shown_at : goal.returns-in-Some-shown_at

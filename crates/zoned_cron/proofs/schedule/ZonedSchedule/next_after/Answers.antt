@@ -4,8 +4,10 @@ use Rattle.std.proofs.lemmas.Option.{IfSome_then}
 use Rattle.chrono_datetime.specs.Moment.{IsBefore, Moment}
 use Rattle.chrono_datetime.proofs.Signed.{casts}
 use Rattle.chrono_instant.specs.Instants.{epoch_second}
-use Rattle.zoned_cron.specs.Fires.{NotFiringAfter, NotFiringBetween}
-use Rattle.zoned_cron.proofs.Windows.{exists_there, fires_there, if_any, if_never, later_there, not_after, not_between}
+use Rattle.chrono_zoned.proofs.OptionLemmas.{if_any, if_never}
+use Rattle.chrono_zoned.proofs.HeldSecondLemmas.{holds_there, later_there, none_after, none_between}
+use Rattle.zoned_cron.specs.Fires.{Fires, NotFiringAfter, NotFiringBetween}
+use Rattle.zoned_cron.proofs.Windows.{exists_there}
 use Rattle.zoned_cron.proofs.schedule.ZonedSchedule.next_after.Goals as goal
 
 pub returns-in_err-first_after-clause-none : goal.returns-in_err-first_after-clause-none
@@ -16,7 +18,7 @@ returns-in_err-first_after-clause-none g c =
     let utc = c.naive_utc-utc.result in
     let same : utc ≡ c.args.start.utc = c.naive_utc-utc.ensures in
     let at : to_z w64 (of_z w64 c.timestamp.result) ≡ epoch_second utc = to_z-of_z w64 c.timestamp.result (record { sfits = c.timestamp.type_inv }) ∙ c.timestamp.ensures.value in
-    if_any c.from_residual.result (subst (λ (m : Moment). NotFiringAfter s ahead p m) same (not_after s ahead p utc c.in_err-first_after.ensures.least at c.date_times_exist.ensures))
+    if_any c.from_residual.result (subst (λ (m : Moment). NotFiringAfter s ahead p m) same (none_after (Fires s ahead p) utc c.in_err-first_after.ensures.least at c.date_times_exist.ensures))
 
 pub returns-clause-fires : goal.returns-clause-fires
 returns-clause-fires g c =
@@ -26,7 +28,7 @@ returns-clause-fires g c =
     let x = c.in_ok-first_after.field-0 in
     let ok = c.in_ok-first_after.ensures.fires in
     let is : to_z w64 (of_z w64 x) ≡ x = omega (arith, casts, ok.1.instant.utc) in
-    IfSome_then c.timestamp_opt.result c.timestamp_opt.ensures.instant (λ d h. fires_there s ahead p x d.utc h is ok.1)
+    IfSome_then c.timestamp_opt.result c.timestamp_opt.ensures.instant (λ d h. holds_there (Fires s ahead p) x d.utc h is ok.1)
 
 pub returns-clause-later : goal.returns-clause-later
 returns-clause-later g c =
@@ -54,7 +56,7 @@ returns-clause-least g c =
     let ok = c.in_ok-first_after.ensures.fires in
     let is : to_z w64 (of_z w64 x) ≡ x = omega (arith, casts, ok.1.instant.utc) in
     IfSome_then c.timestamp_opt.result c.timestamp_opt.ensures.instant (λ d h.
-    subst (λ (m : Moment). NotFiringBetween s ahead p m d.utc) same (not_between s ahead p utc d.utc x c.in_ok-first_after.ensures.least at h is c.date_times_exist.ensures))
+    subst (λ (m : Moment). NotFiringBetween s ahead p m d.utc) same (none_between (Fires s ahead p) utc d.utc x c.in_ok-first_after.ensures.least at h is c.date_times_exist.ensures))
 
 pub returns-clause-none : goal.returns-clause-none
 returns-clause-none g c =

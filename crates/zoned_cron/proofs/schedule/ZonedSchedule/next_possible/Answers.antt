@@ -2,8 +2,9 @@ use Rattle.std.proofs.Common.{◌≡◌, inl, inr, rules, ℤ, pos, SFits, ◌+�
 use Rattle.std.proofs.lemmas.Int.{by_lt_z, ints, to_z-of_z}
 use Rattle.chrono_zoned.specs.Zones.{HoldsUntil}
 use Rattle.std.specs.Prelude.{Some, None}
+use Rattle.chrono_zoned.proofs.SecondSums.{carried, fits_by, offset_carried}
 use Rattle.zoned_cron.proofs.Stretches.{planned_date, possible_least, possible_later, reaches, shows_more}
-use Rattle.zoned_cron.proofs.Carried.{carried, date_near, days_before, days_behind, fits_by, minus, no_day_sooner, no_sooner, offset_carried, plus, showing_near, shown_near}
+use Rattle.zoned_cron.proofs.Carried.{date_near, days_before, days_behind, minus, no_day_sooner, no_sooner, plus, showing_near, shown_near}
 use Rattle.zoned_cron.proofs.schedule.ZonedSchedule.next_possible.Goals as goal
 
 pub returns-then-is_long-clause-least : goal.returns-then-is_long-clause-least

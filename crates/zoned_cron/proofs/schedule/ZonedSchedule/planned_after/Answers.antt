@@ -3,9 +3,10 @@ use Rattle.std.proofs.lemmas.Bool.{both_ways}
 use Rattle.std.proofs.lemmas.Int.{by_lt_z, ints, to_z-of_z}
 use Rattle.chrono_instant.specs.Instants.{epoch_second}
 use Rattle.chrono_instant.proofs.InstantLemmas.{IsEpochSecond-moment}
+use Rattle.chrono_zoned.proofs.HeldSecondLemmas.{earlier_second}
 use Rattle.chrono_cron.specs.Due.{is_due}
 use Rattle.zoned_cron.proofs.Stretches.{planned_first, planned_later}
-use Rattle.zoned_cron.proofs.Windows.{earlier_second, none_from_first}
+use Rattle.zoned_cron.proofs.Windows.{none_from_first}
 use Rattle.zoned_cron.proofs.schedule.ZonedSchedule.planned_after.Goals as goal
 
 pub returns-in-Some-clause-planned : goal.returns-in-Some-clause-planned

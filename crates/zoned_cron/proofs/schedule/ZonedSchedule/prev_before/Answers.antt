@@ -3,8 +3,10 @@ use Rattle.std.proofs.lemmas.Int.{to_z-of_z}
 use Rattle.std.proofs.lemmas.Option.{IfSome_then}
 use Rattle.chrono_datetime.specs.Moment.{IsBefore, Moment}
 use Rattle.chrono_datetime.proofs.Signed.{casts}
-use Rattle.zoned_cron.specs.Fires.{NotFiringBefore, NotFiringBetween}
-use Rattle.zoned_cron.proofs.Windows.{IsBegunBy, earlier_there, exists_there, fires_there, if_any, if_never, not_before, not_between_back}
+use Rattle.chrono_zoned.proofs.OptionLemmas.{if_any, if_never}
+use Rattle.chrono_zoned.proofs.HeldSecondLemmas.{IsFirstFrom, earlier_there, holds_there, none_before, none_between_back}
+use Rattle.zoned_cron.specs.Fires.{Fires, NotFiringBefore, NotFiringBetween}
+use Rattle.zoned_cron.proofs.Windows.{exists_there}
 use Rattle.zoned_cron.proofs.schedule.ZonedSchedule.prev_before.Goals as goal
 
 pub returns-in_err-last_before-clause-none : goal.returns-in_err-last_before-clause-none
@@ -16,8 +18,8 @@ returns-in_err-last_before-clause-none g c =
     let same : utc ≡ c.args.start.utc = c.naive_utc.ensures in
     let end = to_z w64 (of_z w64 c.begun_by-end.result) in
     let fits : end ≡ c.begun_by-end.result = to_z-of_z w64 c.begun_by-end.result (record { sfits = c.begun_by-end.type_inv }) in
-    let begun : IsBegunBy end utc = record { whole = λ e. fits ∙ c.begun_by-end.ensures.whole e; within = λ e. fits ∙ c.begun_by-end.ensures.within e } in
-    if_any c.from_residual.result (subst (λ (m : Moment). NotFiringBefore s ahead p m) same (not_before s ahead p utc c.in_err-last_before.ensures.greatest begun c.begun_by-end.ensures.exists))
+    let begun : IsFirstFrom end utc = record { whole = λ e. fits ∙ c.begun_by-end.ensures.whole e; within = λ e. fits ∙ c.begun_by-end.ensures.within e } in
+    if_any c.from_residual.result (subst (λ (m : Moment). NotFiringBefore s ahead p m) same (none_before (Fires s ahead p) utc c.in_err-last_before.ensures.greatest begun c.begun_by-end.ensures.exists))
 
 pub returns-clause-fires : goal.returns-clause-fires
 returns-clause-fires g c =
@@ -27,7 +29,7 @@ returns-clause-fires g c =
     let x = c.in_ok-last_before.field-0 in
     let ok = c.in_ok-last_before.ensures.fires in
     let is : to_z w64 (of_z w64 x) ≡ x = omega (arith, casts, ok.1.instant.utc) in
-    IfSome_then c.timestamp_opt.result c.timestamp_opt.ensures.instant (λ d h. fires_there s ahead p x d.utc h is ok.1)
+    IfSome_then c.timestamp_opt.result c.timestamp_opt.ensures.instant (λ d h. holds_there (Fires s ahead p) x d.utc h is ok.1)
 
 pub returns-clause-earlier : goal.returns-clause-earlier
 returns-clause-earlier g c =
@@ -38,7 +40,7 @@ returns-clause-earlier g c =
     let same : utc ≡ c.args.start.utc = c.naive_utc.ensures in
     let end = to_z w64 (of_z w64 c.begun_by-end.result) in
     let fits : end ≡ c.begun_by-end.result = to_z-of_z w64 c.begun_by-end.result (record { sfits = c.begun_by-end.type_inv }) in
-    let begun : IsBegunBy end utc = record { whole = λ e. fits ∙ c.begun_by-end.ensures.whole e; within = λ e. fits ∙ c.begun_by-end.ensures.within e } in
+    let begun : IsFirstFrom end utc = record { whole = λ e. fits ∙ c.begun_by-end.ensures.whole e; within = λ e. fits ∙ c.begun_by-end.ensures.within e } in
     let x = c.in_ok-last_before.field-0 in
     let ok = c.in_ok-last_before.ensures.fires in
     let is : to_z w64 (of_z w64 x) ≡ x = omega (arith, casts, ok.1.instant.utc) in
@@ -54,12 +56,12 @@ returns-clause-greatest g c =
     let same : utc ≡ c.args.start.utc = c.naive_utc.ensures in
     let end = to_z w64 (of_z w64 c.begun_by-end.result) in
     let fits : end ≡ c.begun_by-end.result = to_z-of_z w64 c.begun_by-end.result (record { sfits = c.begun_by-end.type_inv }) in
-    let begun : IsBegunBy end utc = record { whole = λ e. fits ∙ c.begun_by-end.ensures.whole e; within = λ e. fits ∙ c.begun_by-end.ensures.within e } in
+    let begun : IsFirstFrom end utc = record { whole = λ e. fits ∙ c.begun_by-end.ensures.whole e; within = λ e. fits ∙ c.begun_by-end.ensures.within e } in
     let x = c.in_ok-last_before.field-0 in
     let ok = c.in_ok-last_before.ensures.fires in
     let is : to_z w64 (of_z w64 x) ≡ x = omega (arith, casts, ok.1.instant.utc) in
     IfSome_then c.timestamp_opt.result c.timestamp_opt.ensures.instant (λ d h.
-    subst (λ (m : Moment). NotFiringBetween s ahead p d.utc m) same (not_between_back s ahead p utc d.utc x c.in_ok-last_before.ensures.greatest h begun is c.begun_by-end.ensures.exists))
+    subst (λ (m : Moment). NotFiringBetween s ahead p d.utc m) same (none_between_back (Fires s ahead p) utc d.utc x c.in_ok-last_before.ensures.greatest h begun is c.begun_by-end.ensures.exists))
 
 pub returns-clause-none : goal.returns-clause-none
 returns-clause-none g c =

@@ -2,10 +2,11 @@ use Rattle.std.proofs.Common.{◌≡◌, inl, inr, rules, ℤ, pos, SFits, ◌+�
 use Rattle.std.proofs.lemmas.Int.{int_min_is, ints, to_z-of_z}
 use Rattle.chrono_datetime.proofs.Signed.{casts}
 use Rattle.chrono_instant.specs.Instants.{IsEpochSecond}
+use Rattle.chrono_zoned.proofs.SecondSums.{carried, offset_carried}
 use Rattle.zoned_cron.specs.Fires.{IsFirst, IsGap}
 use Rattle.zoned_cron.proofs.Gaps.{are_skipped, fewer, goes_by, goes_lower, is_shown_first, renamed, starts}
 use Rattle.zoned_cron.proofs.Instants.{gap_ends, gap_never_ends}
-use Rattle.zoned_cron.proofs.Carried.{carried, days_behind, offset_carried, plus, walk_near}
+use Rattle.zoned_cron.proofs.Carried.{days_behind, plus, walk_near}
 use Rattle.zoned_cron.proofs.search.instants.end_of_gap.Goals.{then-gap-local+then-local-shown, else-gap-local, else-gap-local-via-then-gap-local+else-local-shown, else-gap-local-via-else-gap-local}
 use Rattle.zoned_cron.proofs.search.instants.end_of_gap.Goals as goal
 

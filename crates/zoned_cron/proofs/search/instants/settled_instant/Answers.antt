@@ -1,8 +1,8 @@
 use Rattle.std.proofs.Common.{◌≡◌, rules, ℤ, pos, SFits, ◌+ℤ◌, ◌-ℤ◌, ◌≤ℤ◌, of_z, to_z, w64, arith}
 use Rattle.std.proofs.lemmas.Int.{ints, to_z-of_z}
 use Rattle.chrono_datetime.proofs.Signed.{casts}
+use Rattle.chrono_zoned.proofs.SecondSums.{near}
 use Rattle.zoned_cron.proofs.Stretches.{near_shows, settled_within}
-use Rattle.zoned_cron.proofs.Windows.{near}
 use Rattle.zoned_cron.proofs.search.instants.settled_instant.Goals as goal
 
 pub returns-then-found-le-LAST_SECOND-clause-shows : goal.returns-then-found-le-LAST_SECOND-clause-shows

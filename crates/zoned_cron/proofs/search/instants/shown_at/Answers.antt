@@ -5,7 +5,7 @@ use Rattle.chrono_datetime.proofs.Signed.{casts}
 use Rattle.chrono_instant.specs.Instants.{epoch_second}
 use Rattle.chrono_instant.specs.Offsets.{IsOffset}
 use Rattle.chrono_instant.proofs.InstantLemmas.{IsEpochSecond-moment}
-use Rattle.zoned_cron.proofs.Windows.{none_then}
+use Rattle.chrono_zoned.proofs.OptionLemmas.{none_then}
 use Rattle.zoned_cron.proofs.search.instants.shown_at.Goals as goal
 
 pub returns-clause-shown : goal.returns-clause-shown

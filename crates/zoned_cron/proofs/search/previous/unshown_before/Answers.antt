@@ -3,8 +3,8 @@ use Rattle.std.specs.Int.{int_max}
 use Rattle.std.proofs.lemmas.Int.{int_max_is, ints, to_z-of_z}
 use Rattle.chrono_datetime.proofs.Signed.{casts, signed}
 use Rattle.chrono_zoned.specs.Zones.{HoldsUntil}
-use Rattle.zoned_cron.proofs.Carried.{IsNearDates, fits_by, offset_carried}
-use Rattle.zoned_cron.proofs.Windows.{near, two_offsets, within_day}
+use Rattle.chrono_zoned.proofs.SecondSums.{IsNearDates, fits_by, near, offset_carried}
+use Rattle.zoned_cron.proofs.Windows.{two_offsets, within_day}
 use Rattle.zoned_cron.proofs.search.previous.unshown_before.Goals as goal
 
 begun_is : (stop : ℤ) → SFits w64 stop → neg_ℤ (pos 8_334_601_228_800) ≤ℤ stop → stop ≤ℤ pos 8_210_266_876_800 → to_z w64 (of_z w64 (to_z w64 (of_z w64 stop) -ℤ pos 172_800)) ≡ (stop -ℤ pos 172_800)

@@ -1,7 +1,8 @@
 use Rattle.std.proofs.Common.{◌≡◌, rules, true, false, ◌∙◌}
 use Rattle.std.proofs.lemmas.Option.{IfSome_then}
+use Rattle.chrono_zoned.proofs.OptionLemmas.{if_none}
 use Rattle.chrono_rules.specs.Instances.{is_instance}
-use Rattle.zoned_rules.proofs.ListedTimes.{if_none, off_instance, on_instance}
+use Rattle.zoned_rules.proofs.ListedTimes.{off_instance, on_instance}
 use Rattle.zoned_rules.proofs.local_rule.LocalRule.last_on.Goals as goal
 
 pub returns-then-not-is_instance-clause-none : goal.returns-then-not-is_instance-clause-none

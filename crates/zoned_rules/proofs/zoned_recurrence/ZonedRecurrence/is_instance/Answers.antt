@@ -2,7 +2,7 @@ use Rattle.std.proofs.Common.{◌≡◌, of_z, to_z, w64, arith, ap, subst, sym,
 use Rattle.std.proofs.lemmas.Int.{to_z-of_z}
 use Rattle.chrono_datetime.specs.Moment.{Moment}
 use Rattle.chrono_instant.specs.Instants.{epoch_second}
-use Rattle.zoned_rules.specs.Recurs.{HoldsAt}
+use Rattle.chrono_zoned.specs.HeldSeconds.{HoldsAt}
 use Rattle.zoned_rules.specs.ZonedSets.{IsInZonedSet}
 use Rattle.zoned_rules.proofs.PublicCalls.{decided}
 use Rattle.zoned_rules.proofs.zoned_recurrence.ZonedRecurrence.is_instance.Goals as goal

@@ -4,10 +4,11 @@ use Rattle.std.proofs.lemmas.Option.{IfSome_then}
 use Rattle.chrono_datetime.specs.Moment.{IsBefore, Moment}
 use Rattle.chrono_datetime.proofs.Signed.{casts}
 use Rattle.chrono_instant.specs.Instants.{epoch_second}
-use Rattle.zoned_rules.specs.Recurs.{HoldsNotAfter, HoldsNotBetween}
+use Rattle.chrono_zoned.proofs.OptionLemmas.{if_any, if_never}
+use Rattle.chrono_zoned.proofs.HeldSecondLemmas.{holds_there, later_there, none_after, none_between}
+use Rattle.chrono_zoned.specs.HeldSeconds.{HoldsNotAfter, HoldsNotBetween}
 use Rattle.zoned_rules.specs.ZonedSets.{IsInZonedSet}
-use Rattle.zoned_rules.proofs.PublicCalls.{exists_there, if_never, instance_there, later_there, none_after, none_between}
-use Rattle.zoned_rules.proofs.Standing.{if_any}
+use Rattle.zoned_rules.proofs.PublicCalls.{exists_there}
 use Rattle.zoned_rules.proofs.zoned_recurrence.ZonedRecurrence.next_after.Goals as goal
 
 pub returns-in_err-first_member-clause-none : goal.returns-in_err-first_member-clause-none
@@ -32,7 +33,7 @@ returns-clause-member g c =
     let x = c.in_ok-first_member.field-0 in
     let ok = c.in_ok-first_member.ensures.member in
     let is : to_z w64 (of_z w64 x) ≡ x = omega (arith, casts, ok.1.included.has_dates.utc) in
-    IfSome_then c.timestamp_opt.result c.timestamp_opt.ensures.instant (λ d h. instance_there (IsInZonedSet r ahead bound dates exceptions) x d.utc h is ok.1)
+    IfSome_then c.timestamp_opt.result c.timestamp_opt.ensures.instant (λ d h. holds_there (IsInZonedSet r ahead bound dates exceptions) x d.utc h is ok.1)
 
 pub returns-clause-later : goal.returns-clause-later
 returns-clause-later g c =

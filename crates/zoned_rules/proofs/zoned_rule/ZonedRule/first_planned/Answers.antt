@@ -2,9 +2,10 @@ use Rattle.std.proofs.Common.{◌≡◌, pos, ◌-ℤ◌, ◌<ℤ◌, of_z, to_z
 use Rattle.std.proofs.lemmas.Int.{ints, to_z-of_z}
 use Rattle.std.proofs.lemmas.Option.{IfSome_then}
 use Rattle.chrono_instant.specs.Instants.{epoch_second}
+use Rattle.chrono_zoned.proofs.OptionLemmas.{one_of}
+use Rattle.chrono_zoned.proofs.SecondSums.{carried}
 use Rattle.zoned_rules.specs.Private.{IsStoodFor}
-use Rattle.zoned_rules.proofs.Fitting.{carried}
-use Rattle.zoned_rules.proofs.Reached.{nothing_yet, one_of, reaches_all, reaches_far, reaches_next}
+use Rattle.zoned_rules.proofs.Reached.{nothing_yet, reaches_all, reaches_far, reaches_next}
 use Rattle.zoned_rules.proofs.zoned_rule.ZonedRule.first_planned.Goals as goal
 
 pub loop-local-init : goal.loop-local-init

@@ -1,9 +1,10 @@
 use Rattle.std.proofs.Common.{◌≡◌, pos, ◌+ℤ◌, ◌<ℤ◌, of_z, to_z, w64, arith, refl}
 use Rattle.std.proofs.lemmas.Int.{ints, to_z-of_z}
 use Rattle.chrono_instant.specs.Instants.{epoch_second}
+use Rattle.chrono_zoned.proofs.OptionLemmas.{one_of}
+use Rattle.chrono_zoned.proofs.SecondSums.{carried}
 use Rattle.zoned_rules.specs.Private.{IsStoodFor}
-use Rattle.zoned_rules.proofs.Fitting.{carried}
-use Rattle.zoned_rules.proofs.Reached.{nothing_yet_back, one_of, reaches_all_back, reaches_far_back, reaches_previous}
+use Rattle.zoned_rules.proofs.Reached.{nothing_yet_back, reaches_all_back, reaches_far_back, reaches_previous}
 use Rattle.zoned_rules.proofs.zoned_rule.ZonedRule.last_planned.Goals as goal
 
 pub loop-local-init : goal.loop-local-init

@@ -4,9 +4,10 @@ use Rattle.std.proofs.lemmas.Option.{IfSome_then}
 use Rattle.chrono_datetime.specs.Moment.{IsBefore, Moment}
 use Rattle.chrono_datetime.proofs.Signed.{casts}
 use Rattle.chrono_instant.specs.Instants.{epoch_second}
+use Rattle.chrono_zoned.proofs.OptionLemmas.{if_any, if_never}
+use Rattle.chrono_zoned.proofs.HeldSecondLemmas.{holds_there, later_there, none_after, none_between}
 use Rattle.zoned_rules.specs.Recurs.{NoInstanceAfter, NoInstanceBetween, RecursWithin}
-use Rattle.zoned_rules.proofs.PublicCalls.{exists_there, if_never, instance_there, later_there, none_after, none_between}
-use Rattle.zoned_rules.proofs.Standing.{if_any}
+use Rattle.zoned_rules.proofs.PublicCalls.{exists_there}
 use Rattle.zoned_rules.proofs.zoned_rule.ZonedRule.next_after.Goals as goal
 
 pub returns-in_err-next_second-clause-none : goal.returns-in_err-next_second-clause-none
@@ -27,7 +28,7 @@ returns-clause-instance g c =
     let x = c.in_ok-next_second.field-0 in
     let ok = c.in_ok-next_second.ensures.recurs in
     let is : to_z w64 (of_z w64 x) ≡ x = omega (arith, casts, ok.1.recurs.recurs.dates.utc) in
-    IfSome_then c.timestamp_opt.result c.timestamp_opt.ensures.instant (λ d h. instance_there (RecursWithin r ahead bound) x d.utc h is ok.1)
+    IfSome_then c.timestamp_opt.result c.timestamp_opt.ensures.instant (λ d h. holds_there (RecursWithin r ahead bound) x d.utc h is ok.1)
 
 pub returns-clause-later : goal.returns-clause-later
 returns-clause-later g c =

@@ -4,7 +4,7 @@ use Rattle.chrono_instant.proofs.InstantLemmas.{IsEpochSecond-moment, moment_ahe
 use Rattle.chrono_instant.specs.Instants.{IsEpochSecond, epoch_second}
 use Rattle.chrono_instant.specs.Offsets.{moment_ahead}
 use Rattle.chrono_zoned.proofs.MappedLemmas.{offset_there}
-use Rattle.chrono_zoned.proofs.date_time.DateTime.at_offset.Goals as goal
+use Rattle.chrono_zoned.proofs.date_time.DateTime.from_local_and_offset.Goals as goal
 
 pub invariant_of-result : goal.invariant_of-result
 invariant_of-result g c =
