@@ -1,12 +1,14 @@
 """The package for Python as its users install it: the wheel into fresh environments with no network, its tests and the example
-there, the same wheel under other versions of Python, the package of sources built, its types by mypy, and wrong lines planted in its C."""
+there, the same wheel under other versions of Python and beside numpy and pandas, CPython's own tests of datetime over it, the package
+of sources built, its types by mypy, and wrong lines planted in its C and its Python."""
 import glob
 import os
+import re
 import shutil
 import subprocess
 import sys
 
-from results import LANGUAGES, TOP, example, run, succeeds
+from results import LANGUAGES, TOP, read, run, succeeds
 from wrong_lines import edits, planted
 
 sys.path.insert(0, f"{TOP}/tools")
@@ -16,6 +18,9 @@ from packages import python  # noqa: E402
 PACKAGE = f"{LANGUAGES}/python"
 TESTS = f"{PACKAGE}/tests"
 COUNTS = (r"\.\.\. ok()$", r"\.\.\. (?:FAIL|ERROR)()$")
+# Debian's Python, which may have numpy and pandas, and the tests that need no other package.
+DEBIAN = "/usr/bin/python3"
+ALONE = ("test_calls.py", "test_habits.py", "test_like_datetime.py")
 # The versions from 3.10 on, which one wheel serves.
 VERSIONS = [f"python3.{it}" for it in range(10, 16)]
 WARNINGS = ["-std=c99", "-O1", "-fPIC", "-Wall", "-Wextra", "-Wpedantic", "-Werror"]
@@ -32,14 +37,21 @@ def install(results, room, name, program, wheel, *options):
     return f"{folder}/bin/python"
 
 
-def test_installed(results, room, program):
-    """All tests, and the example of README."""
-    for name in ("test_calls.py", "test_habits.py", "test_days.py"):
-        run(results, name, [program, f"{TESTS}/{name}", "-v"], COUNTS, env=QUIET)
+def test_examples(results, room, program, with_numpy):
+    """The examples of README, of which those with numpy stand behind the others."""
+    blocks = re.findall(r"^```python\n(.*?)^```$", read(f"{PACKAGE}/README.md"), re.M | re.S)
+    text = "\n".join(it for it in blocks if with_numpy or "numpy" not in it)
     with open(f"{room}/example.txt", "w", encoding="utf-8") as it:
-        it.write(example("python"))
+        it.write(text)
     counts = (r"^(\d+) passed and", r"(\d+) failed\.")
-    run(results, "the example in Python", [program, "-m", "doctest", "-v", f"{room}/example.txt"], counts, env=QUIET)
+    run(results, "the examples in Python", [program, "-m", "doctest", "-v", f"{room}/example.txt"], counts, env=QUIET)
+
+
+def test_installed(results, room, program):
+    """The tests that need no other package, and the examples of README that need none."""
+    for name in (*ALONE, "test_days.py"):
+        run(results, name, [program, f"{TESTS}/{name}", "-v"], COUNTS, env=QUIET)
+    test_examples(results, room, program, False)
 
 
 def test_versions(results, room, wheel):
@@ -56,15 +68,55 @@ def test_versions(results, room, wheel):
                 run(results, f"test_calls.py by {name}", [program, f"{TESTS}/test_calls.py", "-v"], COUNTS, env=QUIET)
 
 
+def debian_has(*modules):
+    """Whether Debian's Python has modules."""
+    asked = [DEBIAN, "-c", f"import {', '.join(modules)}"]
+    return os.path.exists(DEBIAN) and subprocess.run(asked, capture_output=True).returncode == 0
+
+
 def test_beside_others(results, room, wheel):
-    """The habits beside numpy and pandas, which Debian's Python may have and a fresh environment has not."""
-    asked = ["/usr/bin/python3", "-c", "import ensurepip, numpy, pandas"]
-    if not os.path.exists(asked[0]) or subprocess.run(asked, capture_output=True).returncode:
+    """Columns, and the habits beside numpy and pandas, which Debian's Python may have and a fresh environment has not."""
+    if not debian_has("ensurepip", "numpy", "pandas"):
         print("not run: the tests in Python beside numpy and pandas, which Debian's Python has not")
         return
-    program = install(results, room, "with_numpy", asked[0], wheel, "--system-site-packages")
+    program = install(results, room, "with_numpy", DEBIAN, wheel, "--system-site-packages")
+    for name in ("test_columns.py", *ALONE[1:]) if program else ():
+        run(results, f"{name} beside numpy and pandas", [program, f"{TESTS}/{name}", "-v"], COUNTS, env=QUIET)
     if program:
-        run(results, "test_habits.py beside numpy and pandas", [program, f"{TESTS}/test_habits.py", "-v"], COUNTS, env=QUIET)
+        test_examples(results, room, program, True)
+        test_stubs(results, room, program)
+
+
+def test_stubs(results, room, program):
+    """The stubs of the extension tell what is there, with the signatures that are there; the other modules are their own."""
+    stubtest = shutil.which("stubtest")
+    if not stubtest:
+        print("not run: the stubs of the Python package beside the package, since there is no stubtest")
+        return
+    asked = "import os, proved_calendar; print(os.path.dirname(proved_calendar.__file__))"
+    installed = subprocess.run([program, "-c", asked], check=True, capture_output=True, text=True).stdout.strip()
+    shutil.copytree(installed, f"{room}/stubs/proved_calendar")
+    path = f"{room}/stubs"
+    succeeds(results, [DEBIAN, stubtest, "proved_calendar._calendar"], env=dict(QUIET, PYTHONPATH=path, MYPYPATH=path), cwd=path)
+
+
+def test_by_datetime(results, room, wheel):
+    """CPython 3.11's own tests of datetime."""
+    if not debian_has("ensurepip", "test.datetimetester") or "3.11" not in subprocess.run([DEBIAN, "--version"], capture_output=True, text=True).stdout:
+        print("not run: CPython 3.11's tests of datetime, since there is no libpython3.11-testsuite")
+        return
+    program = install(results, room, "with_tests", DEBIAN, wheel)
+    if program:
+        counts = (r"^(\d+) passed,", r", (\d+) failed$")
+        run(results, "CPython's tests of datetime", [program, f"{TOP}/checks/datetimetester.py"], counts, env=QUIET)
+
+
+def test_columns_called(results):
+    """Each function for columns is called, but for those that change a column in place."""
+    text = read(f"{PACKAGE}/proved_calendar/columns.py")
+    for name in re.findall(r"^\w+ calendar_column_(\w+)\(", read(f"{LANGUAGES}/c/calendar.h"), re.M):
+        if not name.endswith("in_place"):
+            results.count(re.search(rf"\"{name}\"|calendar_column_{name}\b", text), f"columns.py calls no calendar_column_{name}")
 
 
 def test_sources(results, room, sources):
@@ -101,33 +153,49 @@ def compile_c(folder, names, flags):
     return ""
 
 
-def fails(folder, objects, library):
-    """Whether a test fails, or does not end, over an extension that is linked of these objects."""
+def fails(folder, objects, library, tests):
+    """Whether one of some tests fails, or does not end, over an extension that is linked of these objects."""
     module = f"{folder}/proved_calendar/_calendar.abi3.so"
     subprocess.run(["cc", "-shared", *objects, library, "-o", module], check=True)
     env = dict(QUIET, PYTHONPATH=folder, SKIP_MEMORY="1")
-    tests = (f"{TESTS}/test_calls.py", f"{TESTS}/test_habits.py")
     try:
-        return any(subprocess.run([python.python(), it], env=env, capture_output=True, timeout=60).returncode for it in tests)
+        for name in tests:
+            program = DEBIAN if name == "test_columns.py" else python.python()
+            if subprocess.run([program, f"{TESTS}/{name}"], env=env, capture_output=True, timeout=120).returncode:
+                return True
     except subprocess.TimeoutExpired:
         return True
+    return False
+
+
+def tests_of(path):
+    """The tests that a wrong line in a file has to fail: the columns have their own."""
+    if not path.endswith("columns.py"):
+        return ALONE
+    return ("test_columns.py",) if debian_has("numpy") else ()
 
 
 def test_wrong_lines(results, room, library):
-    """Each wrong line in the C of the extension fails its tests, and none of them fails without."""
+    """Each wrong line in the C and the Python of the package fails its tests, and none of them fails without."""
     flags = [*WARNINGS, f"-I{LANGUAGES}/c", f"-I{headers()}"]
     right = f"{room}/right"
     shutil.copytree(PACKAGE, right)
     names = sorted(os.path.basename(it) for it in glob.glob(f"{right}/src/*.c"))
     said = compile_c(right, names, flags)
     results.count(not said, f"the extension in C: {said}")
-    results.count(not said and not fails(right, [f"{right}/src/{it}.o" for it in names], library), "a test fails over right lines")
+    right_objects = [f"{right}/src/{it}.o" for it in names]
+    every = (*ALONE, *tests_of("columns.py"))
+    results.count(not said and not fails(right, right_objects, library, every), "a test fails over right lines")
     for number, edit in enumerate(edits("python")):
-        folder, changed = planted("python", f"{room}/wrong_{number}", edit), os.path.basename(edit[0])
-        compiled = names if changed.endswith(".h") else [changed]
+        tests, changed = tests_of(edit[0]), os.path.basename(edit[0])
+        if not tests:
+            print(f"not run: the wrong line {edit[2]!r} in {edit[0]}, since Debian's Python has no numpy")
+            continue
+        folder = planted("python", f"{room}/wrong_{number}", edit)
+        compiled = names if changed.endswith(".h") else [changed] if changed.endswith(".c") else []
         said = compile_c(folder, compiled, flags)
         objects = [f"{folder if it in compiled else right}/src/{it}.o" for it in names]
-        results.count(not said and fails(folder, objects, library), f"no test in Python fails with {edit[2]!r} in {edit[0]} {said}")
+        results.count(not said and fails(folder, objects, library, tests), f"no test in Python fails with {edit[2]!r} in {edit[0]} {said}")
 
 
 def test(results, room, library):
@@ -144,7 +212,9 @@ def test(results, room, library):
     if program:
         test_installed(results, room, program)
         test_types(results, program)
+    test_columns_called(results)
     test_versions(results, room, wheel)
     test_beside_others(results, room, wheel)
+    test_by_datetime(results, room, wheel)
     test_sources(results, f"{room}/again", sources)
     test_wrong_lines(results, room, library)

@@ -1,8 +1,9 @@
 """The package for Rust, used as its users use it; checks/languages.py runs this.
 
 The package is made with the static library inside, packed, and unpacked again. A project outside, which names it by its
-path, runs its tests, and where Debian's crates lie, those of its features too. The example of each item is run, a build
-with no library has to say what to do, and each of the wrong lines planted in the wrapper has to fail its tests.
+path, runs its tests. Where Debian's crates lie, those of its features are run too, its module `chrono` is compared with
+chrono on generated values, and chrono's doc examples are run on it (checks/chrono_docs.py). The examples of the crate are
+run, a build with no library has to say what to do, and each of the wrong lines planted in the wrapper has to fail its tests.
 """
 import glob
 import os
@@ -12,6 +13,7 @@ import subprocess
 import sys
 import tarfile
 
+import chrono_docs
 from results import is_older, read, run
 from wrong_lines import edits, planted
 
@@ -25,9 +27,11 @@ FOLDER = f"{TOP}/languages/rust"
 # The crates of the features, as the project of the tests lists them.
 FEATURES = {
     "serde": '{ version = "1" }',
-    "chrono": '{ version = "0.4.23", default-features = false }',
+    "chrono": '{ version = "0.4.23", default-features = false, features = ["std"] }',
     "time": '{ version = "0.3", default-features = false }',
 }
+# The tests of the package alone, and those of its features.
+TESTS, FEATURE_TESTS = ("calls", "values", "chrono_names"), ("features", "beside_chrono")
 COUNTS = (r"test result: .*? (\d+) passed", r"test result: .*? (\d+) failed")
 
 PROJECT = """\
@@ -62,7 +66,7 @@ def unpacked(room, library):
 
 def make_project(project, package, tests, features=()):
     """A project that uses the package and has its tests; the project."""
-    named = ", ".join(f'"{it}"' for it in features)
+    named = ", ".join(f'"{it}"' for it in (*features, *(["std"] if features else [])))
     others = "".join(f"{it} = {FEATURES[it]}\n" for it in features)
     write(f"{project}/Cargo.toml", PROJECT.format(package=package, features=named, others=others))
     write(f"{project}/src/lib.rs", "")
@@ -103,7 +107,7 @@ def test_missing(results, room, package):
 def try_wrong_lines(results, room, library):
     """Each wrong line in the wrapper fails its tests, which are built."""
     package, found = f"{room}/planted-package", 0
-    project = make_project(f"{room}/planted-project", package, ["calls", "values"])
+    project = make_project(f"{room}/planted-project", package, TESTS)
     for number, edit in enumerate(edits("rust"), 1):
         rust.make_package(TOP, planted("rust", f"{room}/planted", edit), library, package)
         words = ["cargo", "test", "--offline", "--quiet", "--no-fail-fast", "--tests"]
@@ -131,10 +135,11 @@ def test(results, room, library):
     missing = [it for it in FEATURES if not glob.glob(f"{REGISTRY}/{it}-[0-9]*")]
     if missing:
         print(f"not run: the features of the Rust crate, since there is no {REGISTRY}/{missing[0]}")
-    tests, features = (["calls", "values"], ()) if missing else (["calls", "values", "features"], FEATURES)
+    tests, features = (TESTS, ()) if missing else (TESTS + FEATURE_TESTS, FEATURES)
     project = make_project(f"{room}/project", package, tests, features)
     words = ["cargo", "test", "--offline", "--tests", *([] if missing else FROM_DEBIAN)]
     run(results, "cargo test", words, COUNTS, cwd=project, env=environment(room))
     test_examples(results, room, package)
+    chrono_docs.test(results, room, package, environment(room))
     test_missing(results, room, package)
     try_wrong_lines(results, room, library)

@@ -87,7 +87,7 @@ def compare_exports(results, module):
         ran = subprocess.run(["node", "-e", script, it.name], check=True, capture_output=True, text=True)
     imports, exports = json.loads(ran.stdout)
     results.equal(imports, [], "imports of the module")
-    wanted = sorted(it for it in languages.of_header() if not re.fullmatch(languages.C_ALONE, it))
+    wanted = sorted(it for it in languages.of_header() if not re.fullmatch(languages.COLUMNS, it))
     results.equal(sorted(it["name"] for it in exports if it["kind"] == "function"), wanted, "functions of the module")
     wrapper = "\n".join(read(f"{FOLDER}/src/{it}.js") for it in javascript.SOURCES)
     tests = read(f"{FOLDER}/test/calls.test.js")

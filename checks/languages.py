@@ -12,9 +12,8 @@ of the library and with the declarations of the Rust crate; the fields of both s
 with one another and with the library's instructions; the same of the second library, for processors with AVX2; and the versions of all packages. The header is then compiled, alone, by each
 compiler that is found. The packages for C and Python are made by the modules of tools/packages in a temporary folder, installed as
 their users would, and tested there by checks/from_c.py and checks/from_python.py, and so is that for Rust by checks/from_rust.py. Each export
-has to be called in C's tests, and to have a test of its name in the other two, but for columns and what belongs to them, which C
-alone has. The
-examples of the READMEs are run too, and the uses that README.md shows have to stand in them.
+has to be called in C's tests, and to have a test of its name in the other two, but for columns and what belongs to them, which
+Python's module of columns calls. The examples of the READMEs are run too, and the uses that README.md shows have to stand in them.
 """
 import contextlib
 import io
@@ -34,6 +33,8 @@ from library import HIGHER, build_higher, find_library, is_left_by_gate, librari
 from results import LANGUAGES, Results, example, read, run  # noqa: E402
 
 CRATE = f"{TOP}/crates/calendar_c"
+# Where the structs of calendar.h are declared.
+NUMBERS = f"{TOP}/crates/numbers_c"
 HEADER = f"{LANGUAGES}/c/calendar.h"
 DECLARATIONS = f"{LANGUAGES}/rust/src/calls.rs"
 WARNINGS = ["-Wall", "-Wextra", "-pedantic", "-Werror"]
@@ -43,12 +44,12 @@ TYPES = {
     "int32_t": "i32", "int64_t": "i64", "uint8_t": "u8", "uint32_t": "u32", "size_t": "usize",
     "uint8_t *": "*mut u8", "const uint8_t *": "*const u8", "uint16_t *": "*mut u16",
     "int32_t *": "*mut i32", "const int32_t *": "*const i32", "int64_t *": "*mut i64", "const int64_t *": "*const i64",
-    "Moment": "calendar_date_time", "Span": "calendar_duration",
+    "Moment": "calendar_date_time", "Span": "calendar_duration", "Ymd": "calendar_ymd",
     "CalendarDateTime": "calendar_date_time", "CalendarDuration": "calendar_duration", "CalendarYmd": "calendar_ymd",
 }
 
-# What is for C alone: columns, and the struct of a date's names. No other language has declarations or tests of these.
-C_ALONE = r"calendar_(?:column_\w+|split|ymd)"
+# Columns, and the struct of a date's names. The tests of Python and JavaScript name none of these.
+COLUMNS = r"calendar_(?:column_\w+|split|ymd)"
 
 # How a slice of Rattle crosses: its first byte, and how many bytes there are; and likewise for a column, of numbers or of texts of
 # ten bytes.
@@ -129,7 +130,8 @@ def of_rattle():
 
 def of_crate():
     """The functions that the Rust crate declares."""
-    return of_rust(re.findall(r"\bfn (calendar_\w+)\(([^)]*)\) -> (\w+);", read(DECLARATIONS)))
+    found = re.findall(r"\bfn (calendar_\w+)\(([^)]*)\)(?: -> (\w+))?;", read(DECLARATIONS))
+    return of_rust((*it[:2], it[2] or "void") for it in found)
 
 
 # How each language writes a struct, and a field of it.
@@ -159,24 +161,19 @@ def compare(results, what, wanted, found):
         results.count(one == other, f"{what}: {name} is {other}, and in calendar.h {one}")
 
 
-def for_all(names):
-    """What is declared in every language."""
-    return {name: what for name, what in names.items() if not re.fullmatch(C_ALONE, name)}
-
-
 def compare_declarations(results, header):
     compare(results, "exports of crates/calendar_c", header, of_rattle())
-    compare(results, "declarations of languages/rust", for_all(header), of_crate())
+    compare(results, "declarations of languages/rust", header, of_crate())
     fields = structs("c", HEADER)
     results.count(len(fields) == read(HEADER).count("typedef struct {"), f"calendar.h has the structs {sorted(fields)}")
-    compare(results, "structs of crates/calendar_c", fields, structs("rust", *sources(CRATE)))
-    compare(results, "structs of languages/rust", for_all(fields), structs("rust", DECLARATIONS))
+    compare(results, "structs of crates/calendar_c", fields, structs("rust", *sources(CRATE), *sources(NUMBERS)))
+    compare(results, "structs of languages/rust", fields, structs("rust", DECLARATIONS))
 
 
 def compare_safety(results, header):
     """The Rust crate calls a function safe exactly if it takes no pointer."""
     safe = set(re.findall(r"\bsafe fn (calendar_\w+)\(", read(DECLARATIONS)))
-    for name, (_, parameters) in for_all(header).items():
+    for name, (_, parameters) in header.items():
         takes_pointer = any(kind.startswith("*") for kind, _ in parameters)
         what = "is safe, and takes a pointer" if takes_pointer else "is not safe, and takes no pointer"
         results.count((name in safe) != takes_pointer, f"declarations of languages/rust: {name} {what}")
@@ -237,7 +234,8 @@ def compare_uses(results, header):
     for language, (folder, pattern) in USES.items():
         names = [it for it in os.listdir(f"{LANGUAGES}/{folder}") if it.endswith((".c", ".py", ".rs"))]
         text = "\n".join(read(f"{LANGUAGES}/{folder}/{it}") for it in names)
-        for name in header if folder == "c" else for_all(header):
+        is_whole = not folder.startswith("python")
+        for name in (it for it in header if is_whole or not re.fullmatch(COLUMNS, it)):
             used = pattern.format(name=name, short=name.removeprefix("calendar_"))
             results.count(re.search(used, text), f"{language}: there is none for {name}")
 

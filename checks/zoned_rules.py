@@ -5,6 +5,8 @@
 
 dateutil's `rrule` gives the local times of a rule, with no zone. Each stands for an instant by RFC 5545, 3.3.5: the first at which the clock
 shows it, or by the offset before the gap. Instants that are one count once, and those before the start's instant do not count.
+A rule by hours, minutes or seconds is FREQ=HOURLY, MINUTELY or SECONDLY with INTERVAL there, and steps of the clock here. dateutil refuses an
+interval that never meets a list of the rule, where the program finds no instance.
 COUNT and UNTIL are held to the instants here, not to the local times. Of some rules one instant is made an exception, and the instant ten
 minutes behind it is set beside the rule. The zones have gaps and folds of half an hour, of one hour and of two, four
 changes in a year, and a day that the clock skips. Some days around each change are gone through by `next_after` and by `prev_before`, and
@@ -35,7 +37,8 @@ EPOCH = datetime.datetime(1970, 1, 1)
 # Zones, each with its first year here.
 ZONES = (("Australia/Lord_Howe", 2023), ("America/New_York", 2023), ("Antarctica/Troll", 2023), ("Europe/Berlin", 2023), ("Africa/Casablanca", 2012),
          ("Pacific/Apia", 2011))
-# Rules of days, each with the hours, the minutes and the seconds that it lists.
+# Rules of days, each with the hours, the minutes and the seconds that it lists. A rule that counts hours, minutes or seconds has its unit and its
+# interval behind them.
 RULES = (
     ("FREQ=DAILY", "", "", ""),
     ("FREQ=DAILY", "2", "30", "0"),
@@ -46,7 +49,22 @@ RULES = (
     ("FREQ=MONTHLY;BYMONTHDAY=29,30,31", "", "0,45", ""),
     ("FREQ=MONTHLY;BYDAY=SA,SU;BYSETPOS=-1,-2", "", "", ""),
     ("FREQ=YEARLY;BYMONTH=3,4,9,10,11,12", "2", "15", ""),
+    ("FREQ=DAILY", "", "", "", "H1"),
+    ("FREQ=DAILY", "", "0,15", "", "H1"),
+    ("FREQ=DAILY;BYDAY=SA,SU", "", "", "", "H5"),
+    ("FREQ=DAILY", "1,2,3", "", "0,30", "H7"),
+    ("FREQ=DAILY;BYMONTHDAY=-1,1,2,3,4,26,27", "", "", "", "H26"),
+    ("FREQ=DAILY", "", "", "", "M30"),
+    ("FREQ=DAILY;BYMONTH=1,3,4,9,10,11,12", "2", "", "", "M45"),
+    ("FREQ=DAILY;BYDAY=SU,MO", "", "30", "0", "M50"),
+    ("FREQ=DAILY", "0,1,2,3,4", "", "", "M1501"),
+    ("FREQ=DAILY", "", "", "0,30", "S1800"),
+    ("FREQ=DAILY", "", "", "", "S5400"),
+    ("FREQ=DAILY;BYDAY=SU", "1,2,3", "0,29,30,31", "", "S97"),
+    ("FREQ=DAILY", "", "", "", "S90061"),
 )
+# The words of FREQ, each with its seconds.
+UNITS = {"H": ("HOURLY", 3_600), "M": ("MINUTELY", 60), "S": ("SECONDLY", 1)}
 # The starts, as hours, minutes and seconds.
 STARTS = ((2, 30, 0), (0, 0, 0), (3, 0, 1), (1, 45, 59), (23, 15, 0))
 PROGRAM = r'''//! Answers questions on rules in a zone, a line each.
@@ -57,7 +75,7 @@ use chrono_instant::{FromTimestamp, Timestamp};
 use chrono_sets::NumberSet;
 use std::io::{self, BufRead, BufReader};
 use zone_database::{Zone, system_database};
-use zoned_rules::{Bound, DateTime, DayTimes, InZone, LocalRule, ZonedRecurrence, ZonedRule, instant_of, read_rule};
+use zoned_rules::{Bound, ClockSteps, ClockUnit, DateTime, DayTimes, InZone, LocalRule, ZonedRecurrence, ZonedRule, instant_of, read_rule};
 
 fn main(rt: HostRuntime) -> io::Result<()> {
     let Ok(database) = system_database(&rt) else {
@@ -89,7 +107,22 @@ fn listed(text: &str) -> NumberSet {
     set
 }
 
-// Answers `CALL START END DTSTART BOUND NUMBER HOURS MINUTES SECONDS RULE`.
+// The steps that a letter and a number name.
+fn steps_of(text: &str) -> ClockSteps {
+    let unit = match text.as_bytes().first() {
+        Some(b'H') => ClockUnit::Hour,
+        Some(b'M') => ClockUnit::Minute,
+        Some(b'S') => ClockUnit::Second,
+        _ => ClockUnit::Day,
+    };
+    let interval = match text.get(1..) {
+        Some(number) => number.parse().unwrap_or(1),
+        None => 1,
+    };
+    ClockSteps { unit, interval }
+}
+
+// Answers `CALL START END DTSTART BOUND NUMBER HOURS MINUTES SECONDS STEPS RULE`.
 fn answer(rt: &HostRuntime, zone: &Zone, words: &str) -> io::Result<()> {
     let (call, words) = words.split_once(' ').unwrap_or((words, ""));
     let (start, words) = words.split_once(' ').unwrap_or((words, ""));
@@ -99,7 +132,8 @@ fn answer(rt: &HostRuntime, zone: &Zone, words: &str) -> io::Result<()> {
     let (number, words) = words.split_once(' ').unwrap_or((words, ""));
     let (hours, words) = words.split_once(' ').unwrap_or((words, ""));
     let (minutes, words) = words.split_once(' ').unwrap_or((words, ""));
-    let (seconds, text) = words.split_once(' ').unwrap_or((words, ""));
+    let (seconds, words) = words.split_once(' ').unwrap_or((words, ""));
+    let (steps, text) = words.split_once(' ').unwrap_or((words, ""));
     let Ok(days) = read_rule(text.as_bytes()) else {
         return println!(rt; "= no rule");
     };
@@ -121,7 +155,7 @@ fn answer(rt: &HostRuntime, zone: &Zone, words: &str) -> io::Result<()> {
         minutes: listed(minutes),
         seconds: listed(seconds),
     };
-    let Some(plan) = LocalRule::new(days, times, local) else {
+    let Some(plan) = LocalRule::by_clock(steps_of(steps), days, times, local) else {
         return println!(rt; "= refused");
     };
     let rule = ZonedRule::new(plan, zone, bound);
@@ -224,12 +258,27 @@ class Known:
 def instances(known, rule, start, end):
     """The instants of a rule from a local start on, in order, up to one at least."""
     from dateutil.rrule import rrulestr
-    text, hours, minutes, seconds = rule
+    text, hours, minutes, seconds = rule[:4]
     parts = [f"{name}={numbers}" for name, numbers in (("BYHOUR", hours), ("BYMINUTE", minutes), ("BYSECOND", seconds)) if numbers]
-    # (from midnight on, since a gap may move a local time before the start's behind the start's instant)
-    own = (f"BYHOUR={start.hour}", f"BYMINUTE={start.minute}", f"BYSECOND={start.second}")
-    missing = [it for it, numbers in zip(own, (hours, minutes, seconds)) if not numbers]
-    rrule = rrulestr(";".join([text, *parts, *missing]), dtstart=start.replace(hour=0, minute=0, second=0))
+    # (from the day's beginning on, since a gap may move a local time before the start's behind the start's instant)
+    first = start.replace(hour=0, minute=0, second=0)
+    if rule[4:]:
+        word, unit = UNITS[rule[4][0]]
+        interval = int(rule[4][1:])
+        text = text.replace("FREQ=DAILY", f"FREQ={word};INTERVAL={interval}")
+        length = interval * unit
+        first = start - datetime.timedelta(seconds=(start - first).seconds // length * length)
+        missing = []
+    else:
+        own = (f"BYHOUR={start.hour}", f"BYMINUTE={start.minute}", f"BYSECOND={start.second}")
+        missing = [it for it, numbers in zip(own, (hours, minutes, seconds)) if not numbers]
+    try:
+        rrule = rrulestr(";".join([text, *parts, *missing]), dtstart=first)
+    except ValueError as error:
+        # (it refuses an interval that never meets a list, where we find no instance)
+        if "empty set" not in str(error):
+            raise
+        return []
     begun = known[seconds_of(start)]
     last = EPOCH + datetime.timedelta(seconds=end + 2 * DAY)
     found = {known[seconds_of(it)] for it in itertools.takewhile(lambda it: it <= last, rrule)}
@@ -252,10 +301,11 @@ def of_change(known, change):
     """Questions on the days and the hours around a change."""
     near = change + ahead(known.zone, change)
     shown = [known[it] for it in range(near - 4 * HOUR, near + 4 * HOUR, QUARTER)]
-    yield f"local {near - 4 * HOUR} {near + 4 * HOUR} 0 - 0 - - - FREQ=DAILY", " ".join(map(str, shown))
+    yield f"local {near - 4 * HOUR} {near + 4 * HOUR} 0 - 0 - - - D1 FREQ=DAILY", " ".join(map(str, shown))
     day = EPOCH + datetime.timedelta(days=near // DAY)
     for number, rule in enumerate(RULES):
-        for back, clock in zip((1, 0, 9), STARTS[number % 3:]):
+        # (one start of a rule with steps, since there are many of its instances)
+        for back, clock in list(zip((1, 0, 9), STARTS[number % 3:]))[:1 if rule[4:] else 3]:
             start = (day - datetime.timedelta(days=back)).replace(hour=clock[0], minute=clock[1], second=clock[2])
             yield from of_rule(known, rule, start, change, back == 1)
 
@@ -290,8 +340,9 @@ def of_rule(known, rule, start, change, all_bounds):
 
 def line_of(call, low, high, start, bound, number, rule):
     """A question as the program reads it."""
-    parts = " ".join(f"{it}," if it else "-" for it in rule[1:])
-    return f"{call} {low} {high} {seconds_of(start)} {bound} {number} {parts} {rule[0]}"
+    parts = " ".join(f"{it}," if it else "-" for it in rule[1:4])
+    steps = rule[4] if rule[4:] else "D1"
+    return f"{call} {low} {high} {seconds_of(start)} {bound} {number} {parts} {steps} {rule[0]}"
 
 
 def main():

@@ -16,9 +16,9 @@ use Rattle.chrono_datetime.specs.Moment.{Moment, moment_distance, reach}
 use Rattle.chrono_reading.specs.DateTimeTexts.{IsDateTimeText}
 use Rattle.chrono_reading.specs.TimeTexts.{IsTimeText}
 use Rattle.chrono_text.proofs.FractionLemmas.{IsFractionText-below}
-use Rattle.calendar_c.specs.DateTimes.{duration_from_c, duration_or_none, moment_from_c, numbers_for_c, numbers_or_none}
-use Rattle.calendar_c.specs.declared.date_time_numbers.CalendarDateTime.{CalendarDateTime}
-use Rattle.calendar_c.proofs.DateTimeLemmas.{IsTimeNamed, found, moment_from_c-facts, moment_from_c-none, numbers_for_c-again}
+use Rattle.numbers_c.specs.DateTimes.{duration_from_c, duration_or_none, moment_from_c, numbers_for_c, numbers_or_none}
+use Rattle.numbers_c.specs.declared.date_time_numbers.CalendarDateTime.{CalendarDateTime}
+use Rattle.numbers_c.proofs.DateTimeLemmas.{IsTimeNamed, found, moment_from_c-facts, moment_from_c-none, numbers_for_c-again}
 
 -- ---- moves
 

@@ -13,7 +13,7 @@ use Rattle.chrono_calendar.specs.YearsBetween.{years_between, is_earlier_in_year
 use Rattle.chrono_calendar.proofs.Signed.{signed}
 use Rattle.chrono_calendar.proofs.MonthMoveLaws.{year_of-range}
 use Rattle.chrono_calendar.proofs.Months.{month_length_in-bounds}
-use Rattle.calendar_c.specs.Answers.{none_number}
+use Rattle.numbers_c.specs.Answers.{none_number}
 
 some_of_test : (b : Bool) (x k : ℕ) → Some k ≡ cond b None (Some x) → k ≡ x
 some_of_test true x k e = cc

@@ -8,7 +8,7 @@ ghost use Rattle.chrono_units.specs.SetDigits.{set_at};
 ghost use Rattle.chrono_calendar.specs.Days.{is_date};
 ghost use Rattle.chrono_columns.specs.Columns.{IsTextEntry, date_entry, day_entry, distance_entry, first_on_entry, iso_week_entry, iso_year_entry, later_entry, month_entry, months_later_entry, ordinal_entry, text_entry, unix_date_entry, unix_days_entry, weekday_entry, year_entry};
 
-use crate::arguments::set_of;
+use numbers_c::set_of;
 
 /// Writes the weekday of each date, from 1 for Monday to 7 for Sunday.
 #[unsafe(no_mangle)]

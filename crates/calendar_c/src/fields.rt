@@ -5,13 +5,12 @@ ghost use Rattle.chrono_units.specs.Years.{is_leap_year as leap_rule};
 ghost use Rattle.chrono_units.specs.Weekday.{number_from_monday};
 ghost use Rattle.chrono_datetime.specs.Days.{date_of_day, year_of, month_of, day_of, ordinal_of};
 ghost use Rattle.chrono_datetime.specs.Weeks.{iso_week_of, iso_year_of, weekday_of};
-ghost use Rattle.calendar_c.specs.Answers.{count_or_none, or_none};
-ghost use Rattle.calendar_c.specs.Arguments.{days_in_month};
+ghost use Rattle.numbers_c.specs.Answers.{count_or_none, or_none};
+ghost use Rattle.numbers_c.specs.Arguments.{days_in_month};
 
-use crate::answers::NONE;
-use crate::arguments::date_of;
 use chrono_datetime::{Datelike, Month};
 use chrono_units::year::is_leap_year;
+use numbers_c::{NONE, date_of};
 
 /// Returns the year of a date, from -262,143 to 262,142.
 #[unsafe(no_mangle)]

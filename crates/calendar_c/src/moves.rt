@@ -5,10 +5,9 @@ ghost use Rattle.chrono_datetime.specs.Days.{date_of_day};
 ghost use Rattle.chrono_datetime.specs.MonthMoves.{month_move};
 ghost use Rattle.chrono_datetime.specs.Recurrence.{date_every};
 ghost use Rattle.chrono_datetime.specs.YearsBetween.{years_between};
-ghost use Rattle.calendar_c.specs.Answers.{count_or_none, or_none};
+ghost use Rattle.numbers_c.specs.Answers.{count_or_none, or_none};
 
-use crate::answers::{NONE, number_or_none};
-use crate::arguments::date_of;
+use numbers_c::{NONE, date_of, number_or_none};
 
 /// Returns the date `days` days later, or earlier if `days` is negative.
 #[unsafe(no_mangle)]

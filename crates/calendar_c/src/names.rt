@@ -3,12 +3,11 @@ ghost use Rattle.std.specs.Prelude.{◌≡◌, ◌↔◌, IsSome};
 ghost use Rattle.std.specs.Option.{option_and_then};
 ghost use Rattle.chrono_datetime.specs.Days.{IsDate, date_of_yo, date_of_ymd};
 ghost use Rattle.chrono_datetime.specs.Weeks.{date_of_iso, date_of_nth_weekday};
-ghost use Rattle.calendar_c.specs.Answers.{or_none};
-ghost use Rattle.calendar_c.specs.Arguments.{weekday_numbered};
+ghost use Rattle.numbers_c.specs.Answers.{or_none};
+ghost use Rattle.numbers_c.specs.Arguments.{weekday_numbered};
 
-use crate::answers::{NONE, number_or_none};
-use crate::arguments::weekday_of;
 use chrono_datetime::NaiveDate;
+use numbers_c::{NONE, number_or_none, weekday_of};
 
 /// Returns the date of a year, a month from 1 to 12 and a day of the month from 1 (ISO 8601 calendar date).
 #[unsafe(no_mangle)]

@@ -8,15 +8,15 @@ ghost use Rattle.chrono_datetime.specs.Moment.{Moment};
 ghost use Rattle.chrono_datetime.specs.MomentText.{moment_text};
 ghost use Rattle.chrono_reading.specs.DateTexts.{IsDateText};
 ghost use Rattle.chrono_reading.specs.DateTimeTexts.{IsDateTimeText};
-ghost use Rattle.calendar_c.specs.Answers.{count_or_none, none_number};
-ghost use Rattle.calendar_c.specs.DateTimes.{moment_from_c, numbers_for_c, numbers_or_none};
-ghost use Rattle.calendar_c.specs.Texts.{length_of, overwritten, text_within};
+ghost use Rattle.numbers_c.specs.Answers.{count_or_none, none_number};
+ghost use Rattle.numbers_c.specs.DateTimes.{moment_from_c, numbers_for_c, numbers_or_none};
+ghost use Rattle.numbers_c.specs.Texts.{length_of, overwritten, text_within};
 
-use crate::answers::{NONE, number_or_none};
-use crate::arguments::date_of;
-use crate::date_time_numbers::{CalendarDateTime, date_time_of, numbers_or_none};
 use chrono_reading::{read_date, read_date_time};
 use chrono_text::Text;
+use numbers_c::{
+    CalendarDateTime, NONE, date_of, date_time_of, number_or_none, numbers_or_none, write_over,
+};
 
 // How many bytes the longest date has.
 const LONGEST_DATE: usize = 13;
@@ -78,19 +78,4 @@ pub extern "C" fn calendar_read_date_time(text: &[u8]) -> CalendarDateTime
     ensures named { (m : Moment) → IsDateTimeText text.now m → moment_from_c result ≡ Some m }
 {
     numbers_or_none(read_date_time(text).ok())
-}
-
-// Writes a text over the first bytes, if they are enough, and answers how many it took.
-#[inline]
-fn write_over(bytes: &mut [u8], text: &[u8]) -> i32
-    requires { length text.now < 100 }
-    ensures length { result ≡ count_or_none (length_of (text_within (length bytes.old) (Some text.now))) }
-    ensures bytes { bytes.new ≡ overwritten (text_within (length bytes.old) (Some text.now)) bytes.old }
-{
-    let end = text.len();
-    if bytes.len() < end {
-        return NONE;
-    }
-    bytes[..end].copy_from_slice(text);
-    end as i32
 }

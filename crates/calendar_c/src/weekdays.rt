@@ -6,11 +6,10 @@ ghost use Rattle.chrono_units.specs.WeekdaySet.{days_until};
 ghost use Rattle.chrono_datetime.specs.Days.{date_of_day};
 ghost use Rattle.chrono_datetime.specs.Weeks.{week_first_of};
 ghost use Rattle.chrono_datetime.specs.Recurrence.{date_on};
-ghost use Rattle.calendar_c.specs.Answers.{count_or_none, or_none};
-ghost use Rattle.calendar_c.specs.Arguments.{weekday_numbered};
+ghost use Rattle.numbers_c.specs.Answers.{count_or_none, or_none};
+ghost use Rattle.numbers_c.specs.Arguments.{weekday_numbered};
 
-use crate::answers::{NONE, number_or_none};
-use crate::arguments::{date_of, set_of, weekday_of};
+use numbers_c::{NONE, date_of, number_or_none, set_of, weekday_of};
 
 /// Returns the first day of the week that contains the date and begins on the weekday `start`.
 #[unsafe(no_mangle)]

@@ -1,303 +1,335 @@
--- The items of a pattern of fixed numbers are read back.
-use Rattle.std.proofs.Common.{◌≡◌, ℕ, ◌+◌, ◌/◌, ◌<◌, ◌==◌, Bool, true, false, if◌then◌else◌, List, ◌∷◌, ◌++◌, append_assoc, pos, Result, Ok, Err, refl, ap, sym, ◌∙◌, arith, ℤ, unsigned_abs, ◌%◌}
-use Rattle.std.proofs.lemmas.Bool.{and_parts, false≢true}
+-- Numbers, bytes and groups are read back.
+use Rattle.std.proofs.Common.{◌≡◌, ℕ, ◌<◌, ◌^◌, ◌==◌, Bool, true, false, ◌&&◌, if◌then◌else◌, List, [], ◌∷◌, ◌++◌, append_assoc, codes, length, ℤ, pos, Result, Ok, Err, refl, ap, sym, ◌∙◌, arith}
 use Rattle.std.proofs.lemmas.Bool.Decides.{nat_tests}
-use Rattle.chrono_calendar.proofs.NamedDates.{calendar_name-exists, day_of-small}
-use Rattle.chrono_datetime.specs.Days.{day_of, month_of, year_of}
-use Rattle.chrono_datetime.specs.Duration.{nanos_per_second}
+use Rattle.std.specs.Char.{is_ascii_digit}
+use Rattle.std.specs.Int.RustNames.{int_lt}
+use Rattle.chrono_text.proofs.Decimals.{at_most}
+use Rattle.chrono_datetime.specs.Days.{year_of}
 use Rattle.chrono_datetime.specs.Moment.{Moment}
-use Rattle.chrono_datetime.specs.Time.{IsTime, hour_of, minute_of, second_of}
+use Rattle.chrono_datetime.specs.Time.{IsTime}
+use Rattle.chrono_datetime.specs.Weeks.{iso_year_of}
 use Rattle.chrono_pattern.specs.Groups.{group_text, usual_text}
-use Rattle.chrono_pattern.specs.ItemReads.{behind_read, group_read, item_read, three_read, two_read}
-use Rattle.chrono_pattern.specs.NamedParts.{with_group, with_item, with_number_field, with_named}
-use Rattle.chrono_pattern.specs.NumberReads.{number_read}
-use Rattle.chrono_pattern.specs.Numbers.{field_text}
-use Rattle.chrono_pattern.specs.Patterns.{text_of_item}
+use Rattle.chrono_pattern.specs.ItemReads.{behind_read, clock_year_read, day_read, group_read, half_clock_read, short_date_read, three_read, two_read, word_behind_read}
+use Rattle.chrono_pattern.specs.Kept.{keeps_group, keeps_number, keeps_year}
+use Rattle.chrono_pattern.specs.NamedParts.{with_clock, with_group, with_named, with_number_field, word_part}
+use Rattle.chrono_pattern.specs.NumberReads.{has_sign, most_digits, number_put, number_read}
+use Rattle.chrono_pattern.specs.Numbers.{field_text, least_digits, padded, padding_of, size_of}
+use Rattle.chrono_pattern.specs.OffsetReads.{at_rest}
 use Rattle.chrono_pattern.specs.Progress.{Progress, behind_blanks, byte_behind, is_pattern_blank, literal_read, stopped, then_read}
-use Rattle.chrono_pattern.specs.ReadBack.{ends_blank, is_fixed_group, is_fixed_item, is_fixed_number, is_usual, parts_of}
+use Rattle.chrono_pattern.specs.ReadBack.{parts_of}
+use Rattle.chrono_pattern.specs.Separable.{bar_of_group, bar_of_number, is_filled}
+use Rattle.chrono_pattern.specs.WordReads.{word_read}
+use Rattle.chrono_pattern.specs.Words.{word_text}
 use Rattle.chrono_pattern.specs.declared.error.ReadFault.TheVariants.{Invalid}
+use Rattle.chrono_pattern.specs.declared.item.Bar.TheVariants.{Free, NoDigit}
 use Rattle.chrono_pattern.specs.declared.item.GroupField.{GroupField}
 use Rattle.chrono_pattern.specs.declared.item.GroupField.TheVariants.{YearMonthDay, MonthDayYear, HourMinute, HourMinuteSecond, HalfClock, DayMonthYear, DateAndTime}
-use Rattle.chrono_pattern.specs.declared.item.Item.{Item}
-use Rattle.chrono_pattern.specs.declared.item.Item.TheVariants.{Empty, Byte, Number, Word, Group, Subsecond, Zoned}
 use Rattle.chrono_pattern.specs.declared.item.NumberField.{NumberField}
 use Rattle.chrono_pattern.specs.declared.item.NumberField.TheVariants.{Year, Century, YearOfCentury, Quarter, Month, Day, SpacedDay, DayOfYear, FromMonday, FromSunday, IsoYear, IsoYearOfCentury, IsoWeek, WeekFromSunday, WeekFromMonday, Hour, SpacedHour, HalfHour, SpacedHalfHour, Minute, Second, Nanosecond}
-use Rattle.chrono_pattern.specs.declared.item.Padding.TheVariants.{Usual, Nothing, Spaces, Zeros}
-use Rattle.chrono_pattern.specs.declared.item.OffsetForm.TheVariants.{Plain, Colon, Seconds, Hours, Loose}
-use Rattle.chrono_pattern.specs.declared.item.ZonedField.TheVariants.{Offset, ZoneName, Stamp, Iso8601}
+use Rattle.chrono_pattern.specs.declared.item.Padding.{Padding}
+use Rattle.chrono_pattern.specs.declared.item.Padding.TheVariants.{Usual}
+use Rattle.chrono_pattern.specs.declared.item.WordField.{WordField}
+use Rattle.chrono_pattern.specs.declared.item.WordField.TheVariants.{MonthLetters, WeekdayLetters, Half}
 use Rattle.chrono_pattern.specs.declared.parsed.Parsed.{Parsed}
-use Rattle.chrono_pattern.specs.declared.parsed.Part.TheVariants.{OffsetFromUtc}
-use Rattle.chrono_instant.specs.Offsets.{IsOffset}
 use Rattle.chrono_pattern.specs.declared.stop.Stop.{Stop}
-use Rattle.chrono_pattern.proofs.BackNumbers.{blank_goes, front_stays, number_two, two_stays, year_back, year_stays}
-use Rattle.chrono_pattern.proofs.BackOffsets.{offset_back, offset_stays}
-use Rattle.chrono_pattern.proofs.BackParts.{put_offset, day_put, hour_put, minute_put, month_put, second_put, year_put}
+use Rattle.chrono_pattern.proofs.BackDigits.{Ends, digits_within, skip, unsigned_back}
+use Rattle.chrono_pattern.proofs.BackNumbers.{blank_goes, front_stays, nothing_stays}
+use Rattle.chrono_pattern.proofs.BackParts.{few_centuries, number_given, size_small}
+use Rattle.chrono_pattern.proofs.BackWords.{no_digits, opens_skips, word_back, word_opens}
+use Rattle.chrono_pattern.proofs.BackYears.{signed_back}
 
--- a date-time of a year of at most four digits
-pub record IsPlain (m : Moment) (x : ℤ) (n : ℕ) : Type 0 where
-  pub year : year_of m.date ≡ pos n
-  pub small : n < 10_000
-  pub time : IsTime m.time
-  pub offset : IsOffset x
-  pub minutes : unsigned_abs x % 60 ≡ 0
+-- ---- numbers
 
-abbrev pub at : List ℕ → Parsed → Progress
-at rest p = record { rest = rest; parsed = p }
+-- a number is read back: in front of any text that the bar allows
+abbrev Back : Bool → NumberField → Padding → Bool → List ℕ → Parsed → Moment → ℤ → Type 0
+Back wide field padding b rest q m x =
+    number_read field (at_rest (skip b (field_text field padding m ++ rest)) (parts_of q m x)) ≡ Ok (at_rest rest (parts_of (with_number_field field q) m x))
 
-few_months : (m : Moment) → month_of m.date < 100
-few_months m = omega (arith, (calendar_name-exists m.date).0)
+small_back : (wide : Bool) (field : NumberField) (padding : Padding) (b : Bool) (n : ℕ) (rest : List ℕ) (p q : Parsed) → has_sign field ≡ false
+    → n < 10 ^ 9 → n < 10 ^ most_digits field → Ends (bar_of_number wide field padding) rest → number_put field (pos n) p ≡ Ok q
+    → number_read field (at_rest (skip b (padded (padding_of field padding) (least_digits field 0) [] n ++ rest)) p) ≡ Ok (at_rest rest q)
+small_back wide field padding b n rest p q unsigned fits small ends put =
+    unsigned_back wide field padding b n rest p q unsigned fits (at_most (most_digits field) n (digits_within field).0 small (omega (arith, fits))) ends put
 
-few_days : (m : Moment) → day_of m.date < 100
-few_days m = omega (arith, day_of-small m.date)
-
-few_hours : (m : Moment) → IsTime m.time → hour_of m.time < 100
-few_hours m time = omega (arith, time.second)
-
-few_minutes : (m : Moment) → minute_of m.time < 100
-few_minutes m = omega arith
-
-few_seconds : (m : Moment) → IsTime m.time → second_of m.time + m.time.fraction / nanos_per_second < 100
-few_seconds m time = omega (arith, time.fraction)
-
-number_back : (field : NumberField) (rest : List ℕ) (q : Parsed) (m : Moment) (x : ℤ) (n : ℕ) → is_fixed_number field ≡ true → IsPlain m x n
-    → number_read field (at (usual_text field m ++ rest) (parts_of q m x)) ≡ Ok (at rest (parts_of (with_number_field field q) m x))
+-- a century with no sign
+century_back : (wide : Bool) (padding : Padding) (b : Bool) (rest : List ℕ) (q : Parsed) (m : Moment) (x : ℤ) → IsTime m.time
+    → keeps_number wide Century m ≡ true → Ends (bar_of_number wide Century padding) rest → int_lt (year_of m.date) (pos 0) ≡ false → Back wide Century padding b rest q m x
 unfolding field_text
-number_back Year rest q m x n h plain =
-    year_back (year_of m.date) n rest (parts_of q m x) (parts_of (with_number_field Year q) m x) plain.year plain.small (year_put q m x n plain.year plain.small)
-number_back Month rest q m x n h plain =
-    number_two Month (month_of m.date) rest (parts_of q m x) (parts_of (with_number_field Month q) m x) refl refl (few_months m) (month_put q m x)
-number_back Day rest q m x n h plain =
-    number_two Day (day_of m.date) rest (parts_of q m x) (parts_of (with_number_field Day q) m x) refl refl (few_days m) (day_put q m x)
-number_back Hour rest q m x n h plain =
-    number_two Hour (hour_of m.time) rest (parts_of q m x) (parts_of (with_number_field Hour q) m x) refl refl (few_hours m plain.time) (hour_put q m x plain.time)
-number_back Minute rest q m x n h plain =
-    number_two Minute (minute_of m.time) rest (parts_of q m x) (parts_of (with_number_field Minute q) m x) refl refl (few_minutes m) (minute_put q m x)
-number_back Second rest q m x n h plain =
-    number_two Second (second_of m.time + m.time.fraction / nanos_per_second) rest (parts_of q m x) (parts_of (with_number_field Second q) m x) refl refl (few_seconds m plain.time) (second_put q m x plain.time)
-number_back Century rest q m x n h plain = absurd (false≢true h)
-number_back YearOfCentury rest q m x n h plain = absurd (false≢true h)
-number_back Quarter rest q m x n h plain = absurd (false≢true h)
-number_back SpacedDay rest q m x n h plain = absurd (false≢true h)
-number_back DayOfYear rest q m x n h plain = absurd (false≢true h)
-number_back FromMonday rest q m x n h plain = absurd (false≢true h)
-number_back FromSunday rest q m x n h plain = absurd (false≢true h)
-number_back IsoYear rest q m x n h plain = absurd (false≢true h)
-number_back IsoYearOfCentury rest q m x n h plain = absurd (false≢true h)
-number_back IsoWeek rest q m x n h plain = absurd (false≢true h)
-number_back WeekFromSunday rest q m x n h plain = absurd (false≢true h)
-number_back WeekFromMonday rest q m x n h plain = absurd (false≢true h)
-number_back SpacedHour rest q m x n h plain = absurd (false≢true h)
-number_back HalfHour rest q m x n h plain = absurd (false≢true h)
-number_back SpacedHalfHour rest q m x n h plain = absurd (false≢true h)
-number_back Nanosecond rest q m x n h plain = absurd (false≢true h)
+century_back wide padding b rest q m x time keeps ends ahead =
+    let small = size_small Century m time refl keeps in
+    let n = size_of Century m in
+    ap (λ (t : Bool). number_read Century (at_rest (skip b (padded (padding_of Century padding) (least_digits Century (length (if t then codes "-" else []))) (if t then codes "-" else []) n ++ rest)) (parts_of q m x))) ahead
+    ∙ small_back wide Century padding b n rest _ _ refl (omega (arith, small)) small ends (number_given wide Century q m x time keeps)
 
-number_stays : (field : NumberField) (rest : List ℕ) (m : Moment) (x : ℤ) (n : ℕ) → is_fixed_number field ≡ true → IsPlain m x n
-    → behind_blanks (usual_text field m ++ rest) ≡ usual_text field m ++ rest
+pub number_back : (wide : Bool) (field : NumberField) (padding : Padding) (b : Bool) (rest : List ℕ) (q : Parsed) (m : Moment) (x : ℤ) → IsTime m.time
+    → keeps_number wide field m ≡ true → Ends (bar_of_number wide field padding) rest → Back wide field padding b rest q m x
 unfolding field_text
-number_stays Year rest m x n h plain = year_stays (year_of m.date) n rest plain.year plain.small
-number_stays Month rest m x n h plain = two_stays (month_of m.date) rest (few_months m)
-number_stays Day rest m x n h plain = two_stays (day_of m.date) rest (few_days m)
-number_stays Hour rest m x n h plain = two_stays (hour_of m.time) rest (few_hours m plain.time)
-number_stays Minute rest m x n h plain = two_stays (minute_of m.time) rest (few_minutes m)
-number_stays Second rest m x n h plain = two_stays (second_of m.time + m.time.fraction / nanos_per_second) rest (few_seconds m plain.time)
-number_stays Century rest m x n h plain = absurd (false≢true h)
-number_stays YearOfCentury rest m x n h plain = absurd (false≢true h)
-number_stays Quarter rest m x n h plain = absurd (false≢true h)
-number_stays SpacedDay rest m x n h plain = absurd (false≢true h)
-number_stays DayOfYear rest m x n h plain = absurd (false≢true h)
-number_stays FromMonday rest m x n h plain = absurd (false≢true h)
-number_stays FromSunday rest m x n h plain = absurd (false≢true h)
-number_stays IsoYear rest m x n h plain = absurd (false≢true h)
-number_stays IsoYearOfCentury rest m x n h plain = absurd (false≢true h)
-number_stays IsoWeek rest m x n h plain = absurd (false≢true h)
-number_stays WeekFromSunday rest m x n h plain = absurd (false≢true h)
-number_stays WeekFromMonday rest m x n h plain = absurd (false≢true h)
-number_stays SpacedHour rest m x n h plain = absurd (false≢true h)
-number_stays HalfHour rest m x n h plain = absurd (false≢true h)
-number_stays SpacedHalfHour rest m x n h plain = absurd (false≢true h)
-number_stays Nanosecond rest m x n h plain = absurd (false≢true h)
+number_back wide Year padding b rest q m x time keeps ends =
+    signed_back wide Year padding b (year_of m.date) rest _ _ refl refl keeps ends (number_given wide Year q m x time keeps)
+number_back wide IsoYear padding b rest q m x time keeps ends =
+    signed_back wide IsoYear padding b (iso_year_of m.date) rest _ _ refl refl keeps ends (number_given wide IsoYear q m x time keeps)
+number_back wide Century padding b rest q m x time keeps ends =
+    century_back wide padding b rest q m x time keeps ends (few_centuries (year_of m.date) keeps).2
+number_back wide YearOfCentury padding b rest q m x time keeps ends =
+    let small = size_small YearOfCentury m time refl refl in
+    small_back wide YearOfCentury padding b (size_of YearOfCentury m) rest _ _ refl (omega (arith, small)) small ends (number_given wide YearOfCentury q m x time keeps)
+number_back wide Quarter padding b rest q m x time keeps ends =
+    let small = size_small Quarter m time refl refl in
+    small_back wide Quarter padding b (size_of Quarter m) rest _ _ refl (omega (arith, small)) small ends (number_given wide Quarter q m x time keeps)
+number_back wide Month padding b rest q m x time keeps ends =
+    let small = size_small Month m time refl refl in
+    small_back wide Month padding b (size_of Month m) rest _ _ refl (omega (arith, small)) small ends (number_given wide Month q m x time keeps)
+number_back wide Day padding b rest q m x time keeps ends =
+    let small = size_small Day m time refl refl in
+    small_back wide Day padding b (size_of Day m) rest _ _ refl (omega (arith, small)) small ends (number_given wide Day q m x time keeps)
+number_back wide SpacedDay padding b rest q m x time keeps ends =
+    let small = size_small SpacedDay m time refl refl in
+    small_back wide SpacedDay padding b (size_of SpacedDay m) rest _ _ refl (omega (arith, small)) small ends (number_given wide SpacedDay q m x time keeps)
+number_back wide DayOfYear padding b rest q m x time keeps ends =
+    let small = size_small DayOfYear m time refl refl in
+    small_back wide DayOfYear padding b (size_of DayOfYear m) rest _ _ refl (omega (arith, small)) small ends (number_given wide DayOfYear q m x time keeps)
+number_back wide FromMonday padding b rest q m x time keeps ends =
+    let small = size_small FromMonday m time refl refl in
+    small_back wide FromMonday padding b (size_of FromMonday m) rest _ _ refl (omega (arith, small)) small ends (number_given wide FromMonday q m x time keeps)
+number_back wide FromSunday padding b rest q m x time keeps ends =
+    let small = size_small FromSunday m time refl refl in
+    small_back wide FromSunday padding b (size_of FromSunday m) rest _ _ refl (omega (arith, small)) small ends (number_given wide FromSunday q m x time keeps)
+number_back wide IsoYearOfCentury padding b rest q m x time keeps ends =
+    let small = size_small IsoYearOfCentury m time refl refl in
+    small_back wide IsoYearOfCentury padding b (size_of IsoYearOfCentury m) rest _ _ refl (omega (arith, small)) small ends (number_given wide IsoYearOfCentury q m x time keeps)
+number_back wide IsoWeek padding b rest q m x time keeps ends =
+    let small = size_small IsoWeek m time refl refl in
+    small_back wide IsoWeek padding b (size_of IsoWeek m) rest _ _ refl (omega (arith, small)) small ends (number_given wide IsoWeek q m x time keeps)
+number_back wide WeekFromSunday padding b rest q m x time keeps ends =
+    let small = size_small WeekFromSunday m time refl refl in
+    small_back wide WeekFromSunday padding b (size_of WeekFromSunday m) rest _ _ refl (omega (arith, small)) small ends (number_given wide WeekFromSunday q m x time keeps)
+number_back wide WeekFromMonday padding b rest q m x time keeps ends =
+    let small = size_small WeekFromMonday m time refl refl in
+    small_back wide WeekFromMonday padding b (size_of WeekFromMonday m) rest _ _ refl (omega (arith, small)) small ends (number_given wide WeekFromMonday q m x time keeps)
+number_back wide Hour padding b rest q m x time keeps ends =
+    let small = size_small Hour m time refl refl in
+    small_back wide Hour padding b (size_of Hour m) rest _ _ refl (omega (arith, small)) small ends (number_given wide Hour q m x time keeps)
+number_back wide SpacedHour padding b rest q m x time keeps ends =
+    let small = size_small SpacedHour m time refl refl in
+    small_back wide SpacedHour padding b (size_of SpacedHour m) rest _ _ refl (omega (arith, small)) small ends (number_given wide SpacedHour q m x time keeps)
+number_back wide HalfHour padding b rest q m x time keeps ends =
+    let small = size_small HalfHour m time refl refl in
+    small_back wide HalfHour padding b (size_of HalfHour m) rest _ _ refl (omega (arith, small)) small ends (number_given wide HalfHour q m x time keeps)
+number_back wide SpacedHalfHour padding b rest q m x time keeps ends =
+    let small = size_small SpacedHalfHour m time refl refl in
+    small_back wide SpacedHalfHour padding b (size_of SpacedHalfHour m) rest _ _ refl (omega (arith, small)) small ends (number_given wide SpacedHalfHour q m x time keeps)
+number_back wide Minute padding b rest q m x time keeps ends =
+    let small = size_small Minute m time refl refl in
+    small_back wide Minute padding b (size_of Minute m) rest _ _ refl (omega (arith, small)) small ends (number_given wide Minute q m x time keeps)
+number_back wide Second padding b rest q m x time keeps ends =
+    let small = size_small Second m time refl refl in
+    small_back wide Second padding b (size_of Second m) rest _ _ refl (omega (arith, small)) small ends (number_given wide Second q m x time keeps)
+number_back wide Nanosecond padding b rest q m x time keeps ends =
+    let small = size_small Nanosecond m time refl refl in
+    small_back wide Nanosecond padding b (size_of Nanosecond m) rest _ _ refl (omega (arith, small)) small ends (number_given wide Nanosecond q m x time keeps)
 
 -- ---- bytes
 
 same_byte : (c : ℕ) → (c == c) ≡ true
 same_byte c = grind (arith, nat_tests)
 
-literal_back : (c : ℕ) (rest : List ℕ) (p : Parsed) → is_pattern_blank c ≡ false → literal_read c (at (c ∷ rest) p) ≡ Ok (at rest p)
+shown_back : (c : ℕ) (b : Bool) (rest : List ℕ) (p : Parsed) → is_pattern_blank c ≡ false → literal_read c (at_rest (skip b (c ∷ rest)) p) ≡ Ok (at_rest rest p)
 unfolding literal_read
-literal_back c rest p not =
-    ap (λ (b : Bool). if b then Ok (at (behind_blanks (c ∷ rest)) p) else byte_behind c (c ∷ rest) p) not
-    ∙ ap (λ (b : Bool). if b then Ok (at rest p) else Err (stopped Invalid (c ∷ rest))) (same_byte c)
+shown_back c b rest p not =
+    ap (λ (l : List ℕ). literal_read c (at_rest l p)) (stays b)
+    ∙ ap (λ (t : Bool). if t then Ok (at_rest (behind_blanks (c ∷ rest)) p) else byte_behind c (c ∷ rest) p) not
+    ∙ ap (λ (t : Bool). if t then Ok (at_rest rest p) else Err (stopped Invalid (c ∷ rest))) (same_byte c)
+  where
+    stays : (s : Bool) → skip s (c ∷ rest) ≡ c ∷ rest
+    stays true = front_stays c rest not
+    stays false = refl
 
-blank_back : (c : ℕ) (rest : List ℕ) (p : Parsed) → is_pattern_blank c ≡ true → behind_blanks rest ≡ rest
-    → literal_read c (at (c ∷ rest) p) ≡ Ok (at rest p)
+blanks_twice : (text : List ℕ) → behind_blanks (behind_blanks text) ≡ behind_blanks text
+blanks_twice [] = ap (λ (l : List ℕ). behind_blanks l) nothing_stays
+blanks_twice (c ∷ text) = by_test (is_pattern_blank c) refl (blanks_twice text)
+  where
+    by_test : (b : Bool) → is_pattern_blank c ≡ b → behind_blanks (behind_blanks text) ≡ behind_blanks text → behind_blanks (behind_blanks (c ∷ text)) ≡ behind_blanks (c ∷ text)
+    by_test true e twice = ap (λ (l : List ℕ). behind_blanks l) (blank_goes c text e) ∙ twice ∙ sym (blank_goes c text e)
+    by_test false e twice = ap (λ (l : List ℕ). behind_blanks l) (front_stays c text e)
+
+blank_back : (c : ℕ) (b : Bool) (rest : List ℕ) (p : Parsed) → is_pattern_blank c ≡ true
+    → literal_read c (at_rest (skip b (c ∷ rest)) p) ≡ Ok (at_rest (behind_blanks rest) p)
 unfolding literal_read
-blank_back c rest p is stays =
-    ap (λ (b : Bool). if b then Ok (at (behind_blanks (c ∷ rest)) p) else byte_behind c (c ∷ rest) p) is
-    ∙ ap (λ (l : List ℕ). Ok (at l p)) (blank_goes c rest is ∙ stays)
+blank_back c b rest p is =
+    ap (λ (t : Bool). if t then Ok (at_rest (behind_blanks (skip b (c ∷ rest))) p) else byte_behind c (skip b (c ∷ rest)) p) is
+    ∙ ap (λ (l : List ℕ). Ok (at_rest l p)) (goes b)
+  where
+    goes : (s : Bool) → behind_blanks (skip s (c ∷ rest)) ≡ behind_blanks rest
+    goes true = blanks_twice (c ∷ rest) ∙ blank_goes c rest is
+    goes false = blank_goes c rest is
 
-byte_back : (c : ℕ) (rest : List ℕ) (p : Parsed) (b : Bool) → is_pattern_blank c ≡ b → (b ≡ true → behind_blanks rest ≡ rest)
-    → literal_read c (at (c ∷ rest) p) ≡ Ok (at rest p)
-byte_back c rest p true is stays = blank_back c rest p is (stays refl)
-byte_back c rest p false is stays = literal_back c rest p is
+-- a byte is read back, and with a blank all blanks behind it
+pub byte_back : (c : ℕ) (b : Bool) (rest : List ℕ) (p : Parsed) → literal_read c (at_rest (skip b (c ∷ rest)) p) ≡ Ok (at_rest (skip (is_pattern_blank c) rest) p)
+byte_back c b rest p = by_test (is_pattern_blank c) refl
+  where
+    by_test : (t : Bool) → is_pattern_blank c ≡ t → literal_read c (at_rest (skip b (c ∷ rest)) p) ≡ Ok (at_rest (skip t rest) p)
+    by_test true e = blank_back c b rest p e
+    by_test false e = shown_back c b rest p e
+
+-- ---- what stands behind a number
+
+-- no digit ends any number
+pub number_ends : (wide : Bool) (field : NumberField) (padding : Padding) (c : ℕ) (rest : List ℕ) → is_ascii_digit c ≡ false
+    → Ends (bar_of_number wide field padding) (c ∷ rest)
+number_ends wide field padding c rest not = by_tests (wide && has_sign field) (is_filled field padding)
+  where
+    by_tests : (s t : Bool) → Ends (if s then NoDigit else if t then Free else NoDigit) (c ∷ rest)
+    by_tests true t = no_digits c rest not
+    by_tests false true = refl
+    by_tests false false = no_digits c rest not
 
 -- ---- groups
 
-behind_back : (c : ℕ) (field : NumberField) (text rest : List ℕ) (p q : Parsed) → is_pattern_blank c ≡ false
-    → number_read field (at text p) ≡ Ok (at rest q) → behind_read c field (at (c ∷ text) p) ≡ Ok (at rest q)
-behind_back c field text rest p q not read =
-    ap (λ (o : Result Progress Stop). then_read o (number_read field)) (literal_back c text p not) ∙ read
+number_behind : (wide : Bool) (c : ℕ) (field : NumberField) (rest : List ℕ) (q : Parsed) (m : Moment) (x : ℤ) → IsTime m.time → keeps_number wide field m ≡ true
+    → Ends (bar_of_number wide field Usual) rest
+    → behind_read c field (at_rest (c ∷ (usual_text field m ++ rest)) (parts_of q m x)) ≡ Ok (at_rest rest (parts_of (with_number_field field q) m x))
+number_behind wide c field rest q m x time keeps ends =
+    ap (λ (o : Result Progress Stop). then_read o (number_read field)) (byte_back c false (usual_text field m ++ rest) (parts_of q m x))
+    ∙ number_back wide field Usual (is_pattern_blank c) rest q m x time keeps ends
 
-two_fixed : (c : ℕ) (first second : NumberField) (rest : List ℕ) (q : Parsed) (m : Moment) (x : ℤ) (n : ℕ) → is_pattern_blank c ≡ false
-    → is_fixed_number first ≡ true → is_fixed_number second ≡ true → IsPlain m x n
-    → two_read first c second (at (usual_text first m ++ (c ∷ (usual_text second m ++ rest))) (parts_of q m x))
-    ≡ Ok (at rest (parts_of (with_number_field second (with_number_field first q)) m x))
-two_fixed c first second rest q m x n not one two plain =
-    ap (λ (o : Result Progress Stop). then_read o (behind_read c second)) (number_back first (c ∷ (usual_text second m ++ rest)) q m x n one plain)
-    ∙ behind_back c second (usual_text second m ++ rest) rest (parts_of (with_number_field first q) m x)
-    (parts_of (with_number_field second (with_number_field first q)) m x) not (number_back second rest (with_number_field first q) m x n two plain)
+word_behind : (c : ℕ) (word : WordField) (rest : List ℕ) (q : Parsed) (m : Moment) (x : ℤ) → IsTime m.time
+    → word_behind_read c word (at_rest (c ∷ (word_text word m ++ rest)) (parts_of q m x)) ≡ Ok (at_rest rest (parts_of (with_named (word_part word) q) m x))
+word_behind c word rest q m x time =
+    ap (λ (o : Result Progress Stop). then_read o (word_read word)) (byte_back c false (word_text word m ++ rest) (parts_of q m x))
+    ∙ ap (λ (l : List ℕ). word_read word (at_rest l (parts_of q m x))) (opens_skips (is_pattern_blank c) (word_text word m ++ rest) (word_opens word rest m))
+    ∙ word_back word rest q m x time
 
-three_fixed : (c : ℕ) (first second third : NumberField) (rest : List ℕ) (q : Parsed) (m : Moment) (x : ℤ) (n : ℕ) → is_pattern_blank c ≡ false
-    → is_fixed_number first ≡ true → is_fixed_number second ≡ true → is_fixed_number third ≡ true → IsPlain m x n
-    → three_read first c second third (at (usual_text first m ++ (c ∷ (usual_text second m ++ (c ∷ (usual_text third m ++ rest))))) (parts_of q m x))
-    ≡ Ok (at rest (parts_of (with_number_field third (with_number_field second (with_number_field first q))) m x))
-three_fixed c first second third rest q m x n not one two three plain =
-    let both = with_number_field second (with_number_field first q) in
-    ap (λ (o : Result Progress Stop). then_read o (behind_read c third)) (two_fixed c first second (c ∷ (usual_text third m ++ rest)) q m x n not one two plain)
-    ∙ behind_back c third (usual_text third m ++ rest) rest (parts_of both m x) (parts_of (with_number_field third both) m x) not
-    (number_back third rest both m x n three plain)
+-- two numbers with a byte between them
+two_back : (wide last : Bool) (c : ℕ) (first second : NumberField) (b : Bool) (rest : List ℕ) (q : Parsed) (m : Moment) (x : ℤ) → IsTime m.time → is_ascii_digit c ≡ false
+    → keeps_number wide first m ≡ true → keeps_number last second m ≡ true → Ends (bar_of_number last second Usual) rest
+    → two_read first c second (at_rest (skip b (usual_text first m ++ (c ∷ (usual_text second m ++ rest)))) (parts_of q m x))
+    ≡ Ok (at_rest rest (parts_of (with_number_field second (with_number_field first q)) m x))
+two_back wide last c first second b rest q m x time not one two ends =
+    ap (λ (o : Result Progress Stop). then_read o (behind_read c second))
+    (number_back wide first Usual b (c ∷ (usual_text second m ++ rest)) q m x time one (number_ends wide first Usual c (usual_text second m ++ rest) not))
+    ∙ number_behind last c second rest (with_number_field first q) m x time two ends
 
-three_joined : (a b c rest : List ℕ) (x y : ℕ) → ((a ++ (x ∷ b)) ++ (y ∷ c)) ++ rest ≡ a ++ (x ∷ (b ++ (y ∷ (c ++ rest))))
+-- three numbers with a byte between each two
+three_back : (wide middle last : Bool) (c : ℕ) (first second third : NumberField) (b : Bool) (rest : List ℕ) (q : Parsed) (m : Moment) (x : ℤ) → IsTime m.time → is_ascii_digit c ≡ false
+    → keeps_number wide first m ≡ true → keeps_number middle second m ≡ true → keeps_number last third m ≡ true → Ends (bar_of_number last third Usual) rest
+    → three_read first c second third (at_rest (skip b (usual_text first m ++ (c ∷ (usual_text second m ++ (c ∷ (usual_text third m ++ rest)))))) (parts_of q m x))
+    ≡ Ok (at_rest rest (parts_of (with_number_field third (with_number_field second (with_number_field first q))) m x))
+three_back wide middle last c first second third b rest q m x time not one two three ends =
+    ap (λ (o : Result Progress Stop). then_read o (behind_read c third))
+    (two_back wide middle c first second b (c ∷ (usual_text third m ++ rest)) q m x time not one two (number_ends middle second Usual c (usual_text third m ++ rest) not))
+    ∙ number_behind last c third rest (with_number_field second (with_number_field first q)) m x time three ends
+
+pub three_joined : (a b c rest : List ℕ) (x y : ℕ) → ((a ++ (x ∷ b)) ++ (y ∷ c)) ++ rest ≡ a ++ (x ∷ (b ++ (y ∷ (c ++ rest))))
 three_joined a b c rest x y = append_assoc (a ++ (x ∷ b)) (y ∷ c) rest ∙ append_assoc a (x ∷ b) (y ∷ (c ++ rest))
 
-pub group_back : (g : GroupField) (rest : List ℕ) (q : Parsed) (m : Moment) (x : ℤ) (n : ℕ) → is_fixed_group g ≡ true → IsPlain m x n
-    → group_read g (at (group_text g m ++ rest) (parts_of q m x)) ≡ Ok (at rest (parts_of (with_group g q) m x))
-unfolding group_read group_text with_group
-group_back YearMonthDay rest q m x n h plain =
-    ap (λ (l : List ℕ). three_read Year 45 Month Day (at l (parts_of q m x))) (three_joined (usual_text Year m) (usual_text Month m) (usual_text Day m) rest 45 45)
-    ∙ three_fixed 45 Year Month Day rest q m x n refl refl refl refl plain
-group_back HourMinute rest q m x n h plain =
-    ap (λ (l : List ℕ). two_read Hour 58 Minute (at l (parts_of q m x))) (append_assoc (usual_text Hour m) (58 ∷ usual_text Minute m) rest)
-    ∙ two_fixed 58 Hour Minute rest q m x n refl refl refl plain
-group_back HourMinuteSecond rest q m x n h plain =
-    ap (λ (l : List ℕ). three_read Hour 58 Minute Second (at l (parts_of q m x))) (three_joined (usual_text Hour m) (usual_text Minute m) (usual_text Second m) rest 58 58)
-    ∙ three_fixed 58 Hour Minute Second rest q m x n refl refl refl refl plain
-group_back MonthDayYear rest q m x n h plain = absurd (false≢true h)
-group_back HalfClock rest q m x n h plain = absurd (false≢true h)
-group_back DayMonthYear rest q m x n h plain = absurd (false≢true h)
-group_back DateAndTime rest q m x n h plain = absurd (false≢true h)
+pub four_joined : (a b c d rest : List ℕ) (x y z : ℕ) → (((a ++ (x ∷ b)) ++ (y ∷ c)) ++ (z ∷ d)) ++ rest ≡ a ++ (x ∷ (b ++ (y ∷ (c ++ (z ∷ (d ++ rest))))))
+four_joined a b c d rest x y z = append_assoc ((a ++ (x ∷ b)) ++ (y ∷ c)) (z ∷ d) rest ∙ three_joined a b c (z ∷ (d ++ rest)) x y
 
-group_stays : (g : GroupField) (rest : List ℕ) (m : Moment) (x : ℤ) (n : ℕ) → is_fixed_group g ≡ true → IsPlain m x n
-    → behind_blanks (group_text g m ++ rest) ≡ group_text g m ++ rest
-unfolding group_text
-group_stays YearMonthDay rest m x n h plain =
-    let joined = three_joined (usual_text Year m) (usual_text Month m) (usual_text Day m) rest 45 45 in
-    ap (λ (l : List ℕ). behind_blanks l) joined ∙ number_stays Year (45 ∷ (usual_text Month m ++ (45 ∷ (usual_text Day m ++ rest)))) m x n refl plain ∙ sym joined
-group_stays HourMinute rest m x n h plain =
-    let joined = append_assoc (usual_text Hour m) (58 ∷ usual_text Minute m) rest in
-    ap (λ (l : List ℕ). behind_blanks l) joined ∙ number_stays Hour (58 ∷ (usual_text Minute m ++ rest)) m x n refl plain ∙ sym joined
-group_stays HourMinuteSecond rest m x n h plain =
-    let joined = three_joined (usual_text Hour m) (usual_text Minute m) (usual_text Second m) rest 58 58 in
-    ap (λ (l : List ℕ). behind_blanks l) joined ∙ number_stays Hour (58 ∷ (usual_text Minute m ++ (58 ∷ (usual_text Second m ++ rest)))) m x n refl plain ∙ sym joined
-group_stays MonthDayYear rest m x n h plain = absurd (false≢true h)
-group_stays HalfClock rest m x n h plain = absurd (false≢true h)
-group_stays DayMonthYear rest m x n h plain = absurd (false≢true h)
-group_stays DateAndTime rest m x n h plain = absurd (false≢true h)
-
--- ---- all items
-
-pub item_back : (item : Item) (blank : Bool) (rest : List ℕ) (q : Parsed) (m : Moment) (x : ℤ) (n : ℕ) → is_fixed_item blank item ≡ true → IsPlain m x n
-    → (ends_blank blank item ≡ true → behind_blanks rest ≡ rest)
-    → item_read item (at (text_of_item item m x ++ rest) (parts_of q m x)) ≡ Ok (at rest (parts_of (with_item item q) m x))
-item_back Empty blank rest q m x n h plain stays = refl
-item_back (Byte c) blank rest q m x n h plain stays = byte_back c rest (parts_of q m x) (is_pattern_blank c) refl stays
-item_back (Number field Usual) blank rest q m x n h plain stays =
-    number_back field rest q m x n (and_parts (is_fixed_number field) true h).0 plain
-item_back (Number field Nothing) blank rest q m x n h plain stays = absurd (false≢true (and_parts (is_fixed_number field) false h).1)
-item_back (Number field Spaces) blank rest q m x n h plain stays = absurd (false≢true (and_parts (is_fixed_number field) false h).1)
-item_back (Number field Zeros) blank rest q m x n h plain stays = absurd (false≢true (and_parts (is_fixed_number field) false h).1)
-item_back (Word w) blank rest q m x n h plain stays = absurd (false≢true h)
-item_back (Group g) blank rest q m x n h plain stays = group_back g rest q m x n h plain
-item_back (Subsecond point count) blank rest q m x n h plain stays = absurd (false≢true h)
-item_back (Zoned (Offset Plain)) blank rest q m x n h plain stays =
-    offset_back Plain x rest (parts_of q m x) (parts_of (with_named OffsetFromUtc q) m x) h plain.offset plain.minutes (put_offset q m x plain.offset)
-item_back (Zoned (Offset Colon)) blank rest q m x n h plain stays =
-    offset_back Colon x rest (parts_of q m x) (parts_of (with_named OffsetFromUtc q) m x) h plain.offset plain.minutes (put_offset q m x plain.offset)
-item_back (Zoned (Offset Seconds)) blank rest q m x n h plain stays =
-    offset_back Seconds x rest (parts_of q m x) (parts_of (with_named OffsetFromUtc q) m x) h plain.offset plain.minutes (put_offset q m x plain.offset)
-item_back (Zoned (Offset Hours)) blank rest q m x n h plain stays = absurd (false≢true h)
-item_back (Zoned (Offset Loose)) blank rest q m x n h plain stays = absurd (false≢true h)
-item_back (Zoned ZoneName) blank rest q m x n h plain stays = absurd (false≢true h)
-item_back (Zoned Stamp) blank rest q m x n h plain stays = absurd (false≢true h)
-item_back (Zoned Iso8601) blank rest q m x n h plain stays = absurd (false≢true h)
-
-not_so : (b : Bool) → (if b then false else true) ≡ true → b ≡ false
-not_so true h = absurd (false≢true h)
-not_so false h = refl
-
-pub item_stays : (item : Item) (rest : List ℕ) (m : Moment) (x : ℤ) (n : ℕ) → is_fixed_item true item ≡ true → IsPlain m x n
-    → (ends_blank true item ≡ true → behind_blanks rest ≡ rest) → behind_blanks (text_of_item item m x ++ rest) ≡ text_of_item item m x ++ rest
-item_stays Empty rest m x n h plain stays = stays refl
-item_stays (Byte c) rest m x n h plain stays = front_stays c rest (not_so (is_pattern_blank c) h)
-item_stays (Number field Usual) rest m x n h plain stays = number_stays field rest m x n (and_parts (is_fixed_number field) true h).0 plain
-item_stays (Number field Nothing) rest m x n h plain stays = absurd (false≢true (and_parts (is_fixed_number field) false h).1)
-item_stays (Number field Spaces) rest m x n h plain stays = absurd (false≢true (and_parts (is_fixed_number field) false h).1)
-item_stays (Number field Zeros) rest m x n h plain stays = absurd (false≢true (and_parts (is_fixed_number field) false h).1)
-item_stays (Word w) rest m x n h plain stays = absurd (false≢true h)
-item_stays (Group g) rest m x n h plain stays = group_stays g rest m x n h plain
-item_stays (Subsecond point count) rest m x n h plain stays = absurd (false≢true h)
-item_stays (Zoned (Offset Plain)) rest m x n h plain stays = offset_stays Plain x rest h
-item_stays (Zoned (Offset Colon)) rest m x n h plain stays = offset_stays Colon x rest h
-item_stays (Zoned (Offset Seconds)) rest m x n h plain stays = offset_stays Seconds x rest h
-item_stays (Zoned (Offset Hours)) rest m x n h plain stays = absurd (false≢true h)
-item_stays (Zoned (Offset Loose)) rest m x n h plain stays = absurd (false≢true h)
-item_stays (Zoned ZoneName) rest m x n h plain stays = absurd (false≢true h)
-item_stays (Zoned Stamp) rest m x n h plain stays = absurd (false≢true h)
-item_stays (Zoned Iso8601) rest m x n h plain stays = absurd (false≢true h)
-
--- ---- no year of the century is named
-
-number_no_place : (field : NumberField) (q : Parsed) → is_fixed_number field ≡ true → (with_number_field field q).year_mod_100 ≡ q.year_mod_100
-number_no_place Year q h = refl
-number_no_place Month q h = refl
-number_no_place Day q h = refl
-number_no_place Hour q h = refl
-number_no_place Minute q h = refl
-number_no_place Second q h = refl
-number_no_place Century q h = absurd (false≢true h)
-number_no_place YearOfCentury q h = absurd (false≢true h)
-number_no_place Quarter q h = absurd (false≢true h)
-number_no_place SpacedDay q h = absurd (false≢true h)
-number_no_place DayOfYear q h = absurd (false≢true h)
-number_no_place FromMonday q h = absurd (false≢true h)
-number_no_place FromSunday q h = absurd (false≢true h)
-number_no_place IsoYear q h = absurd (false≢true h)
-number_no_place IsoYearOfCentury q h = absurd (false≢true h)
-number_no_place IsoWeek q h = absurd (false≢true h)
-number_no_place WeekFromSunday q h = absurd (false≢true h)
-number_no_place WeekFromMonday q h = absurd (false≢true h)
-number_no_place SpacedHour q h = absurd (false≢true h)
-number_no_place HalfHour q h = absurd (false≢true h)
-number_no_place SpacedHalfHour q h = absurd (false≢true h)
-number_no_place Nanosecond q h = absurd (false≢true h)
-
-group_no_place : (g : GroupField) (q : Parsed) → is_fixed_group g ≡ true → (with_group g q).year_mod_100 ≡ q.year_mod_100
+-- the clock of twelve hours
+half_clock_back : (b : Bool) (rest : List ℕ) (q : Parsed) (m : Moment) (x : ℤ) → IsTime m.time
+    → half_clock_read (at_rest (skip b (usual_text HalfHour m ++ (58 ∷ (usual_text Minute m ++ (58 ∷ (usual_text Second m ++ (32 ∷ (word_text Half m ++ rest)))))))) (parts_of q m x))
+    ≡ Ok (at_rest rest (parts_of (with_group HalfClock q) m x))
 unfolding with_group
-group_no_place YearMonthDay q h = refl
-group_no_place HourMinute q h = refl
-group_no_place HourMinuteSecond q h = refl
-group_no_place MonthDayYear q h = absurd (false≢true h)
-group_no_place HalfClock q h = absurd (false≢true h)
-group_no_place DayMonthYear q h = absurd (false≢true h)
-group_no_place DateAndTime q h = absurd (false≢true h)
+half_clock_back b rest q m x time =
+    ap (λ (o : Result Progress Stop). then_read o (word_behind_read 32 Half))
+    (three_back false false false 58 HalfHour Minute Second b (32 ∷ (word_text Half m ++ rest)) q m x time refl refl refl refl refl)
+    ∙ word_behind 32 Half rest (with_clock HalfHour q) m x time
 
-pub item_no_place : (item : Item) (blank : Bool) (q : Parsed) → is_fixed_item blank item ≡ true → (with_item item q).year_mod_100 ≡ q.year_mod_100
-item_no_place Empty blank q h = refl
-item_no_place (Byte c) blank q h = refl
-item_no_place (Number field padding) blank q h = number_no_place field q (and_parts (is_fixed_number field) (is_usual padding) h).0
-item_no_place (Word w) blank q h = absurd (false≢true h)
-item_no_place (Group g) blank q h = group_no_place g q h
-item_no_place (Subsecond point count) blank q h = absurd (false≢true h)
-item_no_place (Zoned (Offset form)) blank q h = refl
-item_no_place (Zoned ZoneName) blank q h = absurd (false≢true h)
-item_no_place (Zoned Stamp) blank q h = absurd (false≢true h)
-item_no_place (Zoned Iso8601) blank q h = absurd (false≢true h)
+-- a day, a month and a year
+short_date_back : (wide b : Bool) (rest : List ℕ) (q : Parsed) (m : Moment) (x : ℤ) → IsTime m.time → keeps_year wide (year_of m.date) ≡ true
+    → Ends (bar_of_number wide Year Usual) rest
+    → short_date_read (at_rest (skip b (usual_text SpacedDay m ++ (45 ∷ (word_text MonthLetters m ++ (45 ∷ (usual_text Year m ++ rest)))))) (parts_of q m x))
+    ≡ Ok (at_rest rest (parts_of (with_group DayMonthYear q) m x))
+unfolding with_group
+short_date_back wide b rest q m x time keeps ends =
+    let year = 45 ∷ (usual_text Year m ++ rest) in
+    ap (λ (o : Result Progress Stop). then_read (then_read o (word_behind_read 45 MonthLetters)) (behind_read 45 Year))
+    (number_back false SpacedDay Usual b (45 ∷ (word_text MonthLetters m ++ year)) q m x time refl (number_ends false SpacedDay Usual 45 (word_text MonthLetters m ++ year) refl))
+    ∙ ap (λ (o : Result Progress Stop). then_read o (behind_read 45 Year)) (word_behind 45 MonthLetters year (with_number_field SpacedDay q) m x time)
+    ∙ number_behind wide 45 Year rest (with_named (word_part MonthLetters) (with_number_field SpacedDay q)) m x time keeps ends
+
+-- a weekday, a month and a day
+abbrev day_parts : Parsed → Parsed
+day_parts q = with_number_field SpacedDay (with_named (word_part MonthLetters) (with_named (word_part WeekdayLetters) q))
+
+day_back : (rest : List ℕ) (q : Parsed) (m : Moment) (x : ℤ) → IsTime m.time
+    → day_read (at_rest (word_text WeekdayLetters m ++ (32 ∷ (word_text MonthLetters m ++ (32 ∷ (usual_text SpacedDay m ++ (32 ∷ rest)))))) (parts_of q m x))
+    ≡ Ok (at_rest (32 ∷ rest) (parts_of (day_parts q) m x))
+day_back rest q m x time =
+    let day = 32 ∷ (usual_text SpacedDay m ++ (32 ∷ rest)) in
+    ap (λ (o : Result Progress Stop). then_read (then_read o (word_behind_read 32 MonthLetters)) (behind_read 32 SpacedDay))
+    (word_back WeekdayLetters (32 ∷ (word_text MonthLetters m ++ day)) q m x time)
+    ∙ ap (λ (o : Result Progress Stop). then_read o (behind_read 32 SpacedDay)) (word_behind 32 MonthLetters day (with_named (word_part WeekdayLetters) q) m x time)
+    ∙ number_behind false 32 SpacedDay (32 ∷ rest) (with_named (word_part MonthLetters) (with_named (word_part WeekdayLetters) q)) m x time refl
+    (number_ends false SpacedDay Usual 32 rest refl)
+
+-- an hour, a minute, a second and a year
+clock_year_back : (wide : Bool) (rest : List ℕ) (q : Parsed) (m : Moment) (x : ℤ) → IsTime m.time → keeps_year wide (year_of m.date) ≡ true
+    → Ends (bar_of_number wide Year Usual) rest
+    → clock_year_read (at_rest (32 ∷ (usual_text Hour m ++ (58 ∷ (usual_text Minute m ++ (58 ∷ (usual_text Second m ++ (32 ∷ (usual_text Year m ++ rest)))))))) (parts_of q m x))
+    ≡ Ok (at_rest rest (parts_of (with_number_field Year (with_clock Hour q)) m x))
+clock_year_back wide rest q m x time keeps ends =
+    let year = 32 ∷ (usual_text Year m ++ rest) in
+    let second = 58 ∷ (usual_text Second m ++ year) in
+    let minute = 58 ∷ (usual_text Minute m ++ second) in
+    let hour = with_number_field Hour q in
+    ap (λ (o : Result Progress Stop). then_read (then_read (then_read o (behind_read 58 Minute)) (behind_read 58 Second)) (behind_read 32 Year))
+    (number_behind false 32 Hour minute q m x time refl (number_ends false Hour Usual 58 (usual_text Minute m ++ second) refl))
+    ∙ ap (λ (o : Result Progress Stop). then_read (then_read o (behind_read 58 Second)) (behind_read 32 Year))
+    (number_behind false 58 Minute second hour m x time refl (number_ends false Minute Usual 58 (usual_text Second m ++ year) refl))
+    ∙ ap (λ (o : Result Progress Stop). then_read o (behind_read 32 Year))
+    (number_behind false 58 Second year (with_number_field Minute hour) m x time refl (number_ends false Second Usual 32 (usual_text Year m ++ rest) refl))
+    ∙ number_behind wide 32 Year rest (with_clock Hour q) m x time keeps ends
+
+-- the text of `%c`, piece by piece
+all_joined : (w o d h i s y rest : List ℕ) (a b c e f g : ℕ)
+    → ((((w ++ (a ∷ o)) ++ (b ∷ d)) ++ (c ∷ ((h ++ (e ∷ i)) ++ (f ∷ s)))) ++ (g ∷ y)) ++ rest
+    ≡ w ++ (a ∷ (o ++ (b ∷ (d ++ (c ∷ (h ++ (e ∷ (i ++ (f ∷ (s ++ (g ∷ (y ++ rest))))))))))))
+all_joined w o d h i s y rest a b c e f g =
+    append_assoc (((w ++ (a ∷ o)) ++ (b ∷ d)) ++ (c ∷ ((h ++ (e ∷ i)) ++ (f ∷ s)))) (g ∷ y) rest
+    ∙ four_joined w o d ((h ++ (e ∷ i)) ++ (f ∷ s)) (g ∷ (y ++ rest)) a b c
+    ∙ ap (λ (l : List ℕ). w ++ (a ∷ (o ++ (b ∷ (d ++ (c ∷ l)))))) (three_joined h i s (g ∷ (y ++ rest)) e f)
+
+all_back : (wide b : Bool) (rest : List ℕ) (q : Parsed) (m : Moment) (x : ℤ) → IsTime m.time → keeps_year wide (year_of m.date) ≡ true
+    → Ends (bar_of_number wide Year Usual) rest
+    → group_read DateAndTime (at_rest (skip b (group_text DateAndTime m ++ rest)) (parts_of q m x)) ≡ Ok (at_rest rest (parts_of (with_group DateAndTime q) m x))
+unfolding group_read group_text with_group
+all_back wide b rest q m x time keeps ends =
+    let year = usual_text Year m ++ rest in
+    let clock = usual_text Hour m ++ (58 ∷ (usual_text Minute m ++ (58 ∷ (usual_text Second m ++ (32 ∷ year))))) in
+    let month = 32 ∷ (word_text MonthLetters m ++ (32 ∷ (usual_text SpacedDay m ++ (32 ∷ clock)))) in
+    ap (λ (l : List ℕ). then_read (day_read (at_rest (skip b l) (parts_of q m x))) clock_year_read) (all_joined
+    (word_text WeekdayLetters m) (word_text MonthLetters m) (usual_text SpacedDay m) (usual_text Hour m) (usual_text Minute m) (usual_text Second m) (usual_text Year m) rest 32 32 32 58 58 32)
+    ∙ ap (λ (l : List ℕ). then_read (day_read (at_rest l (parts_of q m x))) clock_year_read) (opens_skips b (word_text WeekdayLetters m ++ month) (word_opens WeekdayLetters month m))
+    ∙ ap (λ (o : Result Progress Stop). then_read o clock_year_read) (day_back clock q m x time)
+    ∙ clock_year_back wide rest (day_parts q) m x time keeps ends
+
+-- behind a group that ends with a year
+year_bar : (wide : Bool) (rest : List ℕ) → Ends (if wide then NoDigit else Free) rest → Ends (bar_of_number wide Year Usual) rest
+year_bar true rest ends = ends
+year_bar false rest ends = refl
+
+pub group_back : (wide : Bool) (g : GroupField) (b : Bool) (rest : List ℕ) (q : Parsed) (m : Moment) (x : ℤ) → IsTime m.time → keeps_group wide g m ≡ true
+    → Ends (bar_of_group wide g) rest
+    → group_read g (at_rest (skip b (group_text g m ++ rest)) (parts_of q m x)) ≡ Ok (at_rest rest (parts_of (with_group g q) m x))
+unfolding group_read group_text with_group
+group_back wide YearMonthDay b rest q m x time keeps ends =
+    ap (λ (l : List ℕ). three_read Year 45 Month Day (at_rest (skip b l) (parts_of q m x))) (three_joined (usual_text Year m) (usual_text Month m) (usual_text Day m) rest 45 45)
+    ∙ three_back true false false 45 Year Month Day b rest q m x time refl keeps refl refl refl
+group_back wide MonthDayYear b rest q m x time keeps ends =
+    ap (λ (l : List ℕ). three_read Month 47 Day YearOfCentury (at_rest (skip b l) (parts_of q m x))) (three_joined (usual_text Month m) (usual_text Day m) (usual_text YearOfCentury m) rest 47 47)
+    ∙ three_back false false false 47 Month Day YearOfCentury b rest q m x time refl refl refl refl refl
+group_back wide HourMinute b rest q m x time keeps ends =
+    ap (λ (l : List ℕ). two_read Hour 58 Minute (at_rest (skip b l) (parts_of q m x))) (append_assoc (usual_text Hour m) (58 ∷ usual_text Minute m) rest)
+    ∙ two_back false false 58 Hour Minute b rest q m x time refl refl refl refl
+group_back wide HourMinuteSecond b rest q m x time keeps ends =
+    ap (λ (l : List ℕ). three_read Hour 58 Minute Second (at_rest (skip b l) (parts_of q m x))) (three_joined (usual_text Hour m) (usual_text Minute m) (usual_text Second m) rest 58 58)
+    ∙ three_back false false false 58 Hour Minute Second b rest q m x time refl refl refl refl refl
+group_back wide HalfClock b rest q m x time keeps ends =
+    ap (λ (l : List ℕ). half_clock_read (at_rest (skip b l) (parts_of q m x)))
+    (four_joined (usual_text HalfHour m) (usual_text Minute m) (usual_text Second m) (word_text Half m) rest 58 58 32)
+    ∙ half_clock_back b rest q m x time
+group_back wide DayMonthYear b rest q m x time keeps ends =
+    ap (λ (l : List ℕ). short_date_read (at_rest (skip b l) (parts_of q m x))) (three_joined (usual_text SpacedDay m) (word_text MonthLetters m) (usual_text Year m) rest 45 45)
+    ∙ short_date_back wide b rest q m x time keeps (year_bar wide rest ends)
+group_back wide DateAndTime b rest q m x time keeps ends = all_back wide b rest q m x time keeps (year_bar wide rest ends)

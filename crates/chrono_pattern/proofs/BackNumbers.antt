@@ -1,6 +1,5 @@
--- Numbers of two digits and of four are read back, whatever is behind them.
-use Rattle.std.proofs.Common.{◌≡◌, ℕ, suc, ◌+◌, ◌/◌, ◌%◌, ◌<◌, ◌≤◌, ◌==◌, min, Bool, true, false, if◌then◌else◌, List, [], ◌∷◌, ◌++◌, drop, take, ℤ, pos, Option, Result, Ok, refl, ap, sym, ◌∙◌, arith}
-use Rattle.std.specs.Prelude.{unsigned_abs}
+-- Numbers of two digits and of four are read, whatever is behind them, and blanks in front are skipped.
+use Rattle.std.proofs.Common.{◌≡◌, ℕ, suc, ◌+◌, ◌/◌, ◌%◌, ◌<◌, ◌≤◌, ◌==◌, min, Bool, true, false, if◌then◌else◌, List, [], ◌∷◌, ◌++◌, drop, take, pos, Option, refl, ap, sym, ◌∙◌, arith}
 use Rattle.std.proofs.lemmas.Bool.Decides.{nat_tests}
 use Rattle.std.proofs.lemmas.Int.{ints}
 use Rattle.std.specs.Char.{is_ascii_digit}
@@ -11,15 +10,10 @@ use Rattle.chrono_text.proofs.NaturalLemmas.{four_digits-read, two_digits-read}
 use Rattle.chrono_text.specs.Numbers.{digits_of}
 use Rattle.chrono_text.specs.Text.{all_digits, two_digits}
 use Rattle.chrono_pattern.specs.NumberReads.{digits_in, digits_read, has_sign, most_digits, number_put, number_read, signed_read, value_read}
-use Rattle.chrono_pattern.specs.Numbers.{padded, year_sign}
 use Rattle.chrono_pattern.specs.Progress.{behind_blanks, class_len, is_of, is_pattern_blank, progress}
 use Rattle.chrono_pattern.specs.declared.class.Class.TheVariants.{Blank, Digit}
-use Rattle.chrono_pattern.specs.declared.error.ReadFault.{ReadFault}
 use Rattle.chrono_pattern.specs.declared.item.NumberField.{NumberField}
-use Rattle.chrono_pattern.specs.declared.item.NumberField.TheVariants.{Year}
-use Rattle.chrono_pattern.specs.declared.item.Padding.TheVariants.{Zeros}
 use Rattle.chrono_pattern.specs.declared.parsed.Parsed.{Parsed}
-use Rattle.chrono_pattern.proofs.WriteLemmas.{four_padded, two_padded}
 
 -- ---- bytes
 
@@ -98,21 +92,6 @@ pub plain_two : (field : NumberField) (n : ℕ) (text : List ℕ) (p : Parsed) �
 plain_two field n text p unsigned two small begins =
     in_front field n 2 (two_digits n) text p two begins (two_in_front field n (drop 2 text) p unsigned two small)
 
-pub number_two : (field : NumberField) (n : ℕ) (rest : List ℕ) (p q : Parsed) → has_sign field ≡ false → most_digits field ≡ 2 → n < 100
-    → number_put field (pos n) p ≡ Ok q
-    → number_read field (record { rest = padded Zeros 2 [] n ++ rest; parsed = p }) ≡ Ok (record { rest = rest; parsed = q })
-number_two field n rest p q unsigned two small put =
-    ap (λ (l : List ℕ). number_read field (record { rest = l ++ rest; parsed = p })) (two_padded n small)
-    ∙ two_in_front field n rest p unsigned two small
-    ∙ ap (λ (o : Result Parsed ReadFault). progress o rest (two_digits n ++ rest)) put
-
--- a number begins with a digit
-pub two_stays : (n : ℕ) (rest : List ℕ) → n < 100 → behind_blanks (padded Zeros 2 [] n ++ rest) ≡ padded Zeros 2 [] n ++ rest
-two_stays n rest small =
-    ap (λ (l : List ℕ). behind_blanks (l ++ rest)) (two_padded n small)
-    ∙ digit_stays (n / 10) ((48 + n % 10) ∷ rest) (omega (arith, small))
-    ∙ ap (λ (l : List ℕ). l ++ rest) (sym (two_padded n small))
-
 -- ---- four digits
 
 abbrev four_digits : ℕ → List ℕ
@@ -180,34 +159,7 @@ plain_four field n text p signed four small begins =
     let places = ap (λ (l : List ℕ). l ++ drop 4 text) (four_places n small) in
     in_front field n 4 (four_digits n) text p four (begins ∙ places) (four_in_front field n (drop 4 text) p signed four small)
 
--- ---- the year
+-- ---- an order
 
 pub not_below : (a b : ℕ) → b ≤ a → int_lt (pos a) (pos b) ≡ false
 not_below a b le = grind (arith, ints)
-
-year_unsigned : (n : ℕ) → n < 10_000 → year_sign (pos n) ≡ []
-year_unsigned n small =
-    ap (λ (b : Bool). if b then 45 ∷ [] else if int_lt (pos 9_999) (pos n) then 43 ∷ [] else []) (not_below n 0 (omega arith))
-    ∙ ap (λ (b : Bool). if b then 43 ∷ [] else []) (not_below 9_999 n (omega (arith, small)))
-
-year_digits : (y : ℤ) (n : ℕ) → y ≡ pos n → n < 10_000 → padded Zeros 4 (year_sign y) (unsigned_abs y) ≡ four_digits n
-year_digits y n is small =
-    ap (λ (z : ℤ). padded Zeros 4 (year_sign z) (unsigned_abs z)) is
-    ∙ ap (λ (l : List ℕ). padded Zeros 4 l n) (year_unsigned n small)
-    ∙ four_padded n small ∙ four_places n small
-
-pub year_back : (y : ℤ) (n : ℕ) (rest : List ℕ) (p q : Parsed) → y ≡ pos n → n < 10_000 → number_put Year y p ≡ Ok q
-    → number_read Year (record { rest = padded Zeros 4 (year_sign y) (unsigned_abs y) ++ rest; parsed = p }) ≡ Ok (record { rest = rest; parsed = q })
-year_back y n rest p q is small put =
-    let text = four_digits n ++ rest in
-    ap (λ (l : List ℕ). number_read Year (record { rest = l ++ rest; parsed = p })) (year_digits y n is small)
-    ∙ four_in_front Year n rest p refl refl small
-    ∙ ap (λ (z : ℤ). progress (number_put Year z p) rest text) (sym is)
-    ∙ ap (λ (o : Result Parsed ReadFault). progress o rest text) put
-
-pub year_stays : (y : ℤ) (n : ℕ) (rest : List ℕ) → y ≡ pos n → n < 10_000
-    → behind_blanks (padded Zeros 4 (year_sign y) (unsigned_abs y) ++ rest) ≡ padded Zeros 4 (year_sign y) (unsigned_abs y) ++ rest
-year_stays y n rest is small =
-    ap (λ (l : List ℕ). behind_blanks (l ++ rest)) (year_digits y n is small)
-    ∙ digit_stays (n / 100 / 10) ((48 + n / 100 % 10) ∷ (48 + n % 100 / 10) ∷ (48 + n % 100 % 10) ∷ rest) (omega (arith, small))
-    ∙ ap (λ (l : List ℕ). l ++ rest) (sym (year_digits y n is small))

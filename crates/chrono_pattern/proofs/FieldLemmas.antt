@@ -14,7 +14,7 @@ unfolding named_from
 named_from-more s c bytes p next e =
     ap (λ (o : Option (State × Item)). elim o as (λ _. Parsed) [ None ↦ p | Some n ↦ named_from n.0 bytes (with_item n.1 p) ]) e
 
-named_from-none : (s : State) (c : ℕ) (bytes : List ℕ) (p : Parsed) → pattern_step s c ≡ None → named_from s (c ∷ bytes) p ≡ p
+pub named_from-none : (s : State) (c : ℕ) (bytes : List ℕ) (p : Parsed) → pattern_step s c ≡ None → named_from s (c ∷ bytes) p ≡ p
 unfolding named_from
 named_from-none s c bytes p e =
     ap (λ (o : Option (State × Item)). elim o as (λ _. Parsed) [ None ↦ p | Some n ↦ named_from n.0 bytes (with_item n.1 p) ]) e

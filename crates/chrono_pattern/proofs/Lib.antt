@@ -1,4 +1,5 @@
--- All serve this crate's own proofs alone.
+-- Other crates cite the first. The others serve this crate's own proofs alone.
+pub mod DateTexts
 mod PatternLemmas
 mod TimelessLemmas
 mod FieldLemmas
@@ -10,12 +11,21 @@ mod ZonedPartLemmas
 mod YearWeekLemmas
 mod WriteLemmas
 mod ManyDigits
+mod SeparableLemmas
 mod AsciiLemmas
 mod ItemLemmas
 mod FrontLemmas
 mod BackNumbers
+mod BackDigits
+mod BackYears
+mod BackWords
+mod BackSubseconds
+mod BackStarts
 mod BackOffsets
 mod BackParts
 mod BackItems
 mod BackPatterns
 mod BackStamps
+mod BackValues
+mod BackAgain
+mod OffsetTexts

@@ -11,7 +11,7 @@ assoc_and : (a b c : Bool) → (a && (b && c)) ≡ ((a && b) && c)
 assoc_and true b c = refl
 assoc_and false b c = refl
 
-digits_joined : (xs ys : List ℕ) → all_ascii_digits (xs ++ ys) ≡ (all_ascii_digits xs && all_ascii_digits ys)
+pub digits_joined : (xs ys : List ℕ) → all_ascii_digits (xs ++ ys) ≡ (all_ascii_digits xs && all_ascii_digits ys)
 digits_joined [] ys = refl
 digits_joined (x ∷ xs) ys =
     ap (λ b. is_ascii_digit x && b) (digits_joined xs ys) ∙ assoc_and (is_ascii_digit x) (all_ascii_digits xs) (all_ascii_digits ys)

@@ -49,12 +49,12 @@ use Rattle.chrono_pattern.specs.declared.stop.Stop.{Stop}
 
 -- ---- which parts are given
 
-abbrev mark : Option ℤ → Option ℤ
+abbrev pub mark : Option ℤ → Option ℤ
 mark None = None
 mark (Some v) = Some (pos 0)
 
 -- each part that is given as 0, and the fraction so in any case
-abbrev shape : Parsed → Parsed
+abbrev pub shape : Parsed → Parsed
 shape p = record {
   year = mark p.year;
   year_div_100 = mark p.year_div_100;
@@ -121,7 +121,7 @@ kept_shape NanosecondOfSecond w p e = refl
 kept_shape OffsetFromUtc w p e = ap (λ (o : Option ℤ). record (shape p) { offset = mark o }) (sym e)
 
 -- the same parts are given, and a fraction only if the other parts have one
-record Like (p q : Parsed) : Type 0 where
+pub record Like (p q : Parsed) : Type 0 where
   pub same : shape p ≡ shape q
   pub fraction : is_present p.nanosecond ≡ true → is_present q.nanosecond ≡ true
 
@@ -647,7 +647,7 @@ ok_named (Err k) q p h is = cc
 nothing_read : Like no_parts no_parts
 nothing_read = record { same = refl; fraction = λ h. h }
 
-read_like : (bytes text : List ℕ) (p : Parsed) → text_read bytes text ≡ Ok p → Like p (named_parts bytes)
+pub read_like : (bytes text : List ℕ) (p : Parsed) → text_read bytes text ≡ Ok p → Like p (named_parts bytes)
 read_like bytes text p is =
     ok_named (text_read bytes text) (named_parts bytes) p
     (end_keeps (front_read bytes text) (named_parts bytes) (keeps bytes Outside (record { rest = text; parsed = no_parts }) no_parts nothing_read)) is
@@ -669,7 +669,7 @@ enough None (Some w) (Some v) m e f named = cc
 enough None (Some w) None None e f named = absurd (false≢true (f refl))
 enough None (Some w) None (Some x) e f named = absurd (false≢true named)
 
-time_of_like : (p q : Parsed) → Like p q → names_second q ≡ true → names_time p ≡ names_time q
+pub time_of_like : (p q : Parsed) → Like p q → names_second q ≡ true → names_time p ≡ names_time q
 unfolding names_time
 time_of_like p q e named =
     let half = same_given p.hour_div_12 q.hour_div_12 (ap (λ (t : Parsed). t.hour_div_12) e.same) in
@@ -682,10 +682,10 @@ pub time_is_named : (bytes text : List ℕ) (p : Parsed) → names_second (named
     → names_time p ≡ names_time (named_parts bytes)
 time_is_named bytes text p named is = time_of_like p (named_parts bytes) (read_like bytes text p is) named
 
-stamp_of_like : (p q : Parsed) → Like p q → is_present p.timestamp ≡ is_present q.timestamp
+pub stamp_of_like : (p q : Parsed) → Like p q → is_present p.timestamp ≡ is_present q.timestamp
 stamp_of_like p q e = same_given p.timestamp q.timestamp (ap (λ (t : Parsed). t.timestamp) e.same)
 
-offset_of_like : (p q : Parsed) → Like p q → is_present p.offset ≡ is_present q.offset
+pub offset_of_like : (p q : Parsed) → Like p q → is_present p.offset ≡ is_present q.offset
 offset_of_like p q e = same_given p.offset q.offset (ap (λ (t : Parsed). t.offset) e.same)
 
 moment_of_like : (p q : Parsed) → Like p q → names_date p ≡ names_date q → names_time p ≡ names_time q → names_moment p ≡ names_moment q

@@ -14,6 +14,7 @@ pub mod NumberReads
 pub mod WordReads
 pub mod SubsecondReads
 pub mod OffsetReads
+pub mod OffsetTexts
 pub mod ItemReads
 pub mod Reads
 pub mod DateParts
@@ -22,5 +23,7 @@ pub mod TimeParts
 pub mod ZonedParts
 pub mod NamedParts
 pub mod Parses
+pub mod Separable
+pub mod Kept
 pub mod ReadBack
 pub mod PatternItems

@@ -1,9 +1,9 @@
 -- The parts of a date-time that a text gives.
-use Rattle.std.specs.Prelude.{ℤ, pos, neg_ℤ, if◌then◌else◌, Option, Some, None, Result, Ok, Err}
+use Rattle.std.specs.Prelude.{Bool, ℤ, pos, neg_ℤ, if◌then◌else◌, Option, Some, None, Result, Ok, Err}
 use Rattle.std.specs.Int.RustNames.{int_lt}
 use Rattle.std.specs.Ordering.{int_eq}
 use Rattle.chrono_pattern.specs.declared.error.ReadFault.{ReadFault}
-use Rattle.chrono_pattern.specs.declared.error.ReadFault.TheVariants.{OutOfRange, Impossible}
+use Rattle.chrono_pattern.specs.declared.error.ReadFault.TheVariants.{OutOfRange, Impossible, NotEnough}
 use Rattle.chrono_pattern.specs.declared.parsed.Parsed.{Parsed}
 use Rattle.chrono_pattern.specs.declared.parsed.Part.{Part}
 use Rattle.chrono_pattern.specs.declared.parsed.Part.TheVariants.{FullYear, YearDiv100, YearMod100, FullIsoYear, IsoYearMod100, QuarterOfYear, MonthOfYear, WeekOfIsoYear, WeekFromSun, WeekFromMon, DayOfWeek, OrdinalDay, DayOfMonth, HourDiv12, HourMod12, MinuteOfHour, SecondOfMinute, NanosecondOfSecond, OffsetFromUtc}
@@ -105,6 +105,10 @@ put part v p =
     if int_lt v (part_range part).0 then Err OutOfRange
     else if int_lt (part_range part).1 v then Err OutOfRange
     else elim (part_of part p) [ None ↦ Ok (with_part part v p) | Some w ↦ if int_eq w v then Ok p else Err Impossible ]
+
+-- why parts give no value: no value of theirs fits them all, or they name none
+abbrev pub fault_of_parts : Bool → ReadFault
+fault_of_parts named = if named then Impossible else NotEnough
 
 -- the parts with another number of seconds from 1970
 abbrev pub with_stamp : ℤ → Parsed → Parsed

@@ -1,11 +1,12 @@
 //! The date that the parts of a text give.
-ghost use Rattle.std.specs.Prelude.{◌≡◌, ◌↔◌, ◌<◌, ◌≤ℤ◌, ℕ, ℤ, pos, true, false, Ok, Err, Some, None, IfOk, IfSome};
+ghost use Rattle.std.specs.Prelude.{◌≡◌, ◌↔◌, ◌<◌, ◌≤ℤ◌, ℕ, ℤ, pos, true, false, Ok, Err, Some, None, IfOk, IfSome, IfErr};
 ghost use Rattle.std.specs.Int.{int_div_euclid, int_rem_euclid};
 ghost use Rattle.chrono_datetime.specs.Days.{IsDate, day_of, month_of, year_of};
 ghost use Rattle.chrono_datetime.specs.Years.{IsYear};
 ghost use Rattle.chrono_pattern.specs.DateParts.{date_fits, day_fits, in_window, names_calendar, names_date, names_ordinal, names_week, names_year, names_year_week, says, week_fits, weekday_at_number, year_fits, year_week_fits};
 ghost use Rattle.chrono_pattern.specs.PlainParts.{IsCalendarAlone};
 ghost use Rattle.chrono_pattern.specs.YearWeeks.{weeks_begun};
+ghost use Rattle.chrono_pattern.specs.Parts.{fault_of_parts};
 ghost use Rattle.chrono_pattern.specs.declared.error.ReadFault.TheVariants.{NotEnough};
 
 use crate::error::ReadFault;
@@ -42,6 +43,7 @@ impl Parsed {
         // So no two dates fit parts that name one.
         ensures every { (n : ℤ) → IsDate n → names_date self.now ≡ true → date_fits self.now n ≡ true → result ≡ Ok n }
         ensures not_enough { (result ≡ Err NotEnough) ↔ (names_date self.now ≡ false) }
+        ensures error { IfErr result (λ e. e ≡ fault_of_parts (names_date self.now)) }
     {
         if let Some(date) = plain_date(self) {
             return Ok(date);
@@ -124,6 +126,7 @@ fn any_date(parts: Parsed) -> Result<NaiveDate, ReadFault>
     ensures fits { IfOk result (λ n. date_fits parts n ≡ true) }
     ensures every { (n : ℤ) → IsDate n → names_date parts ≡ true → date_fits parts n ≡ true → result ≡ Ok n }
     ensures not_enough { (result ≡ Err NotEnough) ↔ (names_date parts ≡ false) }
+    ensures error { IfErr result (λ e. e ≡ fault_of_parts (names_date parts)) }
 {
     if !names_date(parts) {
         return Err(ReadFault::NotEnough);

@@ -1,5 +1,5 @@
 //! The date-time that the parts of a text give, by a date and a time of day or by the seconds from 1970.
-ghost use Rattle.std.specs.Prelude.{◌≡◌, ◌↔◌, ◌⊎◌, ◌&&◌, ◌+◌, ◌≤ℤ◌, ◌+ℤ◌, ℤ, neg_ℤ, pos, true, false, Ok, Err, Some, None, IfOk};
+ghost use Rattle.std.specs.Prelude.{◌≡◌, ◌↔◌, ◌⊎◌, ◌&&◌, ◌+◌, ◌≤ℤ◌, ◌+ℤ◌, ℤ, neg_ℤ, pos, true, false, Ok, Err, Some, None, IfOk, IfErr};
 ghost use Rattle.chrono_datetime.specs.Days.{IsDate};
 ghost use Rattle.chrono_datetime.specs.Moment.{Moment};
 ghost use Rattle.chrono_datetime.specs.Duration.{nanos_per_second};
@@ -7,7 +7,8 @@ ghost use Rattle.chrono_instant.specs.Instants.{epoch_second};
 ghost use Rattle.chrono_pattern.specs.DateParts.{date_fits, names_date};
 ghost use Rattle.chrono_pattern.specs.TimeParts.{IsClockTime, names_time, time_fits};
 ghost use Rattle.chrono_pattern.specs.ZonedParts.{is_next_to, is_stamp_of, moment_fits, names_leap, names_moment, shows_second, stamped_time_fits};
-ghost use Rattle.chrono_pattern.specs.declared.error.ReadFault.TheVariants.{NotEnough};
+ghost use Rattle.chrono_pattern.specs.Parts.{fault_of_parts};
+ghost use Rattle.chrono_pattern.specs.declared.error.ReadFault.TheVariants.{Impossible, NotEnough};
 
 use crate::date_parts::{fits_date, names_date};
 use crate::error::ReadFault;
@@ -49,6 +50,7 @@ impl Parsed {
         ensures every { (m : Moment) → IsDate m.date → IsClockTime m.time → names_moment self.now ≡ true
             → moment_fits self.now m (pos 0) ≡ true → result ≡ Ok m }
         ensures not_enough { (result ≡ Err NotEnough) ↔ (names_moment self.now ≡ false) }
+        ensures error { IfErr result (λ e. e ≡ fault_of_parts (names_moment self.now)) }
     {
         named_moment(self, FixedOffset::east_opt(0).unwrap())
     }
@@ -62,6 +64,7 @@ pub(crate) fn named_moment(parts: &Parsed, offset: FixedOffset) -> Result<NaiveD
     ensures fits { IfOk result (λ m. moment_fits parts.now m offset ≡ true) }
     ensures every { (m : Moment) → IsDate m.date → IsClockTime m.time → names_moment parts.now ≡ true → moment_fits parts.now m offset ≡ true → result ≡ Ok m }
     ensures not_enough { (result ≡ Err NotEnough) ↔ (names_moment parts.now ≡ false) }
+    ensures error { IfErr result (λ e. e ≡ fault_of_parts (names_moment parts.now)) }
 {
     match parts.timestamp {
         Some(stamp) => stamped_moment(*parts, stamp, offset),
@@ -90,6 +93,7 @@ fn usual_moment(parts: &Parsed) -> Result<NaiveDateTime, ReadFault>
     ensures every { (m : Moment) → IsDate m.date → IsClockTime m.time → names_date parts.now ≡ true → names_time parts.now ≡ true
         → date_fits parts.now m.date ≡ true → time_fits parts.now m.time ≡ true → result ≡ Ok m }
     ensures not_enough { (result ≡ Err NotEnough) ↔ ((names_date parts.now && names_time parts.now) ≡ false) }
+    ensures error { IfErr result (λ e. e ≡ fault_of_parts (names_date parts.now && names_time parts.now)) }
 {
     match (parts.to_date(), parts.to_time()) {
         (Ok(date), Ok(time)) => Ok(NaiveDateTime::new(date, time)),
@@ -112,7 +116,7 @@ fn stamped_moment(
     ensures stamp { IfOk result (λ m. is_stamp_of stamp m offset ≡ true) }
     ensures every { (m : Moment) → IsDate m.date → IsClockTime m.time → date_fits parts m.date ≡ true → stamped_time_fits parts m.time ≡ true
         → is_stamp_of stamp m offset ≡ true → result ≡ Ok m }
-    ensures impossible { (result ≡ Err NotEnough) → ⊥ }
+    ensures impossible { IfErr result (λ e. e ≡ Impossible) }
 {
     match moment_at_stamp(parts, stamp, offset) {
         Some(moment) => {

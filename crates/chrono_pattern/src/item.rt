@@ -110,3 +110,18 @@ pub(crate) enum State {
     // Behind `%` and the marks of an offset.
     Marked(OffsetForm),
 }
+
+// What may not stand behind an item of a separable pattern.
+#[derive(Clone, Copy)]
+pub(crate) enum Bar {
+    // Anything may.
+    Free,
+    // A digit.
+    NoDigit,
+    // A digit, or a point behind blanks or none.
+    NoFraction,
+    // A point behind blanks or none.
+    NoPoint,
+    // A digit behind colons and blanks or none.
+    NoMinutes,
+}

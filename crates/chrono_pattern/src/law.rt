@@ -1,21 +1,29 @@
 //! Laws of patterns, each as the contract of a function.
-ghost use Rattle.std.specs.Prelude.{◌≡◌, ◌+◌, ◌-◌, ◌/◌, ◌%◌, ◌≤ℤ◌, ℕ, ℤ, List, true, Some, Ok, Err, codes, neg_ℤ, pos, unsigned_abs};
+ghost use Rattle.std.specs.Prelude.{◌≡◌, ◌<◌, ◌+◌, ◌-◌, ◌*◌, ◌/◌, ◌%◌, ℕ, ℤ, Bool, List, [], false, true, Some, Ok, Err, codes, neg_ℤ, pos, ◌-ℤ◌, unsigned_abs};
+ghost use Rattle.std.specs.List.{list_all};
 ghost use Rattle.std.specs.Str.{IsAscii};
 ghost use Rattle.chrono_datetime.specs.Days.{IsDate, day_of, month_of, ordinal_of, year_of};
 ghost use Rattle.chrono_datetime.specs.Moment.{Moment, moment};
 ghost use Rattle.chrono_datetime.specs.Duration.{nanos_per_second};
 ghost use Rattle.chrono_datetime.specs.Fields.{unix_epoch_day};
-ghost use Rattle.chrono_datetime.specs.Time.{IsTime, time_at};
+ghost use Rattle.chrono_datetime.specs.Time.{IsTime, TimeOfDay, time_at};
 ghost use Rattle.chrono_datetime.specs.Weekday.{days_from_monday, days_from_sunday};
 ghost use Rattle.chrono_datetime.specs.Weeks.{iso_week_of, iso_year_of, weekday_of};
 ghost use Rattle.chrono_datetime.specs.declared.Weekday.TheVariants.{Mon};
+ghost use Rattle.chrono_instant.specs.Instants.{epoch_second};
 ghost use Rattle.chrono_instant.specs.Offsets.{IsOffset};
 ghost use Rattle.chrono_pattern.specs.DateParts.{is_present, names_date};
 ghost use Rattle.chrono_pattern.specs.NamedParts.{named_parts};
-ghost use Rattle.chrono_pattern.specs.Parses.{IsDateBy, IsTimeBy, IsZonedBy};
+ghost use Rattle.chrono_text.specs.Numbers.{signed};
+ghost use Rattle.chrono_pattern.specs.OffsetTexts.{offset_written};
+ghost use Rattle.chrono_pattern.specs.Progress.{is_of};
+ghost use Rattle.chrono_pattern.specs.declared.class.Class.TheVariants.{Gap};
+ghost use Rattle.chrono_pattern.specs.Parses.{IsDateBy, IsMomentBy, IsTimeBy, IsZonedBy};
 ghost use Rattle.chrono_pattern.specs.Parts.{no_parts};
 ghost use Rattle.chrono_pattern.specs.PatternItems.{pattern_items};
-ghost use Rattle.chrono_pattern.specs.ReadBack.{is_fixed, parts_of};
+ghost use Rattle.chrono_pattern.specs.Kept.{LosesNothing, given_parts, keeps_stamp, keeps_year, tells_date, tells_moment, tells_time, tells_zoned};
+ghost use Rattle.chrono_pattern.specs.ReadBack.{parts_of};
+ghost use Rattle.chrono_pattern.specs.Separable.{is_separable};
 ghost use Rattle.chrono_pattern.specs.Reads.{text_read};
 ghost use Rattle.chrono_pattern.specs.YearWeeks.{week_from_monday, week_from_sunday};
 ghost use Rattle.chrono_pattern.specs.declared.error.ReadFault.TheVariants.{Impossible, Invalid, OutOfRange, TooLong, TooShort};
@@ -144,6 +152,16 @@ pub fn known_readings_of_offsets()
         }) }
 {}
 
+/// States that `%z` reads each offset of less than a day as ISO 8601 writes it: a sign, hours and minutes of two digits, and a colon
+/// between them or nothing. Any other colons and blanks are read there too.
+pub fn offsets_are_read_as_they_are_written()
+    ensures written { (negative : Bool) → (hours minutes : ℕ) → (between : List ℕ) → hours < 24 → minutes < 60 → list_all (is_of Gap) between ≡ true
+        → text_read (codes "%z") (offset_written negative hours between minutes)
+        ≡ Ok (record no_parts { offset = Some (signed negative (hours * 3_600 + minutes * 60)) }) }
+    ensures colon { offset_written true 9 (codes ":") 30 ≡ codes "-09:30" }
+    ensures nothing { offset_written false 9 [] 30 ≡ codes "+0930" }
+{}
+
 /// States where known texts of an offset and of the seconds from 1970 are wrong, by the bytes that are left:
 ///
 /// - sixty minutes, a whole day, and minutes that are missing;
@@ -173,37 +191,75 @@ pub fn fields_tell_what_is_named()
         → names_zoned parts ≡ names_zoned (named_parts bytes) }
 {}
 
-/// States that a pattern of bytes and of numbers with a fixed number of digits reads back what it writes of the years 0 to 9999.
+/// States that a separable pattern reads back what it writes of a date-time that it keeps.
 ///
-/// Such a pattern has no specifiers but `%Y`, `%m`, `%d`, `%H`, `%M`, `%S`, `%F`, `%R`, `%T`, `%z`, `%:z` and `%::z`, with no padding asked
-/// for. Its other bytes are any, and no blank is behind a blank. Such patterns are `%Y-%m-%d`, `%F %T %:z`, `%Y%m%d` and `%d/%m/%Y`.
+/// A pattern is separable if each text of it shows where every item ends. Then a number with fewer digits than are read at most has no digit
+/// behind it. The same is so of a fraction behind a point, of `%s`, and of hours alone. `%.f` also has no point behind it. No pattern with
+/// `%Z` is separable, since nothing reads a name of a zone. For all years, a year has no digit behind it, and no century stands in the pattern.
 ///
+/// A pattern keeps a date-time whose fraction and offset have no more digits than it writes, and whose years are in its range.
+///
+/// - It keeps each whole second of those years at an offset of whole hours.
 /// - A text gives the parts that the pattern names, each as the date-time has it.
-/// - It is of the date, if the pattern names one.
-/// - It is of the time of day, if the pattern names one with its second, and the time is a whole second or a leap second.
-/// - It is of the date-time with its offset, if the pattern names all three so, and the offset is of whole minutes.
+/// - It is of the date, if the pattern names one, and tells the century or the year is from 1970 to 2069.
+/// - It is of the time of day, if the pattern names one, and what it does not name of the second is 0.
+/// - It is of the date-time, and of the one with its offset, if the pattern names and tells them so.
+pub fn separable_patterns_read_back()
+    ensures whole { (wide : Bool) → (bytes : List ℕ) → (m : Moment) → (x : ℤ) → is_separable wide bytes ≡ true → IsTime m.time → IsOffset x
+        → keeps_year wide (year_of m.date) ≡ true → keeps_year wide (iso_year_of m.date) ≡ true → m.time.fraction % nanos_per_second ≡ 0
+        → unsigned_abs x % 3_600 ≡ 0 → keeps_stamp (epoch_second m -ℤ x) ≡ true → LosesNothing wide bytes m x }
+    ensures parts { (wide : Bool) → (bytes : List ℕ) → (m : Moment) → (x : ℤ) → is_separable wide bytes ≡ true → LosesNothing wide bytes m x
+        → text_read bytes (text_at_offset bytes m x) ≡ Ok (parts_of (given_parts bytes m.time) m x) }
+    ensures date { (wide : Bool) → (bytes : List ℕ) → (m : Moment) → is_separable wide bytes ≡ true → LosesNothing wide bytes m (pos 0)
+        → names_date (named_parts bytes) ≡ true → tells_date (named_parts bytes) m.date ≡ true → IsDateBy bytes (pattern_text bytes m) m.date }
+    ensures time { (wide : Bool) → (bytes : List ℕ) → (m : Moment) → is_separable wide bytes ≡ true → LosesNothing wide bytes m (pos 0)
+        → names_time (named_parts bytes) ≡ true → tells_time (named_parts bytes) m.time ≡ true → IsTimeBy bytes (pattern_text bytes m) m.time }
+    ensures date_time { (wide : Bool) → (bytes : List ℕ) → (m : Moment) → is_separable wide bytes ≡ true → LosesNothing wide bytes m (pos 0)
+        → names_moment (named_parts bytes) ≡ true → tells_moment (named_parts bytes) m ≡ true → IsMomentBy bytes (pattern_text bytes m) m }
+    ensures zoned { (wide : Bool) → (bytes : List ℕ) → (m : Moment) → (x : ℤ) → is_separable wide bytes ≡ true → LosesNothing wide bytes m x
+        → names_zoned (named_parts bytes) ≡ true → tells_zoned (named_parts bytes) m x ≡ true → IsZonedBy bytes (text_at_offset bytes m x) m x }
+{}
+
+/// States that what a separable pattern loses it loses for good: the value that its text gives writes the same text again.
 ///
-/// `%+` reads back such a date-time too.
-pub fn fixed_patterns_read_back()
-    ensures parts { (bytes : List ℕ) → (m : Moment) → is_fixed bytes ≡ true → IsTime m.time → pos 0 ≤ℤ year_of m.date → year_of m.date ≤ℤ pos 9999
-        → text_read bytes (pattern_text bytes m) ≡ Ok (parts_of (named_parts bytes) m (pos 0)) }
-    ensures date { (bytes : List ℕ) → (m : Moment) → is_fixed bytes ≡ true → names_date (named_parts bytes) ≡ true → IsTime m.time
-        → pos 0 ≤ℤ year_of m.date → year_of m.date ≤ℤ pos 9999 → IsDateBy bytes (pattern_text bytes m) m.date }
-    ensures time { (bytes : List ℕ) → (m : Moment) → is_fixed bytes ≡ true → names_time (named_parts bytes) ≡ true
-        → is_present (named_parts bytes).second ≡ true → IsTime m.time → m.time.fraction % nanos_per_second ≡ 0
-        → pos 0 ≤ℤ year_of m.date → year_of m.date ≤ℤ pos 9999 → IsTimeBy bytes (pattern_text bytes m) m.time }
-    ensures offset { (bytes : List ℕ) → (m : Moment) → (x : ℤ) → is_fixed bytes ≡ true → names_date (named_parts bytes) ≡ true
-        → names_time (named_parts bytes) ≡ true → is_present (named_parts bytes).second ≡ true → is_present (named_parts bytes).offset ≡ true → IsTime m.time
-        → m.time.fraction % nanos_per_second ≡ 0 → pos 0 ≤ℤ year_of m.date → year_of m.date ≤ℤ pos 9999 → IsOffset x → unsigned_abs x % 60 ≡ 0
-        → IsZonedBy bytes (text_at_offset bytes m x) m x }
-    ensures date_time_and_offset { is_fixed (codes "%F %T %:z") ≡ true }
-    ensures offset_with_seconds { is_fixed (codes "%Y%m%dT%H%M%S%z %::z") ≡ true }
-    ensures whole { (m : Moment) → (x : ℤ) → IsTime m.time → m.time.fraction % nanos_per_second ≡ 0 → pos 0 ≤ℤ year_of m.date
-        → year_of m.date ≤ℤ pos 9999 → IsOffset x → unsigned_abs x % 60 ≡ 0 → IsZonedBy (codes "%+") (text_at_offset (codes "%+") m x) m x }
-    ensures dashes { is_fixed (codes "%Y-%m-%d") ≡ true }
-    ensures date_and_time { is_fixed (codes "%F %T") ≡ true }
-    ensures digits { is_fixed (codes "%Y%m%dT%H%M%S") ≡ true }
-    ensures slashes { is_fixed (codes "%d/%m/%Y") ≡ true }
+/// So `%d.%m.%y` of a date of 1900 gives one of 2000, with the same text. The law speaks of what the pattern writes whole, as the law above
+/// does, and of patterns without `%s`.
+pub fn lossy_patterns_write_the_same_again()
+    ensures date { (wide : Bool) → (bytes : List ℕ) → (m : Moment) → (n : ℤ) → is_separable wide bytes ≡ true → LosesNothing wide bytes m (pos 0)
+        → is_present (named_parts bytes).timestamp ≡ false → IsDateBy bytes (pattern_text bytes m) n
+        → pattern_text bytes (moment n m.time) ≡ pattern_text bytes m }
+    ensures time { (wide : Bool) → (bytes : List ℕ) → (m : Moment) → (t : TimeOfDay) → is_separable wide bytes ≡ true → LosesNothing wide bytes m (pos 0)
+        → is_present (named_parts bytes).timestamp ≡ false → IsTimeBy bytes (pattern_text bytes m) t
+        → pattern_text bytes (moment m.date t) ≡ pattern_text bytes m }
+    ensures date_time { (wide : Bool) → (bytes : List ℕ) → (m w : Moment) → is_separable wide bytes ≡ true → LosesNothing wide bytes m (pos 0)
+        → is_present (named_parts bytes).timestamp ≡ false → IsMomentBy bytes (pattern_text bytes m) w → pattern_text bytes w ≡ pattern_text bytes m }
+    ensures zoned { (wide : Bool) → (bytes : List ℕ) → (m : Moment) → (x : ℤ) → (w : Moment) → (y : ℤ) → is_separable wide bytes ≡ true
+        → LosesNothing wide bytes m x → is_present (named_parts bytes).timestamp ≡ false → IsZonedBy bytes (text_at_offset bytes m x) w y
+        → text_at_offset bytes w y ≡ text_at_offset bytes m x }
+{}
+
+/// States which known patterns are separable:
+///
+/// - for all years: a year with a byte behind it, `%c`, and RFC 3339;
+/// - for the years 0 to 9999: a year with digits behind it, and a century;
+/// - for no years: numbers without padding side by side, digits or a point behind a fraction, minutes behind hours, and the name of a zone.
+pub fn known_separable_patterns()
+    ensures dashes { is_separable true (codes "%Y-%m-%d") ≡ true }
+    ensures whole { is_separable true (codes "%+") ≡ true }
+    ensures long_date { is_separable true (codes "%A, %-d. %B %Y, %-I:%M %p") ≡ true }
+    ensures spaces { is_separable true (codes "%e%t%k:%M:%S%.f %:z") ≡ true }
+    ensures stamp { is_separable true (codes "%s %z") ≡ true }
+    ensures digits { is_separable false (codes "%Y%m%dT%H%M%S%3f") ≡ true }
+    ensures signed_digits { is_separable true (codes "%Y%m%d") ≡ false }
+    ensures century { is_separable false (codes "%C%y") ≡ true }
+    ensures signed_century { is_separable true (codes "%C %y") ≡ false }
+    ensures year_behind { is_separable true (codes "%c%H") ≡ false }
+    ensures unpadded { is_separable false (codes "%-d%m") ≡ false }
+    ensures spaced { is_separable false (codes "%e%m") ≡ false }
+    ensures fraction { is_separable false (codes "%.f%H") ≡ false }
+    ensures second_point { is_separable false (codes "%S%.f %.3f") ≡ false }
+    ensures minutes { is_separable false (codes "%:::z : %M") ≡ false }
+    ensures zone { is_separable false (codes "%R %Z") ≡ false }
 {}
 
 /// States that patterns with the same items write the same texts, and read each text alike.

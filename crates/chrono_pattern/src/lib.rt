@@ -31,6 +31,7 @@ mod parse;
 mod parsed;
 mod pattern;
 mod reader;
+mod separable;
 mod step;
 mod stop;
 mod subsecond;

@@ -189,7 +189,7 @@ fn put_filled<const N: usize>(
 
 // The padding that is asked for, or else that of the number's specifier.
 #[inline(always)]
-fn padding_of(field: NumberField, padding: Padding) -> Padding
+pub(crate) fn padding_of(field: NumberField, padding: Padding) -> Padding
     ensures { result ≡ padding_of field padding }
 {
     match padding {

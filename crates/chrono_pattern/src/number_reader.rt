@@ -272,7 +272,7 @@ fn with_sign(negative: bool, size: u32) -> i32
 
 // Whether a number may have a sign.
 #[inline(always)]
-fn has_sign(field: NumberField) -> bool
+pub(crate) fn has_sign(field: NumberField) -> bool
     ensures { result ≡ has_sign field }
 {
     matches!(field, NumberField::Year | NumberField::IsoYear)
@@ -280,7 +280,7 @@ fn has_sign(field: NumberField) -> bool
 
 // The most digits of a number without a sign.
 #[inline(always)]
-fn most_digits(field: NumberField) -> usize
+pub(crate) fn most_digits(field: NumberField) -> usize
     ensures value { result ≡ most_digits field }
     ensures few { result ≤ 9 }
 {

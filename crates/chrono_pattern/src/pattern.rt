@@ -1,11 +1,12 @@
 //! `Pattern`: a pattern of texts, which writes date-times and reads parts of them.
-ghost use Rattle.std.specs.Prelude.{◌≡◌, ◌↔◌, ◌≤◌, ℕ, List, false, Some, None, Ok, Err, IfErr, IfOk, IfSome, IsOk, IsSome, length};
+ghost use Rattle.std.specs.Prelude.{◌≡◌, ◌↔◌, ◌≤◌, ℕ, List, false, true, Some, None, Ok, Err, IfErr, IfOk, IfSome, IsOk, IsSome, length};
 ghost use Rattle.chrono_datetime.specs.Moment.{moment};
 ghost use Rattle.chrono_datetime.specs.Time.{TimeOfDay, time_at};
 ghost use Rattle.chrono_pattern.specs.DateParts.{names_date};
 ghost use Rattle.chrono_pattern.specs.NamedParts.{named_parts};
 ghost use Rattle.chrono_pattern.specs.Needs.{needs_offset, needs_time};
 ghost use Rattle.chrono_pattern.specs.Reads.{end_read, front_read, read_error, read_from, text_read};
+ghost use Rattle.chrono_pattern.specs.Separable.{is_separable};
 ghost use Rattle.chrono_pattern.specs.TimeParts.{names_time};
 ghost use Rattle.chrono_pattern.specs.declared.item.State.TheVariants.{Outside};
 ghost use Rattle.chrono_pattern.specs.ZonedParts.{names_moment};
@@ -20,6 +21,7 @@ use crate::named_parts::named_parts;
 use crate::needs::{needs_offset, needs_time};
 use crate::parsed::Parsed;
 use crate::reader::{Reader, read_front, read_text, reader_of};
+use crate::separable::is_separable;
 use crate::step::pattern_step;
 use crate::stop::Stop;
 use crate::time_parts::names_time;
@@ -192,6 +194,36 @@ impl<'a> Pattern<'a> {
         ensures { result ≡ names_moment (named_parts self.now) }
     {
         names_moment(named_parts(self.bytes))
+    }
+
+    /// Returns whether each text of a year from 0 to 9999 shows where every item ends. Then it reads back what it writes.
+    ///
+    /// Such a pattern has no digit behind a number with fewer digits than are read at most. So `%Y%m%d` is separable, and `%Y%-m%d` is not.
+    /// Nothing reads the name of a zone, so no pattern with `%Z` is. The law `separable_patterns_read_back` says what is read back.
+    ///
+    /// ```
+    /// Pattern::new(b"%Y%m%d").ok()?.is_separable() // true
+    /// Pattern::new(b"%-d.%-m.%Y").ok()?.is_separable() // true
+    /// Pattern::new(b"%-d%-m%Y").ok()?.is_separable() // false
+    /// Pattern::new(b"%T%.f%j").ok()?.is_separable() // false
+    /// ```
+    pub fn is_separable(&self) -> bool
+        ensures { result ≡ is_separable false self.now }
+    {
+        is_separable(self.bytes, false)
+    }
+
+    /// Returns the same of a text of any year. A year with a sign has up to nine digits, so no digit may be behind it. A century has no sign.
+    ///
+    /// ```
+    /// Pattern::new(b"%Y-%m-%d").ok()?.is_separable_for_all_years() // true
+    /// Pattern::new(b"%Y%m%d").ok()?.is_separable_for_all_years() // false
+    /// Pattern::new(b"%C-%y").ok()?.is_separable_for_all_years() // false
+    /// ```
+    pub fn is_separable_for_all_years(&self) -> bool
+        ensures { result ≡ is_separable true self.now }
+    {
+        is_separable(self.bytes, true)
     }
 
     /// Returns the parts that `text` gives.

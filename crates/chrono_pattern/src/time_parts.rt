@@ -1,8 +1,9 @@
 //! The time of day, and the date-time, that the parts of a text give.
-ghost use Rattle.std.specs.Prelude.{◌≡◌, ◌↔◌, ◌+◌, ◌/◌, ◌%◌, ℕ, pos, true, false, Ok, Err, Some, IfOk, IfSome};
+ghost use Rattle.std.specs.Prelude.{◌≡◌, ◌↔◌, ◌+◌, ◌/◌, ◌%◌, ℕ, pos, true, false, Ok, Err, Some, IfOk, IfSome, IfErr};
 ghost use Rattle.chrono_datetime.specs.Duration.{nanos_per_second};
 ghost use Rattle.chrono_datetime.specs.Time.{TimeOfDay, hour_of, minute_of, second_of};
 ghost use Rattle.chrono_pattern.specs.TimeParts.{IsClockTime, clock_fits, counts, names_second, names_time, size_or_zero, time_fits};
+ghost use Rattle.chrono_pattern.specs.Parts.{fault_of_parts};
 ghost use Rattle.chrono_pattern.specs.declared.error.ReadFault.TheVariants.{NotEnough};
 
 use crate::date_parts::{natural, says};
@@ -32,6 +33,7 @@ impl Parsed {
         // So no two times fit parts that name one.
         ensures every { (t : TimeOfDay) → IsClockTime t → names_time self.now ≡ true → time_fits self.now t ≡ true → result ≡ Ok t }
         ensures not_enough { (result ≡ Err NotEnough) ↔ (names_time self.now ≡ false) }
+        ensures error { IfErr result (λ e. e ≡ fault_of_parts (names_time self.now)) }
     {
         if !names_time(*self) {
             return Err(ReadFault::NotEnough);

@@ -1,5 +1,5 @@
 //! The date-time with its offset that the parts of a text give.
-ghost use Rattle.std.specs.Prelude.{◌≡◌, ◌↔◌, ◌-ℤ◌, ℤ, true, false, Ok, Err, Some, None, IfOk, IfSome};
+ghost use Rattle.std.specs.Prelude.{◌≡◌, ◌↔◌, ◌-ℤ◌, ℤ, true, false, Ok, Err, Some, None, IfOk, IfSome, IfErr, ◌⊎◌};
 ghost use Rattle.chrono_datetime.specs.Days.{IsDate};
 ghost use Rattle.chrono_datetime.specs.Moment.{Moment, IsMoment};
 ghost use Rattle.chrono_instant.specs.Instants.{IsEpochSecond, epoch_second};
@@ -7,7 +7,8 @@ ghost use Rattle.chrono_instant.specs.Offsets.{IsOffset, moment_ahead};
 ghost use Rattle.chrono_zoned.specs.Zoned.{Zoned};
 ghost use Rattle.chrono_pattern.specs.TimeParts.{IsClockTime, counts};
 ghost use Rattle.chrono_pattern.specs.ZonedParts.{moment_fits, names_zoned, zoned_fits};
-ghost use Rattle.chrono_pattern.specs.declared.error.ReadFault.TheVariants.{NotEnough};
+ghost use Rattle.chrono_pattern.specs.Parts.{fault_of_parts};
+ghost use Rattle.chrono_pattern.specs.declared.error.ReadFault.TheVariants.{NotEnough, OutOfRange};
 
 use crate::date_time_parts::{named_moment, names_moment};
 use crate::error::ReadFault;
@@ -30,6 +31,7 @@ impl Parsed {
         ensures given { IfOk result (λ x. self.now.offset ≡ Some x) }
         ensures every { (x : ℤ) → IsOffset x → self.now.offset ≡ Some x → result ≡ Ok x }
         ensures not_enough { (result ≡ Err NotEnough) ↔ (self.now.offset ≡ None) }
+        ensures range { IfErr result (λ e. (e ≡ NotEnough) ⊎ (e ≡ OutOfRange)) }
     {
         match self.offset {
             Some(seconds) => FixedOffset::east_opt(seconds).ok_or(ReadFault::OutOfRange),
@@ -67,6 +69,7 @@ impl Parsed {
             → IsClockTime (moment_ahead d.utc d.zone).time → names_zoned self.now ≡ true
             → zoned_fits self.now (moment_ahead d.utc d.zone) d.zone ≡ true → result ≡ Ok d }
         ensures not_enough { (result ≡ Err NotEnough) ↔ (names_zoned self.now ≡ false) }
+        ensures error { IfErr result (λ e. e ≡ fault_of_parts (names_zoned self.now)) }
     {
         let parts = *self;
         if !names_zoned(parts) {

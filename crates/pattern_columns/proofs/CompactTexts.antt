@@ -2,9 +2,10 @@
 use Rattle.std.proofs.Common.{◌≡◌, ◌∙◌, ℕ, ℤ, List, [], ◌∷◌, ◌++◌, length, length-append, drop, get_or, ap, sym, refl, arith}
 use Rattle.std.proofs.lemmas.List.{drop_all}
 use Rattle.chrono_text.specs.Text.{calendar_text, two_digits, year_text}
+use Rattle.chrono_columns.proofs.TenBytes.{next_byte}
 use Rattle.pattern_columns.specs.Layouts.{NamesSame, compact_text}
 use Rattle.pattern_columns.specs.declared.layout.DateOrder.TheVariants.{YearMonthDay}
-use Rattle.pattern_columns.proofs.DateOrders.{HasParts, four_bytes, in_order, next_byte, parts_of, same_parts_as, text_of_parts}
+use Rattle.pattern_columns.proofs.DateOrders.{HasParts, four_bytes, in_order, parts_of, same_parts_as, text_of_parts}
 
 eight_bytes : (t : List ℕ) → length t ≡ 8 → t ≡ get_or t 0 0 ∷ get_or t 1 0 ∷ get_or t 2 0 ∷ get_or t 3 0 ∷ get_or t 4 0 ∷ get_or t 5 0 ∷ get_or t 6 0 ∷ get_or t 7 0 ∷ []
 eight_bytes t l =

@@ -3,3 +3,4 @@ mod ColumnBlocks
 mod CompactTexts
 mod DateOrders
 mod LayoutEntries
+mod LayoutPatterns

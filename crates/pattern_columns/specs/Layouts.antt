@@ -1,5 +1,5 @@
 -- The texts of dates in layouts of fixed width, and what stands in a column for a date and for such a text.
-use Rattle.std.specs.Prelude.{◌≡◌, ◌≢◌, ◌↔◌, ℕ, ℤ, if◌then◌else◌, List, ◌∷◌, ◌++◌, replicate, Option, Some, None}
+use Rattle.std.specs.Prelude.{◌≡◌, ◌≢◌, ◌↔◌, ℕ, ℤ, if◌then◌else◌, List, ◌∷◌, ◌++◌, codes, replicate, Option, Some, None}
 use Rattle.std.specs.Option.{option_and_then}
 use Rattle.chrono_calendar.specs.Days.{date_of_day, date_of_ymd, year_of, month_of, day_of}
 use Rattle.chrono_text.specs.Text.{calendar_text, two_digits, year_text}
@@ -17,6 +17,10 @@ ordered_text MonthDayYear s year month day = month ++ (s ∷ (day ++ (s ∷ year
 -- a year, a month and a day in a layout: `%Y`, `%m` and `%d` of chrono, where a year from 0 to 9999 has four digits
 abbrev pub layout_text : DateLayout → ℤ → ℕ → ℕ → List ℕ
 layout_text layout y m d = ordered_text layout.order layout.separator (year_text y) (two_digits m) (two_digits d)
+
+-- the pattern of a layout, as strftime writes patterns
+abbrev pub layout_pattern : DateLayout → List ℕ
+layout_pattern layout = ordered_text layout.order layout.separator (codes "%Y") (codes "%m") (codes "%d")
 
 -- a year, a month and a day with nothing between them: `%Y%m%d` of chrono (ISO 8601 basic format)
 abbrev pub compact_text : ℤ → ℕ → ℕ → List ℕ

@@ -1,7 +1,12 @@
 //! Known texts in layouts, each as the contract of a function.
-ghost use Rattle.std.specs.Prelude.{◌≡◌, ℤ, codes, pos, neg_ℤ, replicate};
+ghost use Rattle.std.specs.Prelude.{◌≡◌, ◌≢◌, ◌≤ℤ◌, ℤ, codes, pos, neg_ℤ, replicate};
 ghost use Rattle.std.specs.Str.{byte};
-ghost use Rattle.pattern_columns.specs.Layouts.{IsEntryBy, compact_text, entry_by, layout_text};
+ghost use Rattle.chrono_datetime.specs.Days.{day_of, month_of, year_of};
+ghost use Rattle.chrono_datetime.specs.Moment.{moment};
+ghost use Rattle.chrono_datetime.specs.Time.{TimeOfDay};
+ghost use Rattle.chrono_pattern.specs.Patterns.{pattern_text};
+ghost use Rattle.pattern_columns.specs.Layouts.{IsEntryBy, compact_text, entry_by, layout_pattern, layout_text};
+ghost use Rattle.pattern_columns.specs.declared.layout.DateLayout.{DateLayout};
 ghost use Rattle.pattern_columns.specs.declared.layout.DateOrder.TheVariants.{DayMonthYear, MonthDayYear, YearMonthDay};
 
 /// The texts of 29 February 2024 in the three orders and in eight digits.
@@ -10,6 +15,18 @@ pub fn known_layout_texts()
     ensures day_first { layout_text (record { order = DayMonthYear; separator = byte "." }) (pos 2_024) 2 29 ≡ codes "29.02.2024" }
     ensures month_first { layout_text (record { order = MonthDayYear; separator = byte "/" }) (pos 2_024) 2 29 ≡ codes "02/29/2024" }
     ensures compact { compact_text (pos 2_024) 2 29 ≡ codes "20240229" }
+{}
+
+/// The text of a date in a layout is what the pattern of the layout writes, for years from 0 to 9999 and each separator but `%`.
+///
+/// So a column by `%d/%m/%Y` has the texts that `Pattern` of chrono_pattern writes.
+pub fn layouts_are_patterns()
+    ensures separated { (layout : DateLayout) → (n : ℤ) → (t : TimeOfDay) → layout.separator ≢ byte "%" → pos 0 ≤ℤ year_of n → year_of n ≤ℤ pos 9_999
+        → pattern_text (layout_pattern layout) (moment n t) ≡ layout_text layout (year_of n) (month_of n) (day_of n) }
+    ensures compact { (n : ℤ) → (t : TimeOfDay) → pos 0 ≤ℤ year_of n → year_of n ≤ℤ pos 9_999
+        → pattern_text (codes "%Y%m%d") (moment n t) ≡ compact_text (year_of n) (month_of n) (day_of n) }
+    ensures slashes { layout_pattern (record { order = DayMonthYear; separator = byte "/" }) ≡ codes "%d/%m/%Y" }
+    ensures dashes { layout_pattern (record { order = YearMonthDay; separator = byte "-" }) ≡ codes "%Y-%m-%d" }
 {}
 
 /// Known entries: 29 February 2024 has a text. A missing date and the first day after the year 9999 have zero bytes.

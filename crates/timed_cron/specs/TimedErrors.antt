@@ -9,7 +9,7 @@ use Rattle.chrono_datetime.specs.Names.{month_of_letters, weekday_of_letters}
 use Rattle.chrono_text.specs.Numbers.{digits_of, natural_of}
 use Rattle.chrono_cron.specs.declared.text.number_names.Names.TheVariants.{Numbers}
 use Rattle.chrono_cron.specs.declared.text.schedule_error.ScheduleFault.{ScheduleFault}
-use Rattle.chrono_cron.specs.declared.text.schedule_error.ScheduleFault.TheVariants.{Interval, OutOfRange, TimeZone, TooFewFields, TooManyFields, UnknownNickname}
+use Rattle.chrono_cron.specs.declared.text.schedule_error.ScheduleFault.TheVariants.{Interval, OutOfRange, Reboot, TimeZone, TooFewFields, TooManyFields, UnknownNickname}
 use Rattle.chrono_cron.specs.declared.text.schedule_error.ScheduleField.TheVariants.{Minute}
 use Rattle.timed_cron.specs.declared.dialect.Dialect.{Dialect}
 use Rattle.timed_cron.specs.declared.dialect.Dialect.TheVariants.{Crontab, Seconds}
@@ -30,9 +30,14 @@ abbrev pub four_fault : ℕ → List (ℕ × List ℕ) → ℕ × ScheduleFault
 four_fault end (c ∷ d ∷ e ∷ f ∷ seventh ∷ more) = (seventh.0, TooManyFields)
 four_fault end others = (end, TooFewFields)
 
--- the error of six fields: if the first is no field of minutes, what is wrong with it as such, and else the error of the text behind it
+-- the error of a first word that lists no seconds: what it is in place of a field, and else what is wrong with it as a field of minutes
+abbrev pub first_error : Option ScheduleFault → ℕ × List ℕ → TimedError
+first_error (Some fault) word = InFields (schedule_error_at None (word.0, fault))
+first_error None word = InSeconds (schedule_error_at None (field_fault Minute word))
+
+-- the error of six fields: that of the first word if it lists no seconds, and else the error of the text behind it
 abbrev pub unless_seconds : Option Bool → List ℕ → ℕ × List ℕ → TimedError
-unless_seconds None text word = InSeconds (schedule_error_at None (field_fault Minute word))
+unless_seconds None text word = first_error (front_fault word.1) word
 unless_seconds (Some listed) text word = InFields (error_behind (placed_word_end word) (schedule_error (drop (placed_word_end word) text)))
 
 -- the error of words in which seconds stand in front. With fewer words than two it is that of crontab(5)'s fields
@@ -90,3 +95,20 @@ timed_error-interval = refl
 timed_error-zone : timed_error Seconds (codes "TZ=UTC 0 0 0 * * *") ≡ InFields (schedule_error_at None (0, TimeZone))
 unfolding timed_error schedule_error wrong_field text_words placed_words placed_items front_or front_fault field_fault fault_in is_item field_item_fault span_fault field_number_fault day_name_fault weekday_name_fault days_list names_by_place names_by_weekday from_end_of is_last_workday_text nearest_workday_of last_weekday_of nth_weekday_of weekdays_list field_lists item_lists step_of item_span range_of number_between spelled_number digits_of number_of_name month_of_letters weekday_of_letters natural_of
 timed_error-zone = refl
+
+-- the start of a machine, and each of these in front of five words
+timed_error-reboot : timed_error Seconds (codes "@Reboot") ≡ InFields (schedule_error_at None (0, Reboot))
+unfolding timed_error schedule_error wrong_field text_words placed_words placed_items front_or front_fault field_fault fault_in is_item field_item_fault span_fault field_number_fault day_name_fault weekday_name_fault days_list names_by_place names_by_weekday from_end_of is_last_workday_text nearest_workday_of last_weekday_of nth_weekday_of weekdays_list field_lists item_lists step_of item_span range_of number_between spelled_number digits_of number_of_name month_of_letters weekday_of_letters natural_of
+timed_error-reboot = refl
+
+timed_error-six_reboot : timed_error Seconds (codes "@reboot 0 0 * * *") ≡ InFields (schedule_error_at None (0, Reboot))
+unfolding timed_error schedule_error wrong_field text_words placed_words placed_items front_or front_fault field_fault fault_in is_item field_item_fault span_fault field_number_fault day_name_fault weekday_name_fault days_list names_by_place names_by_weekday from_end_of is_last_workday_text nearest_workday_of last_weekday_of nth_weekday_of weekdays_list field_lists item_lists step_of item_span range_of number_between spelled_number digits_of number_of_name month_of_letters weekday_of_letters natural_of
+timed_error-six_reboot = refl
+
+timed_error-six_interval : timed_error Seconds (codes " @every 5 0 * * *") ≡ InFields (schedule_error_at None (1, Interval))
+unfolding timed_error schedule_error wrong_field text_words placed_words placed_items front_or front_fault field_fault fault_in is_item field_item_fault span_fault field_number_fault day_name_fault weekday_name_fault days_list names_by_place names_by_weekday from_end_of is_last_workday_text nearest_workday_of last_weekday_of nth_weekday_of weekdays_list field_lists item_lists step_of item_span range_of number_between spelled_number digits_of number_of_name month_of_letters weekday_of_letters natural_of
+timed_error-six_interval = refl
+
+timed_error-six_zone : timed_error Seconds (codes "TZ=UTC 0 0 * * *") ≡ InFields (schedule_error_at None (0, TimeZone))
+unfolding timed_error schedule_error wrong_field text_words placed_words placed_items front_or front_fault field_fault fault_in is_item field_item_fault span_fault field_number_fault day_name_fault weekday_name_fault days_list names_by_place names_by_weekday from_end_of is_last_workday_text nearest_workday_of last_weekday_of nth_weekday_of weekdays_list field_lists item_lists step_of item_span range_of number_between spelled_number digits_of number_of_name month_of_letters weekday_of_letters natural_of
+timed_error-six_zone = refl

@@ -109,6 +109,13 @@ fn read_six_fields(
     ensures byte { IfErr result (λ e. error_byte e ≤ length text.now) }
 {
     let Some(seconds) = read_field(&text[second.place..second.end], Names::Numbers, 0, 59) else {
+        if let Some(fault) = front_fault(&text[second.place..second.end]) {
+            return Err(TimedError::Fields(ScheduleError {
+                field: None,
+                byte: second.place,
+                fault,
+            }));
+        }
         return Err(TimedError::Seconds(seconds_error(&text[..month_end])));
     };
     match read_schedule(text_from(text, second.end)) {

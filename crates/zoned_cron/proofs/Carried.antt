@@ -30,6 +30,9 @@ showing_near x o date close = let bounds = near o close in (omega (arith, ints, 
 pub showing_days_behind : (x o : ℤ) (n : ℕ) → IsEpochSecond x → IsOffset o → n ≤ 600_000 → IsNearDates ((x -ℤ o) +ℤ pos n)
 showing_days_behind x o n date close few = let bounds = near o close in (omega (arith, ints, date.0, bounds.1, few), omega (arith, ints, date.1, bounds.0, few))
 
+pub showing_days_before : (x o : ℤ) (n : ℕ) → IsEpochSecond x → IsOffset o → n ≤ 600_000 → IsNearDates ((x -ℤ o) -ℤ pos n)
+showing_days_before x o n date close few = let bounds = near o close in (omega (arith, ints, date.0, bounds.1, few), omega (arith, ints, date.1, bounds.0, few))
+
 pub walk_near : (gap x o : ℤ) → IsEpochSecond gap → (gap -ℤ pos 86_400) ≤ℤ x → x <ℤ (gap +ℤ pos 345_600) → IsOffset o → IsNearDates (x +ℤ o)
 walk_near gap x o date low high close = let bounds = near o close in (omega (arith, ints, date.0, low, bounds.0), omega (arith, ints, date.1, high, bounds.1))
 

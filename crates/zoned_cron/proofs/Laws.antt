@@ -78,9 +78,16 @@ fires_together ahead l k u le gaps (inr h) =
       first = h.first;
     })
 
+-- and what fires together is skipped by one gap, but for the latest
+pub fires_apart : (ahead : ℤ → ℤ) (l k u : ℤ) → l ≤ℤ k → Takes once_each ahead l u → Takes once_each ahead k u → (j : ℤ) → l ≤ℤ j → j <ℤ k → IsGap ahead j
+fires_apart ahead l k u le (inl h) (inl m) j low high = absurd (omega (arith, ints, h.0, m.0, low, high))
+fires_apart ahead l k u le (inl h) (inr m) j low high = absurd (omega (arith, ints, h.0, m.later, le))
+fires_apart ahead l k u le (inr h) (inl m) j low high = h.skipped j low (omega (arith, ints, m.0, high))
+fires_apart ahead l k u le (inr h) (inr m) j low high = h.skipped j low (omega (arith, ints, m.later, high))
+
 -- ---- and once at least
 
-first_found : (ahead : ℤ → ℤ) (k : ℤ) (found : MappedLocalTime ℤ) → IsMapped ahead k found → IsGap ahead k ⊎ ((u : ℤ) × IsFirst ahead k u)
+pub first_found : (ahead : ℤ → ℤ) (k : ℤ) (found : MappedLocalTime ℤ) → IsMapped ahead k found → IsGap ahead k ⊎ ((u : ℤ) × IsFirst ahead k u)
 first_found ahead k NoInstant h = inl h
 first_found ahead k (Single a) h = inr (k -ℤ a, only_taken Earlier ahead k (k -ℤ a) h)
 first_found ahead k (Ambiguous a b) h = inr (k -ℤ a, (first_of_two ahead k (k -ℤ a) (k -ℤ b) (k -ℤ a) (AreTwo-mapped ahead k a b (k -ℤ a) (k -ℤ b) h refl refl)).1 refl)
@@ -138,14 +145,17 @@ none_missed fold ahead l (Ambiguous a b) h = inr (two_taken fold ahead l a b h)
 
 -- ---- known values
 
-pub gap_once : Takes once_each set_ahead (pos 2_000) (pos 1_000)
-gap_once =
+pub behind_gap : (l : ℤ) → pos 1_000 ≤ℤ l → l <ℤ pos 4_600 → Takes once_each set_ahead l (pos 1_000)
+behind_gap l low high =
     let only = once_late set_ahead (pos 1_000) (pos 0) (pos 3_600) (pos 4_600) ChangesOnce-set_ahead (omega (arith, ints)) (omega (arith, ints)) in
     inr (record {
-      later = omega (arith, ints);
-      skipped = λ j low high. never set_ahead (pos 1_000) (pos 0) (pos 3_600) j ChangesOnce-set_ahead (omega (arith, ints, low)) (omega (arith, ints, high));
+      later = high;
+      skipped = λ j from to. never set_ahead (pos 1_000) (pos 0) (pos 3_600) j ChangesOnce-set_ahead (omega (arith, ints, low, from)) (omega (arith, ints, to));
       first = ((only (pos 1_000)).1 refl, λ v shows. omega (arith, ints, (only v).0 shows));
     })
+
+pub gap_once : Takes once_each set_ahead (pos 2_000) (pos 1_000)
+gap_once = behind_gap (pos 2_000) (omega (arith, ints)) (omega (arith, ints))
 
 pub gap_never : (u : ℤ) → ¬ Takes as_shown set_ahead (pos 2_000) u
 gap_never u h =

@@ -4,6 +4,8 @@ mod Windows
 mod Carried
 mod Gaps
 mod Stretches
+mod Settled
 mod Laws
 mod DayFirings
+mod GapDays
 mod ZonedTexts

@@ -174,7 +174,7 @@ all_within s ahead p from until end local k q holds offsets low high is is_k i n
     (λ gt. absurd (both_ways (is_due s f.planned) (none f.planned f.exists (earlier_second q f.planned j f.exists gt) (earlier_second f.planned k f.exists i (omega (arith, ints, reach, less, is_k)))) f.due))
     (λ le. le)
 
-pub last_there : (s : FieldSets) (ahead : ℤ → ℤ) (p : Policy) (from until end local l c : ℤ) → HoldsUntil ahead from until → from ≡ (end -ℤ pos 172_800) → end ≤ℤ until → local ≡ (end +ℤ ahead from) → l <ℤ local → IsPlanned s l → Shows ahead l c → IsSettled ahead c → IsEpochSecond c → (c <ℤ end) × Fires s ahead p c
+pub last_there : (s : FieldSets) (ahead : ℤ → ℤ) (p : Policy) (from until end local l c : ℤ) → HoldsUntil ahead from until → (from +ℤ pos 172_800) ≤ℤ end → end ≤ℤ until → local ≡ (end +ℤ ahead from) → l <ℤ local → IsPlanned s l → Shows ahead l c → IsSettled ahead c → IsEpochSecond c → (c <ℤ end) × Fires s ahead p c
 last_there s ahead p from until end local l c holds begun high is before planned shows settled date = (
   by_lt_z c end (λ lt. lt)
       (λ ge.

@@ -1,5 +1,5 @@
 -- The planned minutes of a local day, and the instants at which they fire.
-use Rattle.std.specs.Prelude.{◌≡◌, ℕ, ◌*◌, ◌<◌, ℤ, List, [], ◌∷◌}
+use Rattle.std.specs.Prelude.{◌≡◌, ◌⊎◌, ℕ, ◌*◌, ◌<◌, ℤ, ◌≤ℤ◌, ◌<ℤ◌, List, [], ◌∷◌}
 use Rattle.std.specs.List.{filter, range_with_len}
 use Rattle.chrono_datetime.specs.Moment.{Moment}
 use Rattle.chrono_instant.specs.Instants.{epoch_second}
@@ -36,3 +36,21 @@ IsNoneOf (v ∷ vs) u = ¬ (v ≡ u) × IsNoneOf vs u
 abbrev pub AreDifferent : List ℤ → Type 0
 AreDifferent [] = Unit {0}
 AreDifferent (u ∷ us) = IsNoneOf us u × AreDifferent us
+
+-- ---- a day of which the clock skips minutes
+
+-- the clock shows no second from the beginning of minute j of the day n on, up to before that of minute k
+abbrev pub NoneShown : (ℤ → ℤ) → ℤ → ℕ → ℕ → Type 0
+NoneShown ahead n j k =
+    (l : ℤ) → epoch_second (minute_of_day n j) ≤ℤ l → l <ℤ epoch_second (minute_of_day n k) → IsGap ahead l
+
+-- the instants are those at which the minutes fire, in their order. A minute has its instant in common with the next one if the clock shows no
+-- second from the one up to the other, and else one of its own
+abbrev pub FireTogether : (ℤ → ℤ) → ℤ → List ℕ → List ℤ → Type 0
+FireTogether ahead n [] us = us ≡ []
+FireTogether ahead n (k ∷ []) us =
+    (u : ℤ) × IsOnly (Takes once_each ahead (epoch_second (minute_of_day n k))) u × (us ≡ u ∷ [])
+FireTogether ahead n (j ∷ k ∷ ks) us =
+    (NoneShown ahead n j k × FireTogether ahead n (k ∷ ks) us)
+    ⊎ (¬ NoneShown ahead n j k × ((u : ℤ) × (rest : List ℤ)
+    × IsOnly (Takes once_each ahead (epoch_second (minute_of_day n j))) u × FireTogether ahead n (k ∷ ks) rest × (us ≡ u ∷ rest)))

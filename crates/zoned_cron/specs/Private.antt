@@ -1,14 +1,17 @@
 -- Words of functions that are not public.
 use Rattle.std.specs.Prelude.{◌≡◌, true, ℤ, ◌+ℤ◌, ◌-ℤ◌, ◌≤ℤ◌, ◌<ℤ◌, pos, neg_ℤ, Option, Some, None}
-use Rattle.chrono_datetime.specs.Moment.{IsMoment, Moment}
+use Rattle.chrono_datetime.specs.Moment.{IsBefore, IsMoment, Moment}
 use Rattle.chrono_instant.specs.Instants.{IsEpochSecond, epoch_second}
 use Rattle.chrono_instant.specs.Offsets.{IsOffset}
 use Rattle.chrono_zoned.specs.declared.mapped_local_time.MappedLocalTime.{MappedLocalTime}
 use Rattle.chrono_zoned.specs.declared.mapped_local_time.MappedLocalTime.TheVariants.{None as NoInstant, Single, Ambiguous}
+use Rattle.chrono_zoned.specs.Zoned.{IsLocal, Zoned}
+use Rattle.chrono_zoned.specs.Zones.{Shows}
 use Rattle.chrono_cron.specs.declared.field_sets.FieldSets.{FieldSets}
 use Rattle.chrono_cron.specs.Due.{is_due}
 use Rattle.zoned_cron.specs.declared.policy.Policy.{Policy}
-use Rattle.zoned_cron.specs.Fires.{IsBehindGap, IsInstant, Takes}
+use Rattle.zoned_cron.specs.declared.schedule.ZonedSchedule.{ZonedSchedule}
+use Rattle.zoned_cron.specs.Fires.{FiresAt, IsBehindGap, IsInstant, NotFiringBetween, Takes}
 
 -- the clock shows a date at u, and is ahead by less than a day
 abbrev pub IsDated : (ℤ → ℤ) → ℤ → Type 0
@@ -40,6 +43,19 @@ pub record IsPlanned (s : FieldSets) (l : ℤ) : Type 0 where
 pub record IsSettled (ahead : ℤ → ℤ) (u : ℤ) : Type 0 where
   pub holds : (v : ℤ) → (u -ℤ pos 172_800) ≤ℤ v → v <ℤ (u +ℤ pos 172_800) → ahead v ≡ ahead u
   pub near : (v : ℤ) → IsOffset (ahead v)
+
+-- d is the instant at which the clock of the zone z shows the date-time m, and no change is near it
+pub record IsSettledAt {Z : Type 0} (ahead : Z → ℤ → ℤ) (z : Z) (m : Moment) (d : Zoned Z) : Type 0 where
+  pub local : IsLocal ahead z m d
+  pub shows : Shows (ahead z) (epoch_second m) (epoch_second d.utc)
+  pub fraction : d.utc.time.fraction ≡ m.time.fraction
+  pub settled : IsSettled (ahead z) (epoch_second d.utc)
+
+-- d is the last instant before UTC's `end` at which z fires
+abbrev pub IsPreviousFiring : {Z : Type 0} → (Z → ℤ → ℤ) → ZonedSchedule Z → Moment → Zoned Z → Type 0
+IsPreviousFiring ahead z end d =
+    FiresAt z.schedule.sets (ahead z.zone) z.policy d.utc × (d.zone ≡ z.zone) × IsBefore d.utc end
+    × NotFiringBetween z.schedule.sets (ahead z.zone) z.policy d.utc end
 
 -- R holds of two values, if there are two
 abbrev pub IfTwo : (ℤ → ℤ → Type 0) → MappedLocalTime ℤ → Type 0

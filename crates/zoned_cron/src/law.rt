@@ -1,5 +1,5 @@
 //! Laws of schedules in a zone, each as the contract of a function that does nothing.
-ghost use Rattle.std.specs.Prelude.{◌≡◌, ◌↔◌, ◌⊎◌, ◌≤ℤ◌, true, ℕ, ℤ, pos, neg_ℤ, List};
+ghost use Rattle.std.specs.Prelude.{◌≡◌, ◌↔◌, ◌⊎◌, ◌≤ℤ◌, ◌<ℤ◌, true, ℕ, ℤ, pos, neg_ℤ, List, [], ◌∷◌};
 ghost use Rattle.std.specs.List.{Contains};
 ghost use Rattle.chrono_datetime.specs.Moment.{IsMoment, Moment};
 ghost use Rattle.chrono_instant.specs.Instants.{epoch_second};
@@ -9,7 +9,7 @@ ghost use Rattle.chrono_zoned.specs.Zones.{IsMapped, IsOnly};
 ghost use Rattle.chrono_zoned.specs.declared.mapped_local_time.MappedLocalTime.{MappedLocalTime};
 ghost use Rattle.chrono_cron.specs.Due.{is_due};
 ghost use Rattle.chrono_cron.specs.declared.field_sets.FieldSets.{FieldSets};
-ghost use Rattle.zoned_cron.specs.DayFirings.{AreDifferent, FireOnceEach, ShowsMinutes, minute_of_day, planned_minutes};
+ghost use Rattle.zoned_cron.specs.DayFirings.{AreDifferent, FireOnceEach, FireTogether, ShowsMinutes, minute_of_day, planned_minutes};
 ghost use Rattle.zoned_cron.specs.Fires.{FiresAt, IsGap, IsInstant, Takes, TakesShown, as_shown, once_each};
 ghost use Rattle.zoned_cron.specs.declared.policy.Fold.{Fold};
 ghost use Rattle.zoned_cron.specs.declared.policy.Policy.{Policy};
@@ -46,9 +46,22 @@ pub fn a_day_fires_as_often_as_planned()
 {}
 
 /// By the policy of a schedule with fixed times, planned local times that one gap skips have their firing in common.
+///
+/// Two planned times fire together only if the clock shows no second from the earlier one up to the other.
 pub fn one_gap_fires_once()
-    ensures { (ahead : ℤ → ℤ) (l k u : ℤ) → l ≤ℤ k → ((j : ℤ) → l ≤ℤ j → j ≤ℤ k → IsGap ahead j) → Takes once_each ahead l u
+    ensures together { (ahead : ℤ → ℤ) (l k u : ℤ) → l ≤ℤ k → ((j : ℤ) → l ≤ℤ j → j ≤ℤ k → IsGap ahead j) → Takes once_each ahead l u
         → Takes once_each ahead k u }
+    ensures apart { (ahead : ℤ → ℤ) (l k u : ℤ) → l ≤ℤ k → Takes once_each ahead l u → Takes once_each ahead k u
+        → (j : ℤ) → l ≤ℤ j → j <ℤ k → IsGap ahead j }
+{}
+
+/// On any local day a schedule with fixed times fires for each planned minute. Minutes fire together if the clock shows no second from the
+/// one up to the other, and at instants of their own if it does.
+///
+/// So the planned minutes of one gap count as one firing. A planned minute that begins where the gap ends shares it.
+pub fn minutes_of_a_gap_fire_together()
+    ensures { (s : FieldSets) (ahead : ℤ → ℤ) → ((u : ℤ) → IsOffset (ahead u)) → ((k : ℤ) → (found : MappedLocalTime ℤ) × IsMapped ahead k found)
+        → (n : ℤ) → (fired : List ℤ) × FireTogether ahead n (planned_minutes s n) fired × AreDifferent fired }
 {}
 
 /// A planned local time that the clock shows fires, whatever the policy.
@@ -63,6 +76,13 @@ pub fn no_shown_time_is_missed()
 pub fn known_gap()
     ensures once { Takes once_each set_ahead (pos 2_000) (pos 1_000) }
     ensures never { (u : ℤ) → ¬ Takes as_shown set_ahead (pos 2_000) u }
+{}
+
+/// Where minutes 10, 20, 40 and 77 of 1 January 1970 fire, if the clock is set ahead from 1,000 to 4,600.
+///
+/// It skips minutes 20 and 40, which fire together at the instant 1,000. The other two have instants of their own.
+pub fn known_gap_day()
+    ensures { FireTogether set_ahead (pos 719_163) (10 ∷ 20 ∷ 40 ∷ 77 ∷ []) (pos 600 ∷ pos 1_000 ∷ pos 1_020 ∷ []) }
 {}
 
 /// What becomes of the local second 2,000 where the clock is set back from 4,600 to 1,000.

@@ -93,6 +93,9 @@ impl<Z: TimeZone> ZonedSchedule<Z> {
         ensures none { IfNone result (NotFiringAfter self.now.schedule.sets (Z.ahead self.now.zone) self.now.policy start.utc) }
     {
         let utc = start.naive_utc();
+        if let Some(found) = self.first_settled(utc) {
+            return Some(found);
+        }
         date_times_exist(utc);
         self.zone
             .timestamp_opt(self.first_after(utc.timestamp())?, 0)
@@ -115,8 +118,11 @@ impl<Z: TimeZone> ZonedSchedule<Z> {
         ensures greatest { IfSome result (λ d. NotFiringBetween self.now.schedule.sets (Z.ahead self.now.zone) self.now.policy d.utc start.utc) }
         ensures none { IfNone result (NotFiringBefore self.now.schedule.sets (Z.ahead self.now.zone) self.now.policy start.utc) }
     {
-        let end = begun_by(start.naive_utc());
-        self.zone.timestamp_opt(self.last_before(end)?, 0)
+        let utc = start.naive_utc();
+        if let Some(found) = self.last_settled(utc) {
+            return Some(found);
+        }
+        self.zone.timestamp_opt(self.last_before(begun_by(utc))?, 0)
     }
 
     /// Returns an iterator over the instants after `start` at which the schedule fires.

@@ -1,8 +1,13 @@
 mod Standing
+mod HeldStretch
+mod Intervals
+mod CountedUnits
 mod ListedTimes
+mod CandidateDays
 mod Reached
 mod Numbered
 mod InstantLists
 mod PublicCalls
 mod Laws
 mod GivenInstances
+mod GivenMembers

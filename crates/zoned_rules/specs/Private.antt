@@ -1,15 +1,29 @@
 -- Words of functions that are not public.
-use Rattle.std.specs.Prelude.{◌≡◌, ℕ, true, ℤ, pos, ◌+ℤ◌, ◌-ℤ◌, ◌*ℤ◌, ◌≤ℤ◌, ◌<ℤ◌, Option, Some, None}
+use Rattle.std.specs.Prelude.{◌≡◌, ◌==◌, if◌then◌else◌, ℕ, true, ℤ, pos, ◌+ℤ◌, ◌-ℤ◌, ◌*ℤ◌, ◌≤ℤ◌, ◌<ℤ◌, Option, Some, None}
 use Rattle.chrono_datetime.specs.Fields.{unix_epoch_day}
 use Rattle.chrono_datetime.specs.Moment.{IsMoment, Moment}
 use Rattle.chrono_instant.specs.Instants.{epoch_second}
 use Rattle.zoned_rules.specs.LocalInstants.{IsSetPast}
 use Rattle.zoned_rules.specs.Recurs.{RecursFor}
+use Rattle.zoned_rules.specs.declared.clock_steps.ClockSteps.{ClockSteps}
+use Rattle.zoned_rules.specs.declared.clock_steps.ClockUnit.{ClockUnit}
+use Rattle.zoned_rules.specs.declared.clock_steps.ClockUnit.TheVariants.{Day, Hour, Minute, Second}
 use Rattle.zoned_rules.specs.LocalTimes.{LocalParts, is_planned}
 
 -- the second k of the day n, counted from 1 January 1970
 abbrev pub second_on : ℤ → ℕ → ℤ
 second_on n k = (n -ℤ unix_epoch_day) *ℤ pos 86_400 +ℤ pos k
+
+-- how many units lie from one that counts to the next
+abbrev pub interval_units : ClockSteps → ℕ
+interval_units steps = if steps.interval == 0 then 1 else steps.interval
+
+-- how many units a day has
+unfoldable pub units_of_day : ClockUnit → ℕ
+units_of_day Day = 1
+units_of_day Hour = 24
+units_of_day Minute = 1_440
+units_of_day Second = 86_400
 
 -- what was found is a local time of the rule
 pub record IsListed (r : LocalParts) (m : Moment) : Type 0 where

@@ -10,10 +10,10 @@ use chrono_datetime::NaiveDateTime;
 use chrono_instant::{FromTimestamp, Timestamp};
 use chrono_zoned::TimeZone;
 
-// The last second of the last date, and the second before the first of the first date, in UTC.
-const LAST_SECOND: i64 = 8_210_266_876_799;
+// The last second of the last date, and the second before the first of the first date.
+pub(crate) const LAST_SECOND: i64 = 8_210_266_876_799;
 
-const BEFORE_FIRST_SECOND: i64 = -8_334_601_228_801;
+pub(crate) const BEFORE_FIRST_SECOND: i64 = -8_334_601_228_801;
 
 /// COUNT or UNTIL: where a rule in a zone ends.
 #[derive(Clone, Copy, PartialEq, Eq, Debug)]

@@ -7,6 +7,7 @@ use chrono_sets::NumberSet;
 /// BYHOUR, BYMINUTE and BYSECOND: the times of day at which a rule recurs.
 ///
 /// A part with an empty set is one that the rule does not have. It takes the number of the start.
+/// But a rule by hours without BYHOUR has every hour. One by minutes without BYMINUTE has every minute, and so on (see [`ClockSteps`](crate::ClockSteps)).
 /// A number that a part cannot have, such as the hour 24, names no time. Nor does the second 60, which RFC 5545 lets BYSECOND list.
 /// So a part that lists such numbers alone leaves the rule without instances.
 #[derive(Clone, Copy, PartialEq, Eq, Debug)]

@@ -12,13 +12,14 @@
 //! A [`LocalRule`] says at which local times a rule recurs. A [`ZonedRule`] is a local rule in a zone, with COUNT or UNTIL.
 //! The zone is any [`TimeZone`](chrono_zoned::TimeZone). A local time stands for the instant that [`instant_of`] finds.
 //!
-//! [`read_rule`] reads the rule of days. It refuses BYHOUR, BYMINUTE and BYSECOND, which go into [`DayTimes`]. It refuses HOURLY and the other
-//! frequencies below a day too.
+//! [`read_rule`] reads the rule of days. It refuses BYHOUR, BYMINUTE and BYSECOND, which go into [`DayTimes`]. It refuses HOURLY, MINUTELY and
+//! SECONDLY too, which go into [`ClockSteps`].
 //!
 //! A local time that the clock skips gives an instance here. RFC 5545 (3.3.10) says in one place that it does, and in another that it does not.
 #![tactic(auto)]
 
 mod bound;
+mod clock_steps;
 mod day_times;
 pub mod law;
 mod listed_instants;
@@ -31,9 +32,11 @@ mod zoned_rule;
 pub use bound::Bound;
 pub use chrono_rules::{Frequency, Rule, read_rule};
 pub use chrono_zoned::{DateTime, FixedOffset, InZone, TimeZone};
+pub use clock_steps::{ClockSteps, ClockUnit};
 pub use day_times::DayTimes;
 pub use local_instant::instant_of;
 pub use local_rule::LocalRule;
 pub use search::zoned_instances::ZonedInstances;
+pub use search::zoned_members::ZonedMembers;
 pub use zoned_recurrence::ZonedRecurrence;
 pub use zoned_rule::ZonedRule;

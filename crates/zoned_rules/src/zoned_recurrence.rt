@@ -1,13 +1,18 @@
 //! `ZonedRecurrence`: a rule in a zone with extra instants and exceptions.
-ghost use Rattle.std.specs.Prelude.{◌≡◌, ◌↔◌, ℤ, pos, neg_ℤ, ◌≤ℤ◌, ◌<ℤ◌, IfNone, IfSome, IsFalse, IsTrue};
+ghost use Rattle.std.specs.Prelude.{◌≡◌, ◌↔◌, ◌≤◌, ℤ, pos, neg_ℤ, ◌≤ℤ◌, ◌<ℤ◌, IfNone, IfSome, IsFalse, IsTrue, List, Some};
+ghost use Rattle.std.specs.Iterator.{Drains};
 ghost use Rattle.chrono_datetime.specs.Moment.{IsBefore};
 ghost use Rattle.chrono_instant.specs.Instants.{IsEpochSecond};
 ghost use Rattle.chrono_zoned.specs.HeldSeconds.{HoldsAt, HoldsNotAfter, HoldsNotBefore, HoldsNotBetween};
 ghost use Rattle.zoned_rules.specs.Private.{IsReached, IsReachedBack};
+ghost use Rattle.chrono_zoned.specs.Zoned.{Zoned};
+ghost use Rattle.zoned_rules.specs.ZonedInstanceLists.{seconds_until_end};
+ghost use Rattle.zoned_rules.specs.ZonedMemberLists.{AreZonedMembers, GivesMember};
 ghost use Rattle.zoned_rules.specs.ZonedSets.{IsInZonedSet, IsIncluded};
 
 use crate::listed_instants::{first_listed, last_listed, lists};
 use crate::search::instants::{earlier, later};
+use crate::search::zoned_members::ZonedMembers;
 use crate::zoned_rule::{ZonedRule, first_second_from};
 use chrono_datetime::Timelike;
 use chrono_datetime::law::date_times_exist;
@@ -102,6 +107,34 @@ impl<'a, Z: TimeZone> ZonedRecurrence<'a, Z> {
     {
         let end = first_second_from(start.naive_utc());
         self.rule.zone.timestamp_opt(self.last_member(end)?, 0)
+    }
+
+    /// Returns an iterator over the instants of the set after `start`.
+    ///
+    /// They come in order, as far as UTC and the clock have dates. As by [`ZonedRule::after`], every step counts the instances of a rule with COUNT.
+    ///
+    /// ```
+    /// use chrono_datetime::{AndTime, NaiveDate};
+    /// let start = NaiveDate::from_ymd_opt(2024, 1, 1)?.and_hms_opt(9, 30, 0)?;
+    /// let daily = LocalRule::new(Rule::new(Frequency::Daily), DayTimes::of_start(), start)?;
+    /// let zone = FixedOffset::east_opt(3_600)?;
+    /// let (rule, first) = (ZonedRule::new(daily, zone, Bound::Count(3)), instant_of(zone, start)?);
+    /// let set = ZonedRecurrence { rule, dates: &[], exceptions: &[rule.next_after(first)?] };
+    /// let mut days = set.after(first);
+    /// (days.next(), days.next()) // (Some(2024-01-03T09:30:00+01:00), None)
+    /// ```
+    pub fn after(self, start: DateTime<Z>) -> ZonedMembers<'a, Z>
+        ensures value { result ≡ record { set = self.entry; last = Some start } }
+        // No more seconds are left than that.
+        ensures few { seconds_until_end result.last ≤ 16_544_868_105_599 }
+        // What calls of `next` give, up to the first `None`, is the set's instants in order.
+        ensures runs { (given : List (Zoned Z)) → Drains (GivesMember Z.ahead) result given → AreZonedMembers Z.ahead self.entry start.utc given }
+    {
+        date_times_exist(start.naive_utc());
+        ZonedMembers {
+            set: self,
+            last: Some(start),
+        }
     }
 
     // Whether a second is in the set.

@@ -1,7 +1,7 @@
 /** Durations. */
 
 import { optionsOf, refuseRounding } from "./numbers.js";
-import { CLOCK_UNITS, incrementOf, modeOf, rounded, unitOf } from "./rounding.js";
+import { incrementOf, modeOf, NANOSECONDS, rounded, unitOf } from "./rounding.js";
 
 /** The fields of a duration, from the longest unit on. */
 const FIELDS = [
@@ -21,10 +21,10 @@ const FIELDS = [
 const DAYS = FIELDS.indexOf("days");
 
 /** A day and the shorter units, in the singular. */
-const EXACT_UNITS = ["day", ...CLOCK_UNITS];
+const EXACT_UNITS = Object.keys(NANOSECONDS);
 
 /** The nanoseconds of a day and of each shorter unit. */
-const LENGTHS = [86_400_000_000_000n, 3_600_000_000_000n, 60_000_000_000n, 1_000_000_000n, 1_000_000n, 1_000n, 1n];
+const LENGTHS = Object.values(NANOSECONDS).map(BigInt);
 
 /** Years, months and weeks are fewer than so many. */
 const MOST_UNITS = 2 ** 32;

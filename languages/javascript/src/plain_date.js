@@ -3,7 +3,7 @@
 import { annotation, ISO8601, refuseArgument, refuseOther, withoutAnnotation } from "./calendar.js";
 import { daysOf, Duration, durationOf } from "./duration.js";
 import { library, NONE, readDate, textOfDate } from "./library.js";
-import { clipped, integer, isInt32, isUint32, largestUnitOf, overflowOf } from "./numbers.js";
+import { clipped, integer, isInt32, isUint32, largestUnitOf, optionsOf, overflowOf } from "./numbers.js";
 import { PlainDateTime } from "./plain_date_time.js";
 import { dateText, forTemporal } from "./texts.js";
 
@@ -117,7 +117,10 @@ export class PlainDate {
   static from(item, options) {
     const overflow = overflowOf(options);
     if (typeof item === "string") {
-      return PlainDate.#found(readDate(dateText(withoutAnnotation(item))), () => `${JSON.stringify(item)}: no text of a date`);
+      // (the form that `toString` writes is the library's own)
+      const number = item.length === 10 && item[4] === "-" ? readDate(item) : NONE;
+      const found = number === NONE ? readDate(dateText(withoutAnnotation(item))) : number;
+      return PlainDate.#found(found, () => `${JSON.stringify(item)}: no text of a date`);
     }
     if (item instanceof PlainDate) {
       return new PlainDate(BY_NUMBER, item.#number);

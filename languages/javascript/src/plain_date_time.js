@@ -5,7 +5,7 @@ import { Duration, secondsOf } from "./duration.js";
 import { dateOf, dateTimeAt, distance, moved, NONE, readDateTime, secondOfDayOf, textOfDateTime } from "./library.js";
 import { between, clipped, integer, largestUnitOf, optionsOf, overflowOf, refuseRounding } from "./numbers.js";
 import { PlainDate, replaced } from "./plain_date.js";
-import { CLOCK_UNITS, incrementOf, modeOf, rounded, unitOf } from "./rounding.js";
+import { incrementOf, modeOf, NANOSECONDS, roundedCount, unitOf } from "./rounding.js";
 import { dateTimeText, forTemporal } from "./texts.js";
 
 /** Tells the constructor that the two numbers follow that a date-time is. */
@@ -95,7 +95,8 @@ export class PlainDateTime {
   }
 
   static #read(text) {
-    const moment = readDateTime(dateTimeText(withoutAnnotation(text)));
+    // (the form that `toString` writes is the library's own)
+    const moment = (text[4] === "-" ? readDateTime(text) : undefined) ?? readDateTime(dateTimeText(withoutAnnotation(text)));
     return PlainDateTime.#found(moment, () => `${JSON.stringify(text)}: no text of a date-time`);
   }
 
@@ -219,15 +220,16 @@ export class PlainDateTime {
    */
   round(options) {
     const given = typeof options === "string" ? { smallestUnit: options } : optionsOf(options ?? null);
-    const unit = unitOf(given.smallestUnit, "smallestUnit", ["day", ...CLOCK_UNITS]);
+    const unit = unitOf(given.smallestUnit, "smallestUnit", Object.keys(NANOSECONDS));
     const increment = incrementOf(given, unit, false);
     const nanos = Math.min(this.#moment.nanos, SECOND - 1);
-    const ofDay = BigInt(this.#secondOfDay) * BigInt(SECOND) + BigInt(nanos);
-    const length = BigInt(Duration.from({ [`${unit}s`]: increment }).exactNanoseconds);
-    const date = this.toPlainDate();
-    const midnight = dateTimeAt(date.dayNumber, 0, 0);
-    const by = secondsOf(Duration.fromNanoseconds(rounded(ofDay, length, modeOf(given, "halfExpand"))));
-    return PlainDateTime.#found(moved(midnight, by), () => `${this} rounded to the ${unit} lies beyond the calendar`);
+    const length = increment * NANOSECONDS[unit];
+    const ofDay = length * roundedCount(this.#secondOfDay * SECOND + nanos, length, modeOf(given, "halfExpand"));
+    const second = Math.floor(ofDay / SECOND);
+    const isNextDay = second === 86_400;
+    const date = dateOf(this.#moment) + (isNextDay ? 1 : 0);
+    const moment = dateTimeAt(date, isNextDay ? 0 : second, ofDay - second * SECOND);
+    return PlainDateTime.#found(moment, () => `${this} rounded to the ${unit} lies beyond the calendar`);
   }
 
   /** Whether it is the same date-time. */

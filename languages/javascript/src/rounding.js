@@ -1,7 +1,10 @@
 /** Rounding, with the names and meanings of Temporal. */
 
-/** Units shorter than a day. */
-export const CLOCK_UNITS = ["hour", "minute", "second", "millisecond", "microsecond", "nanosecond"];
+/** The nanoseconds of a day and of each shorter unit. */
+export const NANOSECONDS = {
+  day: 86_400_000_000_000, hour: 3_600_000_000_000, minute: 60_000_000_000, second: 1_000_000_000, millisecond: 1_000_000, microsecond: 1_000,
+  nanosecond: 1,
+};
 
 /** How many of each make the next longer one. */
 const OF_NEXT = { hour: 24, minute: 60, second: 60, millisecond: 1_000, microsecond: 1_000, nanosecond: 1_000 };
@@ -62,4 +65,12 @@ export function rounded(number, length, mode) {
   const isUp = MODES[mode]({ side, isBelow, isOdd: count % 2n === 1n });
   const multiple = (count + (isUp ? 1n : 0n)) * length;
   return isBelow ? -multiple : multiple;
+}
+
+/** How many of a length make the multiple to which a number is rounded; both are whole Numbers, none below 0, the length above 0. */
+export function roundedCount(number, length, mode) {
+  const count = Math.floor(number / length);
+  const rest = number - count * length;
+  const isUp = rest > 0 && MODES[mode]({ side: Math.sign(2 * rest - length), isBelow: false, isOdd: count % 2 === 1 });
+  return isUp ? count + 1 : count;
 }

@@ -10,6 +10,9 @@ static Signature of_name = {
 static Signature of_replace = {
     .call = "replace", .count = 3, .needed = 0, .places = 3, .names = {"year", "month", "day"},
 };
+static Signature of_iso_week = {
+    .call = "fromisocalendar", .count = 3, .needed = 3, .places = 3, .names = {"year", "week", "day"},
+};
 
 /* ---- dates by their numbers */
 
@@ -28,6 +31,7 @@ static PyObject *new_date(PyTypeObject *kind, int32_t number, int32_t year, uint
 {
     Date *self = (Date *)new_object(kind, date_type, &kept);
     if (self) {
+        self->hash = -1;
         self->number = number;
         self->year = year;
         self->month = month;
@@ -90,10 +94,10 @@ static PyObject *from_number(PyObject *kind, PyObject *it)
     return date_of((PyTypeObject *)kind, (int32_t)number);
 }
 
-static PyObject *from_year_and_ordinal(PyObject *kind, PyObject *const *arguments, Py_ssize_t count)
+static PyObject *from_day_of_year(PyObject *kind, PyObject *const *arguments, Py_ssize_t count)
 {
     int64_t year, ordinal;
-    if (!has_arguments("from_ordinal", 2, count) || !read_whole(arguments[0], &year) || !read_whole(arguments[1], &ordinal)) {
+    if (!has_arguments("from_day_of_year", 2, count) || !read_whole(arguments[0], &year) || !read_whole(arguments[1], &ordinal)) {
         return NULL;
     }
     int32_t number = is_i32(year) && is_u32(ordinal) ? calendar_from_yo((int32_t)year, (uint32_t)ordinal) : CALENDAR_NONE;
@@ -104,12 +108,12 @@ static PyObject *from_year_and_ordinal(PyObject *kind, PyObject *const *argument
     return date_of((PyTypeObject *)kind, number);
 }
 
-static PyObject *from_iso_week(PyObject *kind, PyObject *const *arguments, Py_ssize_t count)
+/* The date of an ISO year, a week and a weekday. */
+static PyObject *date_of_iso_week(PyObject *kind, PyObject *const parts[3])
 {
     int64_t year, week, weekday;
     int32_t number = CALENDAR_NONE;
-    if (!has_arguments("from_iso_week", 3, count) || !read_whole(arguments[0], &year) || !read_whole(arguments[1], &week)
-        || !read_whole(arguments[2], &weekday)) {
+    if (!read_whole(parts[0], &year) || !read_whole(parts[1], &week) || !read_whole(parts[2], &weekday)) {
         return NULL;
     }
     if (is_i32(year) && is_u32(week) && is_u32(weekday)) {
@@ -120,6 +124,17 @@ static PyObject *from_iso_week(PyObject *kind, PyObject *const *arguments, Py_ss
         return NULL;
     }
     return date_of((PyTypeObject *)kind, number);
+}
+
+static PyObject *from_iso_week(PyObject *kind, PyObject *const *arguments, Py_ssize_t count)
+{
+    return has_arguments("from_iso_week", 3, count) ? date_of_iso_week(kind, arguments) : NULL;
+}
+
+static PyObject *from_iso_calendar(PyObject *kind, PyObject *const *arguments, Py_ssize_t count, PyObject *keywords)
+{
+    PyObject *parts[PARTS];
+    return take_array(&of_iso_week, arguments, count, keywords, parts) ? date_of_iso_week(kind, parts) : NULL;
 }
 
 static PyObject *from_weekday_of_month(PyObject *kind, PyObject *const *arguments, Py_ssize_t count)
@@ -395,11 +410,16 @@ static PyObject *from_iso_format(PyObject *kind, PyObject *text)
         return PyUnicode_Check(text) ? NULL : refuse_type("a str", text);
     }
     int32_t number = calendar_read_date((const uint8_t *)bytes, (size_t)length);
-    if (number == CALENDAR_NONE) {
-        refuse_text(text, bytes, (size_t)length, "date");
-        return NULL;
+    if (number != CALENDAR_NONE) {
+        return date_of((PyTypeObject *)kind, number);
     }
-    return date_of((PyTypeObject *)kind, number);
+    /* (a compact text or a week; None says that it is neither) */
+    PyObject *date = by_python("date_of_text", "(OO)", kind, text);
+    if (date == Py_None) {
+        Py_CLEAR(date);
+        refuse_text(text, bytes, (size_t)length, "date");
+    }
+    return date;
 }
 
 static PyObject *date_repr(PyObject *self)
@@ -419,16 +439,26 @@ static PyObject *date_repr(PyObject *self)
 
 static PyObject *date_compare(PyObject *left, PyObject *right, int order)
 {
-    if (!is_date(right)) {
+    int32_t number;
+    if (is_date(right)) {
+        Py_RETURN_RICHCOMPARE(number_of(left), number_of(right), order);
+    }
+    if (!is_python_date(right) || is_python_datetime(right)) {
         Py_RETURN_NOTIMPLEMENTED;
     }
-    Py_RETURN_RICHCOMPARE(number_of(left), number_of(right), order);
+    if (!read_python_date(right, &number)) {
+        return NULL;
+    }
+    Py_RETURN_RICHCOMPARE(number_of(left), number, order);
 }
 
 static Py_hash_t date_hash(PyObject *self)
 {
-    /* (-1 says that there is an error) */
-    return number_of(self) == -1 ? -2 : number_of(self);
+    Date *date = (Date *)self;
+    if (date->hash == -1) {
+        date->hash = has_python_date(date->number) ? hash_of_python_date(date->number) : hash_of(date->number, 0);
+    }
+    return date->hash;
 }
 
 static PyObject *to_date(PyObject *self, PyObject *unused)
@@ -463,18 +493,23 @@ static PyMethodDef methods[] = {
      "from_number($type, number, /)\n--\n\nReturns the date with this day number; ValueError if there is none."},
     {"fromordinal", from_number, METH_O | METH_CLASS,
      "fromordinal($type, number, /)\n--\n\nThe same as from_number, by datetime's name."},
-    {"from_ordinal", METHOD(from_year_and_ordinal), METH_FASTCALL | METH_CLASS,
-     "from_ordinal($type, year, ordinal, /)\n--\n\n"
-     "Returns the date of a year and a day of it, from 1 to 366 (ISO 8601 ordinal date)."},
+    {"from_day_of_year", METHOD(from_day_of_year), METH_FASTCALL | METH_CLASS,
+     "from_day_of_year($type, year, ordinal, /)\n--\n\n"
+     "Returns the date of a year and a day of it, from 1 to 366 (ISO 8601 ordinal date).\n\n"
+     ">>> Date.from_day_of_year(2024, 60)\nDate(2024, 2, 29)"},
     {"from_iso_week", METHOD(from_iso_week), METH_FASTCALL | METH_CLASS,
      "from_iso_week($type, year, week, weekday, /)\n--\n\n"
      "Returns the date of an ISO year, a week from 1 to 53 and a weekday from 1 for Monday (ISO 8601 week date)."},
+    {"fromisocalendar", METHOD(from_iso_calendar), METH_FASTCALL | METH_KEYWORDS | METH_CLASS,
+     "fromisocalendar($type, /, year, week, day)\n--\n\nThe same as from_iso_week, by datetime's name."},
     {"from_weekday_of_month", METHOD(from_weekday_of_month), METH_FASTCALL | METH_CLASS,
      "from_weekday_of_month($type, year, month, weekday, n, /)\n--\n\n"
      "Returns the n-th such weekday of the month. For example, weekday 5 and n 3 is the third Friday."},
     {"from_date", from_date, METH_O | METH_CLASS, "from_date($type, date, /)\n--\n\nReturns the date equal to a datetime.date."},
     {"fromisoformat", from_iso_format, METH_O | METH_CLASS,
-     "fromisoformat($type, text, /)\n--\n\nReturns the date with this text. It reads only what isoformat writes."},
+     "fromisoformat($type, text, /)\n--\n\n"
+     "Returns the date with this text, as isoformat writes it. It also reads the compact text and ISO weeks.\n\n"
+     ">>> Date.fromisoformat('20240229') == Date.fromisoformat('2024-W09-4') == Date(2024, 2, 29)\nTrue"},
     {"isoformat", iso_format, METH_NOARGS,
      "isoformat($self, /)\n--\n\n"
      "Returns the date as YYYY-MM-DD. A year below 0 or above 9999 has a sign and at least four digits."},
@@ -508,7 +543,9 @@ static PyMethodDef methods[] = {
     {"to_date", to_date, METH_NOARGS,
      "to_date($self, /)\n--\n\nReturns the same date as a datetime.date; OverflowError outside the years 1 to 9999."},
     {"__format__", formatted, METH_O,
-     "__format__($self, format, /)\n--\n\nFormats the text: format(str(self), format). There are no strftime formats."},
+     "__format__($self, format, /)\n--\n\n"
+     "Formats the text: format(str(self), format). A format with a percent sign is one of strftime.\n\n"
+     ">>> f'{Date(2024, 2, 29):>12} {Date(2024, 2, 29):%d/%m/%Y}'\n'  2024-02-29 29/02/2024'"},
     {"__reduce__", date_reduce, METH_NOARGS, "__reduce__($self, /)\n--\n\nWhat pickle and copy keep."},
     {NULL, NULL, 0, NULL},
 };
@@ -518,8 +555,8 @@ PyDoc_STRVAR(documentation,
 "A date of the proleptic Gregorian calendar, from 1 January of year -262143 to 31 December of year 262142.\n\n"
 ">>> Date(2024, 2, 29) + 1\nDate(2024, 3, 1)\n\n"
 "The year before year 1 is year 0 (ISO 8601). A date is one number, by which it is compared and hashed. Its text is\n"
-"YYYY-MM-DD. In the years 1 to 9999 number, names and text are those of datetime.date. A Date is never equal to a\n"
-"datetime.date: convert with from_date or to_date first.\n\n"
+"YYYY-MM-DD. In the years 1 to 9999 number, names and text are those of datetime.date. A Date is equal to the\n"
+"datetime.date of the same day, with the same hash.\n\n"
 "An invalid date raises ValueError, which names the part. A move outside the calendar raises OverflowError.\n"
 "Patterns work: case Date(2024, month, day).");
 

@@ -1,6 +1,8 @@
 /* date_time.c: the type DateTime. */
 #include "package.h"
 
+#include <string.h>
+
 PyTypeObject *date_time_type;
 static Blocks kept;
 
@@ -10,11 +12,19 @@ enum { SECOND = 1000000000, MICROSECOND = 1000, LAST_SECOND = 59 };
 enum { HOUR, MINUTE, CLOCK_SECOND, NANOSECOND, CLOCK };
 
 static Signature of_date_and_clock = {
-    .call = "DateTime", .count = 5, .needed = 1, .places = 5, .names = {"date", "hour", "minute", "second", "nanosecond"},
+    .call = "DateTime", .count = 6, .needed = 1, .places = 5,
+    .names = {"date", "hour", "minute", "second", "nanosecond", "microsecond"},
+};
+static Signature of_name_and_clock = {
+    .call = "DateTime", .count = 8, .needed = 3, .places = 7,
+    .names = {"year", "month", "day", "hour", "minute", "second", "microsecond", "nanosecond"},
 };
 static Signature of_replace = {
-    .call = "replace", .count = 7, .needed = 0, .places = 7,
-    .names = {"year", "month", "day", "hour", "minute", "second", "nanosecond"},
+    .call = "replace", .count = 8, .needed = 0, .places = 6,
+    .names = {"year", "month", "day", "hour", "minute", "second", "microsecond", "nanosecond"},
+};
+static Signature of_iso_format = {
+    .call = "isoformat", .count = 2, .needed = 0, .places = 2, .names = {"sep", "timespec"},
 };
 static Signature of_fields = {
     .call = "from_seconds", .count = 2, .needed = 1, .places = 2, .names = {"seconds", "nanos"},
@@ -31,6 +41,36 @@ static void read_clock(calendar_date_time moment, int64_t clock[CLOCK])
     clock[MINUTE] = second / 60 % 60;
     clock[CLOCK_SECOND] = second % 60 + is_leap;
     clock[NANOSECOND] = is_leap ? moment.nanos - SECOND : moment.nanos;
+}
+
+/* Reads the parts that are given of a clock: hour, minute and second, and the fraction in one of its two units. */
+static bool read_parts(PyObject *const whole[3], PyObject *microsecond, PyObject *nanosecond, int64_t clock[CLOCK])
+{
+    int64_t count;
+    for (int i = 0; i < NANOSECOND; i++) {
+        if (whole[i] && !read_whole(whole[i], &clock[i])) {
+            return false;
+        }
+    }
+    if (microsecond && nanosecond) {
+        PyErr_SetString(PyExc_TypeError, "the fraction is given twice: nanosecond is the whole fraction, and microsecond too");
+        return false;
+    }
+    if (nanosecond && !read_whole(nanosecond, &clock[NANOSECOND])) {
+        return false;
+    }
+    if (!microsecond) {
+        return true;
+    }
+    if (!read_whole(microsecond, &count)) {
+        return false;
+    }
+    bool is_part = 0 <= count && count < SECOND / MICROSECOND;
+    if (!is_part) {
+        refuse_part("microsecond", count, "microseconds are 0 to 999999");
+    }
+    clock[NANOSECOND] = is_part ? MICROSECOND * count : 0;
+    return is_part;
 }
 
 /* Whether a part of a clock is one of its numbers, from 0; else it is refused. */
@@ -95,6 +135,7 @@ static PyObject *new_date_time(PyTypeObject *kind, calendar_date_time moment, in
 {
     DateTime *self = (DateTime *)new_object(kind, date_time_type, &kept);
     if (self) {
+        self->hash = -1;
         self->moment = moment;
         self->number = number;
         self->second = CALENDAR_NONE;
@@ -116,27 +157,59 @@ static PyObject *date_time_of(PyTypeObject *kind, calendar_date_time moment)
     return new_date_time(kind, moment, CALENDAR_NONE);
 }
 
-static PyObject *date_time_new(PyTypeObject *kind, PyObject *arguments, PyObject *keywords)
+/* Reads the arguments of datetime: year, month and day, and a clock whose fraction by place is in microseconds. */
+static bool read_named(PyObject *arguments, PyObject *keywords, int32_t *number, int64_t clock[CLOCK])
 {
-    static const char wanted[] = "a Date, as in DateTime(Date(2024, 2, 29), 12),";
     PyObject *parts[PARTS];
-    int64_t clock[CLOCK] = {0};
-    calendar_date_time moment;
-    if (PyTuple_Size(arguments) > 0 && !is_date(PyTuple_GetItem(arguments, 0))) {
-        return refuse_type(wanted, PyTuple_GetItem(arguments, 0));
+    int64_t name[3];
+    if (!take_tuple(&of_name_and_clock, arguments, keywords, parts)) {
+        return false;
     }
-    if (!take_tuple(&of_date_and_clock, arguments, keywords, parts)) {
-        return NULL;
-    }
-    if (!is_date(parts[0])) {
-        return refuse_type(wanted, parts[0]);
-    }
-    for (int i = 0; i < CLOCK; i++) {
-        if (parts[1 + i] && !read_whole(parts[1 + i], &clock[i])) {
-            return NULL;
+    for (int i = 0; i < 3; i++) {
+        if (!read_whole(parts[i], &name[i])) {
+            return false;
         }
     }
-    return moment_at(number_of(parts[0]), clock, &moment) ? new_date_time(kind, moment, number_of(parts[0])) : NULL;
+    if (!read_parts(parts + 3, parts[6], parts[7], clock)) {
+        return false;
+    }
+    *number = number_of_name(name[0], name[1], name[2]);
+    return *number != CALENDAR_NONE;
+}
+
+/* Reads a Date, and a clock whose fraction by place is in nanoseconds. */
+static bool read_dated(PyObject *arguments, PyObject *keywords, int32_t *number, int64_t clock[CLOCK])
+{
+    PyObject *parts[PARTS];
+    if (!take_tuple(&of_date_and_clock, arguments, keywords, parts)) {
+        return false;
+    }
+    if (!is_date(parts[0])) {
+        refuse_type("a Date, as in DateTime(Date(2024, 2, 29), 12), or a year", parts[0]);
+        return false;
+    }
+    *number = number_of(parts[0]);
+    return read_parts(parts + 1, parts[5], parts[4], clock);
+}
+
+/* Whether the first argument is a year, by place or by name. */
+static bool begins_with_year(PyObject *arguments, PyObject *keywords)
+{
+    if (PyTuple_Size(arguments) > 0) {
+        PyObject *first = PyTuple_GetItem(arguments, 0);
+        return !is_date(first) && PyIndex_Check(first);
+    }
+    return keywords && PyDict_GetItemString(keywords, "year");
+}
+
+static PyObject *date_time_new(PyTypeObject *kind, PyObject *arguments, PyObject *keywords)
+{
+    int32_t number;
+    int64_t clock[CLOCK] = {0};
+    calendar_date_time moment;
+    bool is_read = begins_with_year(arguments, keywords) ? read_named(arguments, keywords, &number, clock)
+                                                         : read_dated(arguments, keywords, &number, clock);
+    return is_read && moment_at(number, clock, &moment) ? new_date_time(kind, moment, number) : NULL;
 }
 
 static void date_time_free(PyObject *self)
@@ -184,10 +257,8 @@ static PyObject *date_time_replace(PyObject *self, PyObject *const *arguments, P
         return NULL;
     }
     read_clock(moment, clock);
-    for (int i = 0; i < CLOCK; i++) {
-        if (parts[3 + i] && !read_whole(parts[3 + i], &clock[i])) {
-            return NULL;
-        }
+    if (!read_parts(parts + 3, parts[6], parts[7], clock)) {
+        return NULL;
     }
     int32_t number = number_of_name(name[0], name[1], name[2]);
     if (number == CALENDAR_NONE || !moment_at(number, clock, &moment)) {
@@ -303,14 +374,29 @@ static PyObject *date_time_to_ordinal(PyObject *self, PyObject *unused)
 
 /* ---- moves and distances */
 
-static PyObject *moved(PyObject *self, calendar_duration by)
+/* The end of a move; no date-time is beyond the calendar. */
+static PyObject *reached(PyTypeObject *kind, calendar_date_time moment)
 {
-    calendar_date_time moment = calendar_date_time_add(moment_of(self), by);
     if (moment.nanos == CALENDAR_NO_NANOS) {
         PyErr_SetString(PyExc_OverflowError, "the date-time lies beyond the calendar");
         return NULL;
     }
-    return date_time_of(Py_TYPE(self), moment);
+    return date_time_of(kind, moment);
+}
+
+static PyObject *moved(PyObject *self, calendar_duration by)
+{
+    return reached(Py_TYPE(self), calendar_date_time_add(moment_of(self), by));
+}
+
+static PyObject *add_months(PyObject *self, PyObject *it)
+{
+    int64_t months;
+    if (!read_whole(it, &months)) {
+        return NULL;
+    }
+    int32_t number = calendar_add_months(day_of(self), months);
+    return reached(Py_TYPE(self), calendar_date_time_new(number, (uint32_t)second_of(self), moment_of(self).nanos));
 }
 
 static PyObject *moved_by(PyObject *self, PyObject *by, bool is_back)
@@ -347,17 +433,14 @@ static PyObject *date_time_subtract(PyObject *left, PyObject *right)
 /* Room for the longest text of a date-time, such as -262143-01-01T00:00:00.000000001. */
 enum { ROOM = 32 };
 
+/* The bytes of a time of day up to the point of its fraction. */
+enum { CLOCK_LENGTH = 8 };
+
 static PyObject *date_time_text(PyObject *self)
 {
     uint8_t text[ROOM];
     int32_t length = calendar_write_date_time(moment_of(self), text, ROOM);
     return PyUnicode_FromStringAndSize((const char *)text, length);
-}
-
-static PyObject *iso_format(PyObject *self, PyObject *unused)
-{
-    (void)unused;
-    return date_time_text(self);
 }
 
 /* How many bytes stand before the time of day. */
@@ -368,6 +451,59 @@ static size_t length_of_date(const char *bytes, size_t length)
         i++;
     }
     return i;
+}
+
+/* Cuts the text of a clock to a precision, or fills its fraction up with zeros; whether there is such a precision. */
+static bool cut_clock(PyObject *timespec, char *clock)
+{
+    static const struct {
+        const char *name;
+        size_t length;
+    } precisions[] = {{"hours", 2}, {"minutes", 5}, {"seconds", 8}, {"milliseconds", 12}, {"microseconds", 15}, {"nanoseconds", 18}};
+    if (PyUnicode_CompareWithASCIIString(timespec, "auto") == 0) {
+        return true;
+    }
+    for (size_t i = 0; i < sizeof precisions / sizeof precisions[0]; i++) {
+        if (PyUnicode_CompareWithASCIIString(timespec, precisions[i].name) == 0) {
+            for (size_t at = strlen(clock); at < precisions[i].length; at++) {
+                clock[at] = at == CLOCK_LENGTH ? '.' : '0';
+            }
+            clock[precisions[i].length] = 0;
+            return true;
+        }
+    }
+    PyErr_Format(PyExc_ValueError, "timespec %R: it is auto, hours, minutes, seconds, milliseconds, microseconds or nanoseconds", timespec);
+    return false;
+}
+
+/* The text with another separator, or to a precision; each may be left out. */
+static PyObject *text_in(PyObject *self, PyObject *separator, PyObject *timespec)
+{
+    char text[ROOM + 1];
+    size_t length = (size_t)calendar_write_date_time(moment_of(self), (uint8_t *)text, ROOM), date = length_of_date(text, length);
+    text[length] = 0;
+    text[date] = 0;
+    if (separator && (!PyUnicode_Check(separator) || PyUnicode_GetLength(separator) != 1)) {
+        PyErr_SetString(PyExc_TypeError, "the separator is one character");
+        return NULL;
+    }
+    if (timespec && !PyUnicode_Check(timespec)) {
+        return refuse_type("a str", timespec);
+    }
+    if (timespec && !cut_clock(timespec, text + date + 1)) {
+        return NULL;
+    }
+    return separator ? PyUnicode_FromFormat("%s%U%s", text, separator, text + date + 1)
+                     : PyUnicode_FromFormat("%sT%s", text, text + date + 1);
+}
+
+static PyObject *iso_format(PyObject *self, PyObject *const *arguments, Py_ssize_t count, PyObject *keywords)
+{
+    PyObject *parts[PARTS];
+    if (count == 0 && !keywords) {
+        return date_time_text(self);
+    }
+    return take_array(&of_iso_format, arguments, count, keywords, parts) ? text_in(self, parts[0], parts[1]) : NULL;
 }
 
 /* Whether the bytes have the form of a time of day, a separator in front of it; then its parts are written. */
@@ -406,15 +542,28 @@ static PyObject *from_iso_format(PyObject *kind, PyObject *text)
 {
     Py_ssize_t length;
     const char *bytes = PyUnicode_AsUTF8AndSize(text, &length);
-    if (!bytes) {
-        return PyUnicode_Check(text) ? NULL : refuse_type("a str", text);
+    if (!bytes && !PyUnicode_Check(text)) {
+        return refuse_type("a str", text);
     }
-    calendar_date_time moment = calendar_read_date_time((const uint8_t *)bytes, (size_t)length);
-    if (moment.nanos == CALENDAR_NO_NANOS) {
-        refuse_date_time_text(text, bytes, (size_t)length);
-        return NULL;
+    calendar_date_time moment = {.nanos = CALENDAR_NO_NANOS};
+    if (bytes) {
+        moment = calendar_read_date_time((const uint8_t *)bytes, (size_t)length);
     }
-    return date_time_of((PyTypeObject *)kind, moment);
+    if (moment.nanos != CALENDAR_NO_NANOS) {
+        return date_time_of((PyTypeObject *)kind, moment);
+    }
+    /* (another form; None says that it is none that is known. Half of a surrogate pair has no UTF-8, but may be a separator) */
+    PyErr_Clear();
+    PyObject *result = by_python("date_time_of_text", "(OO)", kind, text);
+    if (result == Py_None) {
+        Py_CLEAR(result);
+        if (bytes) {
+            refuse_date_time_text(text, bytes, (size_t)length);
+        } else {
+            PyErr_Format(PyExc_ValueError, "%R is no text of a date-time", text);
+        }
+    }
+    return result;
 }
 
 static PyObject *date_time_repr(PyObject *self)
@@ -429,21 +578,62 @@ static PyObject *date_time_repr(PyObject *self)
 
 /* ---- as Python's objects do */
 
+/* Reads a DateTime, or a datetime.datetime that has no time zone; *is_one says whether it is either. */
+static bool read_moment(PyObject *it, calendar_date_time *moment, bool *is_one)
+{
+    int32_t number;
+    int64_t clock[CLOCK];
+    *is_one = is_date_time(it);
+    if (*is_one) {
+        *moment = moment_of(it);
+        return true;
+    }
+    if (!is_python_datetime(it)) {
+        return true;
+    }
+    PyObject *zone = PyObject_GetAttrString(it, "tzinfo");
+    Py_XDECREF(zone);
+    *is_one = zone == Py_None;
+    return zone && (!*is_one || (read_python_datetime(it, &number, clock) && moment_at(number, clock, moment)));
+}
+
 static PyObject *date_time_compare(PyObject *left, PyObject *right, int order)
 {
-    if (!is_date_time(right)) {
+    calendar_date_time one = moment_of(left), other;
+    bool is_one;
+    if (!read_moment(right, &other, &is_one)) {
+        return NULL;
+    }
+    if (!is_one) {
         Py_RETURN_NOTIMPLEMENTED;
     }
-    calendar_date_time one = moment_of(left), other = moment_of(right);
     if (one.seconds != other.seconds) {
         Py_RETURN_RICHCOMPARE(one.seconds, other.seconds, order);
     }
     Py_RETURN_RICHCOMPARE(one.nanos, other.nanos, order);
 }
 
+static Py_hash_t hash_of_moment(PyObject *self)
+{
+    int64_t clock[CLOCK];
+    calendar_date_time moment = moment_of(self);
+    if (moment.nanos >= SECOND || !has_python_date(day_of(self))) {
+        return hash_of(moment.seconds, moment.nanos);
+    }
+    if (moment.nanos % MICROSECOND != 0) {
+        return hash_of_nanoseconds(moment.seconds, moment.nanos);
+    }
+    read_clock(moment, clock);
+    return hash_of_python_datetime(day_of(self), clock);
+}
+
 static Py_hash_t date_time_hash(PyObject *self)
 {
-    return hash_of(moment_of(self).seconds, moment_of(self).nanos);
+    DateTime *of = (DateTime *)self;
+    if (of->hash == -1) {
+        of->hash = hash_of_moment(self);
+    }
+    return of->hash;
 }
 
 static PyObject *to_datetime(PyObject *self, PyObject *unused)
@@ -494,10 +684,20 @@ static PyMethodDef methods[] = {
      "from_datetime($type, moment, /)\n--\n\nReturns the date-time equal to a datetime.datetime without time zone."},
     {"fromisoformat", from_iso_format, METH_O | METH_CLASS,
      "fromisoformat($type, text, /)\n--\n\n"
-     "Returns the date-time with this text: a date, T or a space, and HH:MM:SS. A point and up to nine digits may follow."},
-    {"isoformat", iso_format, METH_NOARGS,
-     "isoformat($self, /)\n--\n\n"
-     "Returns the date-time as YYYY-MM-DDTHH:MM:SS. A fraction that is not 0 has three, six or nine digits."},
+     "Returns the date-time with this text: a date, T or a space, and HH:MM:SS. A point and up to nine digits may follow.\n"
+     "It also reads the other forms of datetime: compact texts, ISO weeks, a date alone, hours and minutes alone, and a\n"
+     "separator that is no digit. A text with an offset raises ValueError.\n\n"
+     ">>> DateTime.fromisoformat('20240229T1230') == DateTime.fromisoformat('2024-W09-4 12:30')\nTrue"},
+    {"isoformat", METHOD(iso_format), METH_FASTCALL | METH_KEYWORDS,
+     "isoformat($self, /, sep='T', timespec='auto')\n--\n\n"
+     "Returns the date-time as YYYY-MM-DDTHH:MM:SS. A fraction that is not 0 has three, six or nine digits.\n\n"
+     ">>> DateTime(2024, 2, 29, 12, 30, 15, 250_000).isoformat(' ', 'minutes')\n'2024-02-29 12:30'\n\n"
+     "timespec is hours, minutes, seconds, milliseconds, microseconds or nanoseconds; what it leaves out is cut off."},
+    {"add_months", add_months, METH_O,
+     "add_months($self, months, /)\n--\n\n"
+     "Returns the same time of day that many months later, or earlier if negative. If that month is too short, on its last\n"
+     "day.\n\n"
+     ">>> print(DateTime(2024, 1, 31, 12).add_months(1))\n2024-02-29T12:00:00"},
     {"isocalendar", date_time_iso_calendar, METH_NOARGS,
      "isocalendar($self, /)\n--\n\nReturns ISO year, week and weekday, as a named tuple."},
     {"weekday", date_time_weekday, METH_NOARGS,
@@ -507,21 +707,27 @@ static PyMethodDef methods[] = {
     {"toordinal", date_time_to_ordinal, METH_NOARGS,
      "toordinal($self, /)\n--\n\nReturns the day number of the date: 1 for 1 January of year 1."},
     {"replace", METHOD(date_time_replace), METH_FASTCALL | METH_KEYWORDS,
-     "replace($self, /, year=..., month=..., day=..., hour=..., minute=..., second=..., nanosecond=...)\n--\n\n"
-     "Returns the date-time with these parts in place of its own; ValueError if it does not exist."},
+     "replace($self, /, year=..., month=..., day=..., hour=..., minute=..., second=..., *, microsecond=..., nanosecond=...)\n--\n\n"
+     "Returns the date-time with these parts in place of its own; ValueError if it does not exist. microsecond and\n"
+     "nanosecond each replace the whole fraction, so one of them can be given."},
     {"to_datetime", to_datetime, METH_NOARGS,
      "to_datetime($self, /)\n--\n\n"
      "Returns the same date-time as a datetime.datetime. Raises OverflowError outside the years 1 to 9999. Raises ValueError in\n"
      "a leap second or for a fraction of a microsecond."},
     {"__format__", formatted, METH_O,
-     "__format__($self, format, /)\n--\n\nFormats the text: format(str(self), format). There are no strftime formats."},
+     "__format__($self, format, /)\n--\n\n"
+     "Formats the text: format(str(self), format). A format with a percent sign is one of strftime."},
     {"__reduce__", date_time_reduce, METH_NOARGS, "__reduce__($self, /)\n--\n\nWhat pickle and copy keep."},
     {NULL, NULL, 0, NULL},
 };
 
 PyDoc_STRVAR(documentation,
-"DateTime(date, hour=0, minute=0, second=0, nanosecond=0)\n--\n\n"
 "A date with a time of day, to the nanosecond, in no time zone.\n\n"
+"DateTime(date, hour=0, minute=0, second=0, nanosecond=0)\n"
+"DateTime(year, month, day, hour=0, minute=0, second=0, microsecond=0)\n\n"
+">>> DateTime(Date(2024, 2, 29), 12) == DateTime(2024, 2, 29, 12)\nTrue\n\n"
+"Both take microsecond and nanosecond by name; each is the whole fraction, so one of them can be given. A DateTime is\n"
+"equal to the datetime.datetime of the same time that has no time zone, with the same hash.\n\n"
 ">>> print(DateTime(Date(2016, 12, 31), 23, 59, 60) + Duration(seconds=1))\n2017-01-01T00:00:00\n\n"
 "The time can be in a leap second, the second 60 of a minute. A move from there counts this leap second and no other.\n"
 "Date-times are compared by date, then by time of day.\n\n"

@@ -79,6 +79,77 @@ static bool find_places(void)
     return !PyErr_Occurred();
 }
 
+/* Whether datetime's hashes are those of the bytes that its values are made of, as they are in C. */
+static bool hashes_bytes;
+
+/* Lets an object go that was just made; its hash, or -1 if it was not made. */
+static Py_hash_t take_hash(PyObject *it)
+{
+    Py_hash_t hash = it ? PyObject_Hash(it) : -1;
+    Py_XDECREF(it);
+    return hash;
+}
+
+static Py_hash_t hash_of_bytes(const uint8_t *bytes, Py_ssize_t count)
+{
+    return take_hash(PyBytes_FromStringAndSize((const char *)bytes, count));
+}
+
+/* The bytes of a date: its year, the high byte first, month and day. */
+static void write_name(int32_t number, uint8_t bytes[4])
+{
+    calendar_ymd name = calendar_split(number);
+    bytes[0] = (uint8_t)(name.year >> 8);
+    bytes[1] = (uint8_t)name.year;
+    bytes[2] = name.month;
+    bytes[3] = name.day;
+}
+
+Py_hash_t hash_of_python_date(int32_t number)
+{
+    uint8_t bytes[4];
+    if (!hashes_bytes) {
+        return take_hash(python_date(number));
+    }
+    write_name(number, bytes);
+    return hash_of_bytes(bytes, sizeof bytes);
+}
+
+Py_hash_t hash_of_python_datetime(int32_t number, const int64_t clock[4])
+{
+    int64_t microsecond = clock[3] / MICROSECOND;
+    uint8_t bytes[10] = {[4] = (uint8_t)clock[0], (uint8_t)clock[1], (uint8_t)clock[2],
+                         (uint8_t)(microsecond >> 16), (uint8_t)(microsecond >> 8), (uint8_t)microsecond};
+    if (!hashes_bytes) {
+        return take_hash(python_datetime(number, clock));
+    }
+    write_name(number, bytes);
+    return hash_of_bytes(bytes, sizeof bytes);
+}
+
+Py_hash_t hash_of_timedelta(int64_t days, int32_t seconds, int32_t microseconds)
+{
+    return take_hash(python_timedelta(days, seconds, microseconds));
+}
+
+Py_hash_t hash_of_nanoseconds(int64_t seconds, uint32_t nanos)
+{
+    const int64_t second = 1000000000, whole = INT64_MAX / second;
+    bool has_64_bits = -whole <= seconds && seconds < whole;
+    return has_64_bits ? take_hash(PyLong_FromLongLong(second * seconds + nanos)) : hash_of(seconds, nanos);
+}
+
+/* Finds out whether datetime hashes the bytes; false after an error. */
+static bool look_at_hashes(void)
+{
+    enum { LEAP_DAY = 738945 };
+    const int64_t clock[4] = {23, 58, 57, 987654000};
+    hashes_bytes = true;
+    Py_hash_t hashes[2] = {hash_of_python_date(LEAP_DAY), hash_of_python_datetime(LEAP_DAY, clock)};
+    hashes_bytes = hashes[0] == take_hash(python_date(LEAP_DAY)) && hashes[1] == take_hash(python_datetime(LEAP_DAY, clock));
+    return !PyErr_Occurred();
+}
+
 bool take_datetime(void)
 {
     PyObject *module = PyImport_ImportModule("datetime");
@@ -87,7 +158,7 @@ bool take_datetime(void)
     Py_XDECREF(module);
     from_ordinal = is_taken ? PyObject_GetAttrString((PyObject *)date_class, "fromordinal") : NULL;
     return from_ordinal && take_field(&fields[0]) && take_field(&fields[1]) && take_field(&fields[2])
-        && find_places();
+        && find_places() && look_at_hashes();
 }
 
 bool is_python_date(PyObject *it)
@@ -201,10 +272,20 @@ bool read_python_datetime(PyObject *it, int32_t *number, int64_t clock[4])
     return read_python_date(it, number);
 }
 
+bool has_python_date(int32_t number)
+{
+    return FIRST_DAY <= number && number <= LAST_DAY;
+}
+
+bool has_timedelta(int64_t days)
+{
+    return -LONGEST_DAYS <= days && days <= LONGEST_DAYS;
+}
+
 /* Whether datetime has a day; an OverflowError if not. */
 static bool is_day(int32_t number)
 {
-    if (number < FIRST_DAY || number > LAST_DAY) {
+    if (!has_python_date(number)) {
         PyErr_Format(PyExc_OverflowError, "year %d: datetime has the years 1 to 9999", (int)calendar_year(number));
         return false;
     }
@@ -235,7 +316,7 @@ PyObject *python_datetime(int32_t number, const int64_t clock[4])
 
 PyObject *python_timedelta(int64_t days, int32_t seconds, int32_t microseconds)
 {
-    if (days < -LONGEST_DAYS || days > LONGEST_DAYS) {
+    if (!has_timedelta(days)) {
         PyErr_SetString(PyExc_OverflowError, "timedelta has at most 999,999,999 days");
         return NULL;
     }

@@ -6,13 +6,18 @@ static Blocks kept;
 
 enum { SECOND = 1000000000, MICROSECOND = 1000, DAY = 86400 };
 
+/* The parts: by place they stand as those of timedelta. */
+enum { LENGTHS = 8 };
+
 static Signature of_parts = {
-    .call = "Duration", .count = 5, .needed = 0, .places = 0, .names = {"days", "hours", "minutes", "seconds", "nanoseconds"},
+    .call = "Duration", .count = LENGTHS, .needed = 0, .places = 7,
+    .names = {"days", "seconds", "microseconds", "milliseconds", "minutes", "hours", "weeks", "nanoseconds"},
 };
 
-/* The seconds of each part but the last. */
-enum { LONG_PARTS = 4 };
-static const int64_t units[LONG_PARTS] = {DAY, 3600, 60, 1};
+/* Each part in seconds, or 0 and in nanoseconds. */
+static const struct {
+    int64_t seconds, nanoseconds;
+} units[LENGTHS] = {{DAY, 0}, {1, 0}, {0, MICROSECOND}, {0, 1000000}, {60, 0}, {3600, 0}, {7 * DAY, 0}, {0, 1}};
 
 /* ---- lengths */
 
@@ -59,6 +64,7 @@ PyObject *duration_of(PyTypeObject *kind, calendar_duration length)
 {
     PyObject *self = new_object(kind, duration_type, &kept);
     if (self) {
+        ((Duration *)self)->hash = -1;
         ((Duration *)self)->length = length;
     }
     return self;
@@ -91,19 +97,17 @@ static bool sum_of_small(PyObject *const *parts, calendar_duration *length, bool
     const int64_t large = INT64_C(1) << 40;
     int64_t seconds = 0, nanoseconds = 0;
     *is_small = true;
-    for (int i = 0; i < LONG_PARTS && *is_small; i++) {
+    for (int i = 0; i < LENGTHS && *is_small; i++) {
         int64_t count = 0;
-        if (parts[i] && !read_whole(parts[i], &count)) {
+        *is_small = !parts[i] || !PyFloat_Check(parts[i]);
+        if (*is_small && parts[i] && !read_whole(parts[i], &count)) {
             return false;
         }
-        *is_small = -large < count && count < large;
-        seconds += *is_small ? count * units[i] : 0;
-    }
-    if (*is_small && parts[LONG_PARTS]) {
-        if (!read_whole(parts[LONG_PARTS], &nanoseconds)) {
-            return false;
-        }
-        *is_small = nanoseconds != INT64_MIN && nanoseconds != INT64_MAX;
+        /* (nanoseconds alone are often many) */
+        int64_t most = units[i].nanoseconds == 1 ? INT64_C(1) << 62 : large;
+        *is_small = *is_small && -most < count && count < most;
+        seconds += *is_small ? count * units[i].seconds : 0;
+        nanoseconds += *is_small ? count * units[i].nanoseconds : 0;
     }
     *length = length_from(seconds, nanoseconds);
     return !*is_small || is_length(*length);
@@ -141,16 +145,27 @@ static bool split_nanoseconds(PyObject *nanoseconds, calendar_duration *length)
     return is_read && is_length(*length);
 }
 
-/* The sum of parts of any size, by Python's own numbers. */
+/* The sum of parts of any size or with a fraction, by Python's own numbers. */
 static bool sum_of_large(PyObject *const *parts, calendar_duration *length)
 {
-    PyObject *sum = PyLong_FromLong(0);
-    for (int i = 0; i <= LONG_PARTS && sum; i++) {
-        if (parts[i]) {
-            sum = plus_product(sum, parts[i], i < LONG_PARTS ? units[i] * SECOND : 1);
+    PyObject *sum = PyLong_FromLong(0), *fractions = PyList_New(0);
+    bool is_read = sum && fractions;
+    for (int i = 0; i < LENGTHS && is_read; i++) {
+        int64_t unit = units[i].seconds * SECOND + units[i].nanoseconds;
+        if (parts[i] && PyFloat_Check(parts[i])) {
+            PyObject *pair = Py_BuildValue("(OL)", parts[i], (long long)unit);
+            is_read = pair && PyList_Append(fractions, pair) == 0;
+            Py_XDECREF(pair);
+        } else if (parts[i]) {
+            sum = plus_product(sum, parts[i], unit);
+            is_read = sum;
         }
     }
-    return split_nanoseconds(sum, length);
+    if (is_read && PyList_Size(fractions) > 0) {
+        sum = by_python("sum_of_fractions", "(NO)", sum, fractions);
+    }
+    Py_XDECREF(fractions);
+    return is_read ? split_nanoseconds(sum, length) : (Py_XDECREF(sum), false);
 }
 
 static PyObject *duration_new(PyTypeObject *kind, PyObject *arguments, PyObject *keywords)
@@ -190,14 +205,54 @@ static PyObject *duration_nanoseconds(PyObject *self, void *unused)
     return nanoseconds_of(length_of(self));
 }
 
+/* Nanoseconds as a Duration; they are let go, and may be missing after an error. */
+static PyObject *of_nanoseconds(PyObject *nanoseconds)
+{
+    calendar_duration length;
+    return nanoseconds && split_nanoseconds(nanoseconds, &length) ? duration_of(duration_type, length) : NULL;
+}
+
+/* ---- the parts of timedelta */
+
+/* The second of its day in which a length ends. */
+static int64_t second_of_day(calendar_duration length)
+{
+    return (length.seconds % DAY + DAY) % DAY;
+}
+
+static int64_t days_of(calendar_duration length)
+{
+    return (length.seconds - second_of_day(length)) / DAY;
+}
+
+static PyObject *duration_days(PyObject *self, void *unused)
+{
+    (void)unused;
+    return PyLong_FromLongLong(days_of(length_of(self)));
+}
+
+static PyObject *duration_seconds(PyObject *self, void *unused)
+{
+    (void)unused;
+    return PyLong_FromLongLong(second_of_day(length_of(self)));
+}
+
+static PyObject *duration_microseconds(PyObject *self, void *unused)
+{
+    (void)unused;
+    return PyLong_FromLong(length_of(self).nanos / MICROSECOND);
+}
+
+/* ---- texts */
+
 static PyObject *duration_repr(PyObject *self)
 {
-    PyObject *name = PyObject_GetAttrString((PyObject *)Py_TYPE(self), "__name__");
-    PyObject *count = nanoseconds_of(length_of(self));
-    PyObject *text = name && count ? PyUnicode_FromFormat("%U(nanoseconds=%S)", name, count) : NULL;
-    Py_XDECREF(name);
-    Py_XDECREF(count);
-    return text;
+    return by_python("repr_of_duration", "(O)", self);
+}
+
+static PyObject *duration_text(PyObject *self)
+{
+    return by_python("text_of_duration", "(O)", self);
 }
 
 /* ---- timedelta */
@@ -230,8 +285,7 @@ static PyObject *to_timedelta(PyObject *self, PyObject *unused)
     if (length.nanos % MICROSECOND != 0) {
         return PyErr_Format(PyExc_ValueError, "%R: timedelta has whole microseconds", self);
     }
-    int64_t of_day = (length.seconds % DAY + DAY) % DAY;
-    return python_timedelta((length.seconds - of_day) / DAY, (int32_t)of_day, (int32_t)(length.nanos / MICROSECOND));
+    return python_timedelta(days_of(length), (int32_t)second_of_day(length), (int32_t)(length.nanos / MICROSECOND));
 }
 
 /* ---- arithmetic, of which one side may be a timedelta */
@@ -265,6 +319,100 @@ static PyObject *duration_subtract(PyObject *left, PyObject *right)
     return sum_of(left, right, true);
 }
 
+/* A duration times a number, or divided by one as `how` says: whole numbers by Python's own, others rounded to a nanosecond. */
+static PyObject *scaled(PyObject *length, PyObject *number, const char *how)
+{
+    PyObject *nanoseconds = nanoseconds_of(length_of(length));
+    return of_nanoseconds(nanoseconds ? by_python(how, "(NO)", nanoseconds, number) : NULL);
+}
+
+static PyObject *duration_multiply(PyObject *left, PyObject *right)
+{
+    PyObject *length = is_duration(left) ? left : right, *factor = length == left ? right : left;
+    if (PyFloat_Check(factor)) {
+        return scaled(length, factor, "product");
+    }
+    if (!PyIndex_Check(factor)) {
+        Py_RETURN_NOTIMPLEMENTED;
+    }
+    PyObject *whole = PyNumber_Index(factor), *nanoseconds = whole ? nanoseconds_of(length_of(length)) : NULL;
+    PyObject *product = nanoseconds ? PyNumber_Multiply(nanoseconds, whole) : NULL;
+    Py_XDECREF(whole);
+    Py_XDECREF(nanoseconds);
+    return of_nanoseconds(product);
+}
+
+/* What a division of whole nanoseconds answers, where both sides are lengths; *is_one says whether they are. */
+static PyObject *ratio(PyObject *left, PyObject *right, binaryfunc divide, bool *is_one)
+{
+    calendar_duration lengths[2];
+    bool are_both[2];
+    if (!read_length(left, &lengths[0], &are_both[0]) || !read_length(right, &lengths[1], &are_both[1])) {
+        *is_one = true;
+        return NULL;
+    }
+    *is_one = are_both[0] && are_both[1];
+    PyObject *one = *is_one ? nanoseconds_of(lengths[0]) : NULL, *other = one ? nanoseconds_of(lengths[1]) : NULL;
+    PyObject *result = other ? divide(one, other) : NULL;
+    Py_XDECREF(one);
+    Py_XDECREF(other);
+    return result;
+}
+
+static PyObject *duration_divide(PyObject *left, PyObject *right)
+{
+    bool is_one;
+    PyObject *result = ratio(left, right, PyNumber_TrueDivide, &is_one);
+    if (is_one) {
+        return result;
+    }
+    if (is_duration(left) && (PyIndex_Check(right) || PyFloat_Check(right))) {
+        return scaled(left, right, "quotient");
+    }
+    Py_RETURN_NOTIMPLEMENTED;
+}
+
+static PyObject *duration_floor_divide(PyObject *left, PyObject *right)
+{
+    bool is_one;
+    PyObject *result = ratio(left, right, PyNumber_FloorDivide, &is_one);
+    if (is_one) {
+        return result;
+    }
+    if (!is_duration(left) || !PyIndex_Check(right)) {
+        Py_RETURN_NOTIMPLEMENTED;
+    }
+    PyObject *whole = PyNumber_Index(right), *nanoseconds = whole ? nanoseconds_of(length_of(left)) : NULL;
+    PyObject *quotient = nanoseconds ? PyNumber_FloorDivide(nanoseconds, whole) : NULL;
+    Py_XDECREF(whole);
+    Py_XDECREF(nanoseconds);
+    return of_nanoseconds(quotient);
+}
+
+static PyObject *duration_remainder(PyObject *left, PyObject *right)
+{
+    bool is_one;
+    PyObject *result = ratio(left, right, PyNumber_Remainder, &is_one);
+    if (is_one) {
+        return of_nanoseconds(result);
+    }
+    Py_RETURN_NOTIMPLEMENTED;
+}
+
+static PyObject *duration_divmod(PyObject *left, PyObject *right)
+{
+    bool is_one;
+    PyObject *quotient = ratio(left, right, PyNumber_FloorDivide, &is_one);
+    if (!is_one) {
+        Py_RETURN_NOTIMPLEMENTED;
+    }
+    PyObject *rest = quotient ? duration_remainder(left, right) : NULL;
+    PyObject *result = rest ? PyTuple_Pack(2, quotient, rest) : NULL;
+    Py_XDECREF(quotient);
+    Py_XDECREF(rest);
+    return result;
+}
+
 static PyObject *duration_negative(PyObject *self)
 {
     return duration_of(duration_type, back(length_of(self)));
@@ -287,19 +435,40 @@ static int duration_bool(PyObject *self)
 
 static PyObject *duration_compare(PyObject *left, PyObject *right, int order)
 {
-    if (!is_duration(right)) {
+    calendar_duration one = length_of(left), other;
+    bool is_one = is_duration(right);
+    if (is_one) {
+        other = length_of(right);
+    } else if (!read_length(right, &other, &is_one)) {
+        return NULL;
+    }
+    if (!is_one) {
         Py_RETURN_NOTIMPLEMENTED;
     }
-    calendar_duration one = length_of(left), other = length_of(right);
     if (one.seconds != other.seconds) {
         Py_RETURN_RICHCOMPARE(one.seconds, other.seconds, order);
     }
     Py_RETURN_RICHCOMPARE(one.nanos, other.nanos, order);
 }
 
+static Py_hash_t hash_of_length(calendar_duration length)
+{
+    if (length.nanos % MICROSECOND != 0) {
+        return hash_of_nanoseconds(length.seconds, length.nanos);
+    }
+    if (!has_timedelta(days_of(length))) {
+        return hash_of(length.seconds, length.nanos);
+    }
+    return hash_of_timedelta(days_of(length), (int32_t)second_of_day(length), (int32_t)(length.nanos / MICROSECOND));
+}
+
 static Py_hash_t duration_hash(PyObject *self)
 {
-    return hash_of(length_of(self).seconds, length_of(self).nanos);
+    Duration *of = (Duration *)self;
+    if (of->hash == -1) {
+        of->hash = hash_of_length(of->length);
+    }
+    return of->hash;
 }
 
 static PyObject *duration_reduce(PyObject *self, PyObject *unused)
@@ -322,6 +491,10 @@ static PyObject *from_nanoseconds(PyObject *kind, PyObject *count)
 
 static PyGetSetDef fields[] = {
     {"nanoseconds", duration_nanoseconds, NULL, "The whole length in nanoseconds.", NULL},
+    {"days", duration_days, NULL, "The whole days, rounded down, as timedelta has them.", NULL},
+    {"seconds", duration_seconds, NULL, "The whole seconds after the days, from 0 to 86,399, as timedelta has them.", NULL},
+    {"microseconds", duration_microseconds, NULL,
+     "The whole microseconds after the seconds, from 0 to 999,999, as timedelta has them.", NULL},
     {NULL, NULL, NULL, NULL, NULL},
 };
 
@@ -342,10 +515,14 @@ static PyMethodDef methods[] = {
 };
 
 PyDoc_STRVAR(documentation,
-"Duration(*, days=0, hours=0, minutes=0, seconds=0, nanoseconds=0)\n--\n\n"
+"Duration(days=0, seconds=0, microseconds=0, milliseconds=0, minutes=0, hours=0, weeks=0, *, nanoseconds=0)\n--\n\n"
 "A length of time in whole nanoseconds, forward or back, of at most 2^63 - 1 milliseconds.\n\n"
 ">>> Duration(days=1) + Duration(hours=1) == Duration(hours=25)\nTrue\n\n"
-"It is the sum of its parts. A day is 24 hours. Raises OverflowError if the sum is too long. The duration 0 is false.");
+"It is the sum of its parts. A day is 24 hours. A part that is a float counts as the exact number that it is, and the sum is\n"
+"rounded to a nanosecond, half to even. Raises OverflowError if the sum is too long. The duration 0 is false.\n\n"
+">>> Duration(hours=1) * 1.5, Duration(hours=1) / Duration(minutes=8), divmod(Duration(hours=1), Duration(minutes=25))\n"
+"(Duration(seconds=5400), 7.5, (2, Duration(seconds=600)))\n\n"
+"A Duration is equal to the datetime.timedelta of the same length, with the same hash.");
 
 static PyType_Slot slots[] = {
     {Py_tp_doc, (void *)documentation},
@@ -356,6 +533,12 @@ static PyType_Slot slots[] = {
     SLOT(Py_tp_richcompare, duration_compare),
     SLOT(Py_tp_hash, duration_hash),
     SLOT(Py_tp_repr, duration_repr),
+    SLOT(Py_tp_str, duration_text),
+    SLOT(Py_nb_multiply, duration_multiply),
+    SLOT(Py_nb_true_divide, duration_divide),
+    SLOT(Py_nb_floor_divide, duration_floor_divide),
+    SLOT(Py_nb_remainder, duration_remainder),
+    SLOT(Py_nb_divmod, duration_divmod),
     SLOT(Py_nb_add, duration_add),
     SLOT(Py_nb_subtract, duration_subtract),
     SLOT(Py_nb_negative, duration_negative),

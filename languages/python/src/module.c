@@ -50,6 +50,8 @@ static PyMethodDef functions[] = {
     {"days_until", METHOD(days_until), METH_FASTCALL,
      "days_until(weekdays, start, /)\n--\n\n"
      "Returns the days from start to the next of the weekdays, 0 to 6; ValueError if weekdays is empty."},
+    {"extend", METHOD(extend), METH_FASTCALL,
+     "extend(kind, name, member, /)\n--\n\nGives a type of this module a member that is written in Python."},
     {NULL, NULL, 0, NULL},
 };
 

@@ -1,6 +1,7 @@
 /* objects.c: how types are added, and objects pickled and formatted, whatever their type. */
 #include "package.h"
 
+#include <stdarg.h>
 #include <string.h>
 
 /* The names of a pattern, which are given with a space between, as a tuple. */
@@ -21,6 +22,38 @@ bool set_on_type(PyObject *type, const char *name, PyObject *value)
     Py_XDECREF(key);
     PyType_Modified((PyTypeObject *)type);
     return is_set;
+}
+
+PyObject *extend(PyObject *module, PyObject *const *arguments, Py_ssize_t count)
+{
+    (void)module;
+    if (!has_arguments("extend", 3, count)) {
+        return NULL;
+    }
+    PyTypeObject *type = (PyTypeObject *)arguments[0];
+    if (type != date_type && type != date_time_type && type != duration_type) {
+        return refuse_type("a type of this module", arguments[0]);
+    }
+    const char *name = PyUnicode_AsUTF8AndSize(arguments[1], NULL);
+    if (!name || !set_on_type(arguments[0], name, arguments[2])) {
+        return NULL;
+    }
+    Py_RETURN_NONE;
+}
+
+PyObject *by_python(const char *name, const char *format, ...)
+{
+    va_list values;
+    va_start(values, format);
+    PyObject *arguments = Py_VaBuildValue(format, values);
+    va_end(values);
+    PyObject *module = arguments ? PyImport_ImportModule("proved_calendar._texts") : NULL;
+    PyObject *function = module ? PyObject_GetAttrString(module, name) : NULL;
+    PyObject *result = function ? PyObject_Call(function, arguments, NULL) : NULL;
+    Py_XDECREF(function);
+    Py_XDECREF(module);
+    Py_XDECREF(arguments);
+    return result;
 }
 
 PyTypeObject *add_type(PyObject *module, PyType_Spec *spec, const char *name, const char *match_args)
@@ -79,18 +112,35 @@ PyObject *reduced(PyObject *self, PyObject *maker, PyObject *arguments)
     return result;
 }
 
-PyObject *formatted(PyObject *self, PyObject *width)
+/* Whether a format has a percent sign; -1 with an error if it is no text. */
+static int has_percent(PyObject *format)
 {
-    const char *text = PyUnicode_AsUTF8AndSize(width, NULL);
-    if (!text) {
+    if (!PyUnicode_Check(format)) {
+        PyObject *name = PyObject_GetAttrString((PyObject *)Py_TYPE(format), "__name__");
+        if (name) {
+            PyErr_Format(PyExc_TypeError, "a format must be str, not %U", name);
+            Py_DECREF(name);
+        }
+        return -1;
+    }
+    return PyUnicode_FindChar(format, '%', 0, PyUnicode_GetLength(format), 1) >= 0;
+}
+
+PyObject *formatted(PyObject *self, PyObject *format)
+{
+    int is_pattern = has_percent(format);
+    if (is_pattern < 0) {
         return NULL;
     }
-    if (strchr(text, '%')) {
-        PyErr_SetString(PyExc_ValueError, "there is no strftime here: a format is that of a text, such as '>12'");
+    if (is_pattern && is_duration(self)) {
+        PyErr_SetString(PyExc_ValueError, "a duration has no strftime: its format is that of a text, such as '>12'");
         return NULL;
+    }
+    if (is_pattern) {
+        return PyObject_CallMethod(self, "strftime", "(O)", format);
     }
     PyObject *shown = PyObject_Str(self);
-    PyObject *result = shown ? PyObject_Format(shown, width) : NULL;
+    PyObject *result = shown ? PyObject_Format(shown, format) : NULL;
     Py_XDECREF(shown);
     return result;
 }

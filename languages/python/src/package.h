@@ -17,25 +17,28 @@
 #define FROM_SLOT(kind, type, slot) (__extension__(kind)PyType_GetSlot(type, slot))
 #define METHOD(function) ((PyCFunction)(void (*)(void))(function))
 
-/* A date: its day number, from CALENDAR_MIN to CALENDAR_MAX, and what was asked of it before: its year, or CALENDAR_NONE, its
- * month and its day, or 0. */
+/* A date: its day number, from CALENDAR_MIN to CALENDAR_MAX, and what was asked of it before: its hash, or -1, its year, or
+ * CALENDAR_NONE, its month and its day, or 0. */
 typedef struct {
     PyObject_HEAD
+    Py_hash_t hash;
     int32_t number, year;
     uint8_t month, day;
 } Date;
 
-/* A date-time: the fields of one, and what was asked of it before: the number of its date and its second of the day, or
- * CALENDAR_NONE. */
+/* A date-time: the fields of one, and what was asked of it before: its hash, or -1, and the number of its date and its second of
+ * the day, or CALENDAR_NONE. */
 typedef struct {
     PyObject_HEAD
+    Py_hash_t hash;
     calendar_date_time moment;
     int32_t number, second;
 } DateTime;
 
-/* A duration: the fields of one. */
+/* A duration: the fields of one, and its hash, or -1 if it was not asked for. */
 typedef struct {
     PyObject_HEAD
+    Py_hash_t hash;
     calendar_duration length;
 } Duration;
 
@@ -115,6 +118,12 @@ PyTypeObject *add_type(PyObject *module, PyType_Spec *spec, const char *name, co
 
 bool set_on_type(PyObject *type, const char *name, PyObject *value);
 
+/* Gives a type of this module a member that is written in Python. */
+PyObject *extend(PyObject *module, PyObject *const *arguments, Py_ssize_t count);
+
+/* What a function of the module proved_calendar._texts returns, which is written in Python; the arguments as Py_BuildValue has them. */
+PyObject *by_python(const char *name, const char *format, ...);
+
 /* The hash of an object that has two fields. */
 static inline Py_hash_t hash_of(int64_t seconds, uint32_t nanos)
 {
@@ -126,8 +135,8 @@ static inline Py_hash_t hash_of(int64_t seconds, uint32_t nanos)
 /* What pickle keeps of an object: how it is made again, and the attributes that a user's class gave it. Takes both references. */
 PyObject *reduced(PyObject *self, PyObject *maker, PyObject *arguments);
 
-/* The text of an object in a width, as `format` has it for texts. */
-PyObject *formatted(PyObject *self, PyObject *width);
+/* The text of an object in a width, as `format` has it for texts; or by its strftime, if the format has a percent sign. */
+PyObject *formatted(PyObject *self, PyObject *format);
 
 /* ---- numbers and arguments (arguments.c) */
 
@@ -231,6 +240,18 @@ bool read_timedelta(PyObject *it, int64_t *days, int64_t *seconds, int64_t *nano
  * its microseconds that a class derived from it keeps, as pandas' does. */
 bool read_python_date(PyObject *it, int32_t *number);
 bool read_python_datetime(PyObject *it, int32_t *number, int64_t clock[4]);
+
+/* The hashes of datetime's values with these parts, which stand for each other as keys. */
+Py_hash_t hash_of_python_date(int32_t number);
+Py_hash_t hash_of_python_datetime(int32_t number, const int64_t clock[4]);
+Py_hash_t hash_of_timedelta(int64_t days, int32_t seconds, int32_t microseconds);
+
+/* The hash of a value with a fraction of a microsecond, as pandas has it where its whole nanoseconds have 64 bits. */
+Py_hash_t hash_of_nanoseconds(int64_t seconds, uint32_t nanos);
+
+/* Whether datetime has a date of this number, or a timedelta of these days. */
+bool has_python_date(int32_t number);
+bool has_timedelta(int64_t days);
 
 /* The types of datetime from what they are made of. */
 PyObject *python_date(int32_t number);

@@ -65,9 +65,9 @@ class Names(Answers):
         for name, number in {
             (2024, 60): 738945, (2024, 366): 739251, (2023, 365): 738885, (-262143, 1): -95746129, (262142, 365): 95745399,
         }.items():
-            self.assertEqual(Date.from_ordinal(*name).number, number)
+            self.assertEqual(Date.from_day_of_year(*name).number, number)
         for name in [(2023, 366), (2024, 367), (2024, 0), (2024, -1), (262143, 1), (2024, 2**32 + 60), (2**32 + 2024, 60)]:
-            self.none(Date.from_ordinal, *name)
+            self.none(Date.from_day_of_year, *name)
 
     def test_from_isoywd(self):
         for name, number in {
@@ -254,7 +254,7 @@ class Texts(Answers):
         "", "2024", "2024-02-2", "2024-02-290", " 2024-02-29", "2024-02-29 ", "2024-2-29", "2024-02-30", "2023-02-29",
         "2024/02/29", "2024-02-2:", "24-02-29", "+2024-02-29", "-0000-01-01", "02024-02-29", "10000-01-01", "+262143-01-01",
         "-262144-12-31",
-        "-4294965272-02-29", "2024-13-29", "20240229", "2024-060", "2024-W09-4", "2024-02-29\0", "٢٠٢٤-02-29", "\ud800",
+        "-4294965272-02-29", "2024-13-29", "20240230", "2024-060", "2024-W54-4", "2024-W09-8", "2024-02-29\0", "٢٠٢٤-02-29", "\ud800",
         "2024-02-29\udc80",
     ]
     MOMENTS = {
@@ -264,7 +264,7 @@ class Texts(Answers):
         (8210266876799, 999_999_999): "+262142-12-31T23:59:59.999999999",
     }
     NO_MOMENTS = [
-        "", "2024-02-29", "2024-02-29T", "2024-02-29T12:00", "2024-02-29t12:00:00", "2024-02-29T24:00:00", "2024-02-29T12:60:00",
+        "", "2024-02-29T", "2024-02-29T1", "2024-02-29012:00:00", "2024-02-29T24:00:00", "2024-02-29T12:60:00",
         "2024-02-29T12:00:61", "2024-02-29T12:00:00.", "2024-02-29T12:00:00.1234567890", "2024-02-29T12:00:00Z",
         "2024-02-30T12:00:00", "2024-02-29T12:00:00\0", "+262143-01-01T00:00:00", "2024-02-29T12:00:00\udc80",
     ]
@@ -373,7 +373,7 @@ class Python(Answers):
     def test_order_and_hash(self):
         dates = [LAST, Date(0, 12, 31), LEAP_DAY, FIRST, Date(1, 1, 1)]
         self.assertEqual(sorted(dates), [FIRST, Date(0, 12, 31), Date(1, 1, 1), LEAP_DAY, LAST])
-        self.assertEqual(len({LEAP_DAY, Date.from_ordinal(2024, 60), Date.from_iso_week(2024, 9, THU)}), 1)
+        self.assertEqual(len({LEAP_DAY, Date.from_day_of_year(2024, 60), Date.from_iso_week(2024, 9, THU)}), 1)
         self.assertNotEqual(LEAP_DAY, 738945)
         self.assertLess(DateTime(LEAP_DAY, 23, 59, 60), DateTime(LEAP_DAY + 1))
         self.assertLess(DateTime(LEAP_DAY, 23, 59, 59, 999_999_999), DateTime(LEAP_DAY, 23, 59, 60))
@@ -405,7 +405,7 @@ class Python(Answers):
             self.assertRaises(TypeError, call)
         for part in ("days", "hours", "minutes", "seconds", "nanoseconds"):
             # (a text or a list times the nanoseconds of a part would take a gigabyte, or more than there is)
-            for value in ("1", [0], 1.0, None):
+            for value in ("1", [0], 1j, None):
                 with self.assertRaises(TypeError, msg=(part, value)):
                     Duration(**{part: value})
 

@@ -33,7 +33,7 @@ def names(date):
 def is_found(wanted):
     """Whether each of the names is that of the date with the number."""
     number, year, month, day, ordinal, week, text = wanted
-    found = Date(year, month, day), Date.from_ordinal(year, ordinal), Date.from_iso_week(*week), Date.fromisoformat(text)
+    found = Date(year, month, day), Date.from_day_of_year(year, ordinal), Date.from_iso_week(*week), Date.fromisoformat(text)
     return all(it.number == number for it in found)
 
 
@@ -156,7 +156,7 @@ class Samples(unittest.TestCase):
             month, day, weekday = (self.chance.randint(0, it) for it in (13, 32, 8))
             ordinal, week, n = (self.chance.randint(0, it) for it in (367, 54, 6))
             self.assertEqual(answer(Date, year, month, day), counted.day_of(year, month, day))
-            self.assertEqual(answer(Date.from_ordinal, year, ordinal), counted.day_in_year(year, ordinal))
+            self.assertEqual(answer(Date.from_day_of_year, year, ordinal), counted.day_in_year(year, ordinal))
             of_week = counted.day_of_week_date(year, week, weekday) if 1 <= weekday <= 7 else None
             self.assertEqual(answer(Date.from_iso_week, year, week, weekday), of_week)
             of_month = counted.day_of_month(year, month, weekday, n) if 1 <= weekday <= 7 else None

@@ -23,7 +23,7 @@ except ImportError:
     pandas = None
 
 import proved_calendar
-from proved_calendar import Date, DateTime, Duration, IsoCalendarDate, Weekday, days_in_month, days_until, is_leap_year
+from proved_calendar import Date, DateTime, Duration, IsoCalendarDate, Time, Weekday, days_in_month, days_until, is_leap_year
 
 LEAP_DAY, THEIR_LEAP_DAY = Date(2024, 2, 29), datetime.date(2024, 2, 29)
 NOON = DateTime(LEAP_DAY, 12, 30, 15, 250_000_000)
@@ -62,8 +62,9 @@ class Making(unittest.TestCase):
         for call in [
             lambda: Date(), lambda: Date(2024), lambda: Date(2024, 2), lambda: Date(2024, 2, 29, 1), lambda: Date(2024, 2, days=29),
             lambda: Date(2024, 2, 29, day=29), lambda: Date(2024, 2, day=None), lambda: DateTime(), lambda: DateTime(hour=1),
-            lambda: DateTime(LEAP_DAY, 1, 2, 3, 4, 5), lambda: DateTime(LEAP_DAY, hours=1), lambda: DateTime(2024, 2, 29),
-            lambda: Duration(1), lambda: Duration(weeks=1), lambda: Date.from_ordinal(2024), lambda: Date.from_ordinal(2024, 60, 1),
+            lambda: DateTime(LEAP_DAY, 1, 2, 3, 4, 5), lambda: DateTime(LEAP_DAY, hours=1), lambda: DateTime(2024, 2),
+            lambda: Duration(1, 2, 3, 4, 5, 6, 7, 8), lambda: Duration(years=1), lambda: Duration("1"), lambda: DateTime(2024, 2, 29.0),
+            lambda: DateTime(LEAP_DAY, microsecond=1, nanosecond=1), lambda: DateTime(year=2024, date=LEAP_DAY), lambda: Date.from_day_of_year(2024), lambda: Date.from_day_of_year(2024, 60, 1),
             lambda: Date.from_iso_week(2024, 9), lambda: Date.from_weekday_of_month(2024, 2, 4), lambda: Date.fromordinal("1"),
             lambda: LEAP_DAY.replace(weekday=1), lambda: LEAP_DAY.replace(2024, 2, 29, 1), lambda: LEAP_DAY.replace(2024, year=1),
             lambda: LEAP_DAY.every_months(1), lambda: days_in_month(2024), lambda: days_until([1]), lambda: days_until(1, 1),
@@ -73,11 +74,17 @@ class Making(unittest.TestCase):
             self.assertRaises(TypeError, call)
 
     def test_frozen(self):
-        for value in (LEAP_DAY, NOON, HOUR):
+        for value in (LEAP_DAY, NOON, HOUR, Time(12)):
             for name in [*(it for it in dir(value) if not it.startswith("_")), "other"]:
                 if not callable(getattr(value, name, None)):
                     self.assertRaises(AttributeError, setattr, value, name, 1)
                     self.assertRaises(AttributeError, delattr, value, name)
+
+    def test_extend(self):
+        """Only the types of the module get members from its Python, and those are not changed from outside."""
+        for wrong in (int, 1, Weekday, Day):
+            self.assertRaises(TypeError, proved_calendar._calendar.extend, wrong, "other", 1)
+        self.assertRaises(TypeError, setattr, Date, "today", None)
 
     def test_version_and_names(self):
         self.assertRegex(proved_calendar.__version__, r"^\d+\.\d+\.\d+$")
@@ -85,7 +92,10 @@ class Making(unittest.TestCase):
             self.assertTrue(hasattr(proved_calendar, name))
         for kind in (Date, DateTime, Duration, Weekday, IsoCalendarDate):
             self.assertTrue(kind.__doc__)
-        self.assertFalse(hasattr(Date, "strftime") or hasattr(DateTime, "strftime"))
+        for kind in (Date, DateTime, Duration, Time):
+            for name in dir(kind):
+                if not name.startswith("_") and name not in ("MIN", "MAX", "min", "max", "resolution"):
+                    self.assertTrue(getattr(kind, name).__doc__, (kind, name))
 
 
 class Subclasses(unittest.TestCase):
@@ -94,7 +104,7 @@ class Subclasses(unittest.TestCase):
         for made in [
             day + 1, 1 + day, day - 1, day + Duration(), day + timedelta(1),
             day.replace(day=1), day.add_months(1), day.every_months(1, 2), day.every_months(0, 0), day.week_first_day(),
-            day.first_on([1]), Day.fromordinal(1), Day.from_number(1), Day.from_ordinal(2024, 60), Day.from_iso_week(2024, 9, 4),
+            day.first_on([1]), Day.fromordinal(1), Day.from_number(1), Day.from_day_of_year(2024, 60), Day.from_iso_week(2024, 9, 4),
             Day.from_weekday_of_month(2024, 2, 4, 5), Day.fromisoformat("2024-02-29"), Day.from_date(THEIR_LEAP_DAY),
             copy.copy(day), copy.deepcopy(day), pickle.loads(pickle.dumps(day)),
         ]:
@@ -128,7 +138,7 @@ class Subclasses(unittest.TestCase):
         self.assertEqual(LEAP_DAY - day, 0)
         self.assertEqual(repr(day), "Day(2024, 2, 29)")
         self.assertEqual(repr(Moment(LEAP_DAY)), "Moment.fromisoformat('2024-02-29T00:00:00')")
-        self.assertEqual(repr(Span(seconds=1)), "Span(nanoseconds=1000000000)")
+        self.assertEqual(repr(Span(seconds=1)), "Span(seconds=1)")
         self.assertEqual(DateTime(day).date, LEAP_DAY)
         self.assertIsInstance(Bare(2024, 2, 29) + 1, Bare)
         self.assertRaises(AttributeError, setattr, Bare(2024, 2, 29), "note", 1)
@@ -155,12 +165,17 @@ class Subclasses(unittest.TestCase):
 
 class Keeping(unittest.TestCase):
     def test_pickle(self):
-        values = [LEAP_DAY, Date.MIN, Date.MAX, NOON, LEAP_SECOND, HOUR, -HOUR, LONGEST, -LONGEST, Duration(), Weekday.FRIDAY]
+        values = [
+            LEAP_DAY, Date.MIN, Date.MAX, NOON, LEAP_SECOND, HOUR, -HOUR, LONGEST, -LONGEST, Duration(), Weekday.FRIDAY, Time.min, Time.max,
+            Time(12, 30, 15, 250_000), Time(23, 59, 60),
+        ]
         for value in values:
             for protocol in range(pickle.HIGHEST_PROTOCOL + 1):
                 self.assertEqual(pickle.loads(pickle.dumps(value, protocol)), value)
             self.assertEqual(copy.copy(value), value)
             self.assertEqual(copy.deepcopy([value]), [value])
+            self.assertEqual(eval(repr(value)) if value is not Weekday.FRIDAY else value, value)
+            self.assertEqual(hash(copy.deepcopy(value)), hash(value))
         for protocol in range(2, pickle.HIGHEST_PROTOCOL + 1):
             week = pickle.loads(pickle.dumps(LEAP_DAY.isocalendar(), protocol))
             self.assertEqual((week, type(week)), (LEAP_DAY.isocalendar(), IsoCalendarDate))
@@ -168,7 +183,7 @@ class Keeping(unittest.TestCase):
 
     def test_hash(self):
         numbers = (*range(-1_000, 1_000), 738_945, -95_746_129, 95_745_399)
-        self.assertEqual(len({hash(Date.from_number(it)) for it in numbers}), len(numbers) - 1)
+        self.assertGreater(len({hash(Date.from_number(it)) for it in numbers}), len(numbers) - 2)
         moments = [DateTime.from_seconds(seconds, nanos) for seconds in range(-100, 100) for nanos in range(100)]
         self.assertGreater(len({hash(it) for it in moments}), 19_900)
         self.assertEqual({LEAP_DAY: 1, NOON: 2, HOUR: 3}[DateTime(LEAP_DAY, 12, 30, 15, 250_000_000)], 2)
@@ -192,7 +207,7 @@ class Keeping(unittest.TestCase):
             made = [
                 Date(2024, 2, day=29), LEAP_DAY + 400, LEAP_DAY - 400, LEAP_DAY - timedelta(400), LEAP_DAY + Duration(days=1),
                 LEAP_DAY - Date(1, 1, 1), LEAP_DAY.isocalendar(), LEAP_DAY.isoformat(), LEAP_DAY.replace(year=2000), repr(LEAP_DAY),
-                f"{LEAP_DAY:>20}", Date.fromisoformat("2024-02-29"), Date.fromordinal(1), Date.from_ordinal(2024, 60),
+                f"{LEAP_DAY:>20}", Date.fromisoformat("2024-02-29"), Date.fromordinal(1), Date.from_day_of_year(2024, 60),
                 Date.from_iso_week(2024, 9, 4), LEAP_DAY.first_on([1, 7]), LEAP_DAY.week_first_day(3), LEAP_DAY.to_date(),
                 Date.from_date(THEIR_LEAP_DAY), pickle.loads(pickle.dumps(LEAP_DAY)), LEAP_DAY.isoweekday(), LEAP_DAY.year,
                 DateTime(LEAP_DAY, second=5), NOON + HOUR, NOON - HOUR, NOON + timedelta(1), NOON - LEAP_SECOND, NOON.date, NOON.year,
@@ -200,6 +215,11 @@ class Keeping(unittest.TestCase):
                 DateTime.from_datetime(THEIR_NOON), pickle.loads(pickle.dumps(NOON)), NOON.seconds, NOON.isocalendar(),
                 Duration(days=10**30, hours=-24 * 10**30), LONGEST.nanoseconds, -LONGEST, HOUR + timedelta(1), timedelta(1) - HOUR,
                 HOUR.to_timedelta(), Duration.from_timedelta(timedelta(1)), repr(HOUR), abs(-HOUR), pickle.loads(pickle.dumps(HOUR)),
+                DateTime(2024, 2, 29, 12, microsecond=5), NOON.isoformat(" ", "minutes"), NOON.add_months(1), Date.fromisoformat("20240229"),
+                DateTime.fromisoformat("2024-W09-4 12"), Duration(1.5, hours=2), HOUR * 2, 2.5 * HOUR, HOUR / 3, HOUR / HOUR, HOUR // 7,
+                divmod(HOUR, Duration(7)), HOUR % timedelta(7), str(HOUR), HOUR.days, LEAP_DAY == THEIR_LEAP_DAY, NOON < THEIR_NOON,
+                HOUR == timedelta(hours=1), hash(LEAP_DAY), hash(Date.MIN), hash(HOUR), hash(LONGEST), hash(NOON.replace(nanosecond=1)),
+                f"{NOON:%H}", Date.fromisocalendar(2024, 9, 4), Time(12, 30) == Time.fromisoformat("12:30"), hash(Time(12)),
                 days_in_month(2024, 2), days_until([1, 5], 3), is_leap_year(2024), LEAP_DAY == NOON, LEAP_DAY < LEAP_DAY, hash(NOON),
                 day + 1, day.replace(day=1), copy.copy(day), Day.fromordinal(1), pickle.loads(pickle.dumps(Span(seconds=1))),
                 Moment.fromisoformat(str(NOON)) + HOUR,
@@ -227,6 +247,17 @@ class Keeping(unittest.TestCase):
             failing(Duration, days=10**30, hours=None)
             failing(Duration, days="1")
             failing(lambda: LONGEST + HOUR)
+            failing(lambda: LONGEST * 2)
+            failing(lambda: HOUR * float("nan"))
+            failing(lambda: HOUR * "1")
+            failing(Duration, 1.5, hours="1")
+            failing(Duration, float("nan"), hours=1)
+            failing(NOON.isoformat, "ab")
+            failing(NOON.isoformat, timespec="days")
+            failing(NOON.add_months, 10**9)
+            failing(DateTime, 2024, 2, 29, microsecond=1, nanosecond=1)
+            failing(Date.fromisoformat, "20240230")
+            failing(DateTime.fromisoformat, "2024-02-29T12Z")
             return made
 
         kinds = (Date, DateTime, Duration, IsoCalendarDate, Day, Span, Moment, timedelta, Weekday.MONDAY)
@@ -282,12 +313,15 @@ class Moves(unittest.TestCase):
         for name, value in parts.items():
             self.assertEqual(LEAP_DAY.replace(**{name: value}).isoformat(), THEIR_LEAP_DAY.replace(**{name: value}).isoformat())
         self.assertEqual(LEAP_DAY.replace(2020, 3, 7), Date(2020, 3, 7))
-        for call, count in ((Date.replace, 3), (DateTime.replace, 7)):
+        for call, count in ((Date.replace, 3), (DateTime.replace, 8), (Time.replace, 5)):
             _, *taken = inspect.signature(call).parameters.values()
             self.assertEqual([it.default for it in taken], [...] * count)
         self.assertRaises(TypeError, lambda: LEAP_DAY.replace(day=None))
         self.assertEqual(LEAP_DAY.replace(), LEAP_DAY)
-        self.assertEqual(NOON.replace(2020, 3, 7, 1, 2, 3, 4), DateTime(Date(2020, 3, 7), 1, 2, 3, 4))
+        self.assertEqual(NOON.replace(2020, 3, 7, 1, 2, 3, nanosecond=4), DateTime(Date(2020, 3, 7), 1, 2, 3, 4))
+        self.assertEqual(NOON.replace(microsecond=5), DateTime(LEAP_DAY, 12, 30, 15, 5_000))
+        self.assertRaises(TypeError, lambda: NOON.replace(2020, 3, 7, 1, 2, 3, 4))
+        self.assertRaises(TypeError, lambda: NOON.replace(microsecond=1, nanosecond=1_000))
         for name, value in {**parts, "hour": 1, "minute": 2, "second": 3}.items():
             self.assertEqual(NOON.replace(**{name: value}).to_datetime(), THEIR_NOON.replace(**{name: value}))
         self.assertEqual(NOON.replace(nanosecond=1).nanosecond, 1)
@@ -340,11 +374,13 @@ class Names(unittest.TestCase):
         for width in ("", "20", ">20", "^20", "*<20", "s", ".4"):
             self.assertEqual(format(LEAP_DAY, width), format("2024-02-29", width))
             self.assertEqual(format(NOON, width), format("2024-02-29T12:30:15.250", width))
-            self.assertEqual(format(HOUR, width), format("Duration(nanoseconds=3600000000000)", width))
-        for value in (LEAP_DAY, NOON, HOUR):
+            self.assertEqual(format(HOUR, width), format("1:00:00", width))
+            self.assertEqual(format(Time(12, 30), width), format("12:30:00", width))
+        for value in (LEAP_DAY, NOON, HOUR, Time(12)):
             self.assertRaises(ValueError, format, value, "d")
             self.assertRaises(TypeError, value.__format__, 1)
-            self.assertRaisesRegex(ValueError, "strftime", format, value, "%Y")
+        self.assertRaisesRegex(ValueError, "strftime", format, HOUR, "%H")
+        self.assertEqual((f"{LEAP_DAY:%Y}", f"{NOON:at %H:%M}", f"{Time(12, 30):%M}"), ("2024", "at 12:30", "30"))
 
     def test_patterns(self):
         self.assertEqual(Date.__match_args__, ("year", "month", "day"))
@@ -448,9 +484,9 @@ class Refusals(unittest.TestCase):
             lambda: Date(2024, 13, 1): "month 13 of 2024: months are 1 to 12",
             lambda: Date(262_143, 1, 1): "year 262143: the calendar has those from -262143 to 262142",
             lambda: Date(-262_144, 1, 1): "year -262144: the calendar has those from -262143 to 262142",
-            lambda: Date.from_ordinal(2023, 366): "day 366 of 2023: the year has 365 days",
-            lambda: Date.from_ordinal(2024, 367): "day 367 of 2024: the year has 366 days",
-            lambda: Date.from_ordinal(262_143, 1): "year 262143: the calendar has those from -262143 to 262142",
+            lambda: Date.from_day_of_year(2023, 366): "day 366 of 2023: the year has 365 days",
+            lambda: Date.from_day_of_year(2024, 367): "day 367 of 2024: the year has 366 days",
+            lambda: Date.from_day_of_year(262_143, 1): "year 262143: the calendar has those from -262143 to 262142",
             lambda: Date.from_iso_week(2024, 53, 1): "week 53 of ISO year 2024: the year has 52 weeks",
             lambda: Date.from_iso_week(2020, 54, 1): "week 54 of ISO year 2020: the year has 53 weeks",
             lambda: Date.from_iso_week(2024, 9, 8): "weekday 8: weekdays are 1 for Monday to 7 for Sunday",
@@ -472,14 +508,31 @@ class Refusals(unittest.TestCase):
             lambda: DateTime.fromisoformat("2024-02-29 23:60:00.5"): "minute 60: minutes are 0 to 59",
             lambda: DateTime.fromisoformat("2024-02-29T00:00:61"): "second 61: seconds are 0 to 59, and 60 in a leap second",
             lambda: DateTime.fromisoformat("2024-02-30T24:00:00"): "day 30 of 2024-02: the month has 29 days",
-            lambda: DateTime.fromisoformat("2024-02-29T24:00"): "'2024-02-29T24:00' is no text of a date-time",
+            lambda: DateTime.fromisoformat("2024-02-29T24:00"): "hour 24: hours are 0 to 23",
+            lambda: DateTime.fromisoformat("2024-W0912"): "'2024-W0912' is no text of a date-time",
+            lambda: DateTime.fromisoformat("2024-W54-1T12"): "week 54 of ISO year 2024: the year has 52 weeks",
+            lambda: DateTime.fromisoformat("20240230"): "day 30 of 2024-02: the month has 29 days",
+            lambda: DateTime.fromisoformat("2024-02-29T12:00+01:00"): "'2024-02-29T12:00+01:00' has an offset, and a DateTime has no time zone",
+            lambda: Time.fromisoformat("12:00Z"): "'12:00Z' has an offset, and a Time has no time zone",
+            lambda: Time.fromisoformat("12:60"): "minute 60: minutes are 0 to 59",
+            lambda: Time.fromisoformat("12h"): "'12h' is no text of a time of day",
+            lambda: Duration.fromisoformat("P1Y"): "'P1Y' is no text of a duration",
+            lambda: NOON.isoformat(timespec="days"):
+                "timespec 'days': it is auto, hours, minutes, seconds, milliseconds, microseconds or nanoseconds",
+            lambda: Date.fromisoformat("2024W541"): "week 54 of ISO year 2024: the year has 52 weeks",
+            lambda: Date.fromisoformat("20240230"): "day 30 of 2024-02: the month has 29 days",
             lambda: DateTime.fromisoformat("2024-02-29T24:00:00."): "'2024-02-29T24:00:00.' is no text of a date-time",
             lambda: DateTime.fromisoformat("2024-02-29T24:00:00.1234567890"): "'2024-02-29T24:00:00.1234567890' is no text of a date-time",
-            lambda: DateTime.fromisoformat("2024-02-29T24:00:00Z"): "'2024-02-29T24:00:00Z' is no text of a date-time",
+            lambda: DateTime.fromisoformat("2024-02-29T24:00:00Z"):
+                "'2024-02-29T24:00:00Z' has an offset, and a DateTime has no time zone",
             lambda: DateTime(LEAP_DAY, 24): "hour 24: hours are 0 to 23",
             lambda: DateTime(LEAP_DAY, 0, -1): "minute -1: minutes are 0 to 59",
             lambda: DateTime(LEAP_DAY, 0, 0, 61): "second 61: seconds are 0 to 59, and 60 in a leap second",
             lambda: DateTime(LEAP_DAY, 0, 0, 0, 10**9): "nanosecond 1000000000: nanoseconds are 0 to 999999999",
+            lambda: DateTime(2024, 2, 29, 0, 0, 0, 10**6): "microsecond 1000000: microseconds are 0 to 999999",
+            lambda: DateTime(2024, 2, 29, microsecond=-1): "microsecond -1: microseconds are 0 to 999999",
+            lambda: DateTime(2024, 2, 30): "day 30 of 2024-02: the month has 29 days",
+            lambda: Time(24): "hour 24: hours are 0 to 23",
             lambda: NOON.replace(month=13): "month 13 of 2024: months are 1 to 12",
             lambda: NOON.replace(hour=25): "hour 25: hours are 0 to 23",
             lambda: days_in_month(2024, 13): "month 13 of 2024: months are 1 to 12",
@@ -497,10 +550,14 @@ class Refusals(unittest.TestCase):
             lambda: Date(2024, 2, 29, 1): "Date takes at most 3 arguments by place, not 4",
             lambda: Date(2024, 2, 29, day=1): "Date is given day twice",
             lambda: LEAP_DAY.replace(hour=1): "replace has no parameter 'hour'",
-            lambda: DateTime("2024-02-29"): "a Date, as in DateTime(Date(2024, 2, 29), 12), is wanted, not str",
-            lambda: DateTime(2024, 2, 29): "a Date, as in DateTime(Date(2024, 2, 29), 12), is wanted, not int",
-            lambda: DateTime(2024, 2, 29, 12, 30, 15, 0): "a Date, as in DateTime(Date(2024, 2, 29), 12), is wanted, not int",
-            lambda: DateTime(date=THEIR_LEAP_DAY): "a Date, as in DateTime(Date(2024, 2, 29), 12), is wanted, not date",
+            lambda: DateTime("2024-02-29"): "a Date, as in DateTime(Date(2024, 2, 29), 12), or a year is wanted, not str",
+            lambda: DateTime(THEIR_LEAP_DAY): "a Date, as in DateTime(Date(2024, 2, 29), 12), or a year is wanted, not date",
+            lambda: DateTime(date=2024): "a Date, as in DateTime(Date(2024, 2, 29), 12), or a year is wanted, not int",
+            lambda: DateTime(2024, 2): "DateTime needs day",
+            lambda: DateTime(): "DateTime needs date",
+            lambda: DateTime.combine(LEAP_DAY, 12): "a Time is wanted, not int",
+            lambda: DateTime.combine(THEIR_LEAP_DAY, Time()): "a Date is wanted, not date",
+            lambda: NOON.replace(microsecond=1, nanosecond=1): "the fraction is given twice: nanosecond is the whole fraction, and microsecond too",
             lambda: Date.fromisoformat(b"2024-02-29"): "a str is wanted, not bytes",
             lambda: Date(2024, 2, 1.5): "'float' object cannot be interpreted as an integer",
             lambda: LEAP_DAY.years_since(NOON): "a Date is wanted, not DateTime",
@@ -529,7 +586,12 @@ class Refusals(unittest.TestCase):
             self.assertRaises(KeyError, call)
 
     def test_comparisons(self):
-        for left, right in [(LEAP_DAY, THEIR_LEAP_DAY), (LEAP_DAY, NOON), (NOON, THEIR_NOON), (HOUR, timedelta(hours=1)), (HOUR, 1)]:
+        aware = THEIR_NOON.replace(tzinfo=datetime.timezone.utc)
+        for left, right in [
+            (LEAP_DAY, THEIR_NOON), (LEAP_DAY, NOON), (NOON, THEIR_LEAP_DAY), (NOON, aware), (HOUR, 1), (LEAP_DAY, 738_945),
+            (Time(12), NOON), (Time(12), aware.timetz()), (Time(12), 12), (LEAP_DAY, "2024-02-29"), (HOUR, NOON),
+        ]:
+            self.assertNotEqual(right, left)
             self.assertNotEqual(left, right)
             for compare in (lambda: left < right, lambda: left <= right, lambda: left > right, lambda: left >= right):
                 self.assertRaises(TypeError, compare)

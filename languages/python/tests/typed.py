@@ -1,7 +1,7 @@
 """A program that uses every kind of call, for `mypy --strict`: each name has the type that the call is to have."""
 import datetime
 
-from proved_calendar import Date, DateTime, Duration, Weekday, days_in_month, days_until, is_leap_year
+from proved_calendar import Date, DateTime, Duration, Time, Weekday, days_in_month, days_until, is_leap_year
 
 
 class Day(Date):
@@ -26,6 +26,16 @@ longer: Duration = datetime.timedelta(1) + abs(-length) - datetime.timedelta(2)
 is_long: bool = bool(longer) and longer > length
 standard: datetime.datetime = DateTime.from_datetime(datetime.datetime(2024, 2, 29)).to_datetime()
 delta: datetime.timedelta = Duration.from_timedelta(datetime.timedelta(1)).to_timedelta()
+
+noon: DateTime = DateTime(2024, 2, 29, 12, microsecond=5).add_months(1)
+clock: Time = DateTime.combine(day, Time(12, 30)).time.replace(hour=1, nanosecond=7)
+now: DateTime = DateTime.now()
+half: Duration = longer / 2 + 1.5 * Duration(1, hours=2.5) - Duration.fromisoformat("PT1H")
+share: float = half / datetime.timedelta(1) + half.total_seconds()
+count: int = half // Duration(seconds=1) + divmod(half, Duration(1))[0] + half.days
+is_same: bool = day == theirs and day < datetime.date.max and noon <= standard and half > delta
+shown: str = noon.isoformat(" ", "minutes") + f"{day:%d/%m/%Y}" + noon.strftime("%H") + half.isoformat() + clock.isoformat("seconds")
+ends: list[DateTime] = [DateTime.min, DateTime.max, DateTime.min + DateTime.resolution]
 
 days: int = days_in_month(2024, 2) + days_until({1, 2}, Weekday.FRIDAY) + is_leap_year(2024)
 text: str = f"{day:>12} {moment}" + day.isoformat()

@@ -31,6 +31,15 @@ pub(crate) struct Span {
     pub(crate) nanos: u32,
 }
 
+/// `calendar_ymd`.
+#[repr(C)]
+#[derive(Clone, Copy, Debug, PartialEq, Eq, PartialOrd, Ord, Hash)]
+pub(crate) struct Ymd {
+    pub(crate) year: i32,
+    pub(crate) month: u8,
+    pub(crate) day: u8,
+}
+
 // A function is safe if it takes no pointer: it answers for all arguments of its types. Of one that takes a pointer, so
 // many bytes have to lie there as the next argument says.
 unsafe extern "C" {
@@ -68,4 +77,129 @@ unsafe extern "C" {
     pub(crate) safe fn calendar_date_time_since(moment: Moment, base: Moment) -> Span;
     pub(crate) fn calendar_write_date_time(moment: Moment, text: *mut u8, room: usize) -> i32;
     pub(crate) fn calendar_read_date_time(text: *const u8, length: usize) -> Moment;
+    pub(crate) safe fn calendar_split(date: i32) -> Ymd;
+    pub(crate) fn calendar_column_weekdays(
+        dates: *const i32,
+        dates_length: usize,
+        weekdays: *mut u8,
+        weekdays_length: usize,
+    ) -> bool;
+    pub(crate) fn calendar_column_years(
+        dates: *const i32,
+        dates_length: usize,
+        years: *mut i32,
+        years_length: usize,
+    ) -> bool;
+    pub(crate) fn calendar_column_ordinals(
+        dates: *const i32,
+        dates_length: usize,
+        ordinals: *mut u16,
+        ordinals_length: usize,
+    ) -> bool;
+    pub(crate) fn calendar_column_split(
+        dates: *const i32,
+        dates_length: usize,
+        years: *mut i32,
+        years_length: usize,
+        months: *mut u8,
+        months_length: usize,
+        days: *mut u8,
+        days_length: usize,
+    ) -> bool;
+    pub(crate) fn calendar_column_iso_weeks(
+        dates: *const i32,
+        dates_length: usize,
+        years: *mut i32,
+        years_length: usize,
+        weeks: *mut u8,
+        weeks_length: usize,
+    ) -> bool;
+    pub(crate) fn calendar_column_join(
+        years: *const i32,
+        years_length: usize,
+        months: *const u8,
+        months_length: usize,
+        days: *const u8,
+        days_length: usize,
+        dates: *mut i32,
+        dates_length: usize,
+    ) -> bool;
+    pub(crate) fn calendar_column_add_days(
+        dates: *const i32,
+        dates_length: usize,
+        days: i32,
+        moved: *mut i32,
+        moved_length: usize,
+    ) -> bool;
+    pub(crate) fn calendar_column_add_days_in_place(
+        dates: *mut i32,
+        dates_length: usize,
+        days: i32,
+    );
+    pub(crate) fn calendar_column_add_days_each(
+        dates: *const i32,
+        dates_length: usize,
+        days: *const i32,
+        days_length: usize,
+        moved: *mut i32,
+        moved_length: usize,
+    ) -> bool;
+    pub(crate) fn calendar_column_add_days_each_in_place(
+        dates: *mut i32,
+        dates_length: usize,
+        days: *const i32,
+        days_length: usize,
+    ) -> bool;
+    pub(crate) fn calendar_column_add_months(
+        dates: *const i32,
+        dates_length: usize,
+        months: i32,
+        moved: *mut i32,
+        moved_length: usize,
+    ) -> bool;
+    pub(crate) fn calendar_column_add_months_in_place(
+        dates: *mut i32,
+        dates_length: usize,
+        months: i32,
+    );
+    pub(crate) fn calendar_column_days_between(
+        dates: *const i32,
+        dates_length: usize,
+        bases: *const i32,
+        bases_length: usize,
+        days: *mut i32,
+        days_length: usize,
+    ) -> bool;
+    pub(crate) fn calendar_column_first_on(
+        dates: *const i32,
+        dates_length: usize,
+        weekdays: u8,
+        found: *mut i32,
+        found_length: usize,
+    ) -> bool;
+    pub(crate) fn calendar_column_from_unix_days(
+        days: *const i64,
+        days_length: usize,
+        dates: *mut i32,
+        dates_length: usize,
+    ) -> bool;
+    pub(crate) fn calendar_column_to_unix_days(
+        dates: *const i32,
+        dates_length: usize,
+        days: *mut i64,
+        days_length: usize,
+    ) -> bool;
+    pub(crate) fn calendar_column_write_dates(
+        dates: *const i32,
+        dates_length: usize,
+        texts: *mut u8,
+        texts_length: usize,
+    ) -> bool;
+    pub(crate) fn calendar_column_read_dates(
+        texts: *const u8,
+        texts_length: usize,
+        dates: *mut i32,
+        dates_length: usize,
+    ) -> bool;
+    pub(crate) fn calendar_column_count_dates(dates: *const i32, dates_length: usize) -> usize;
 }

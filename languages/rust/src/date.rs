@@ -1,7 +1,6 @@
 //! Dates, and what is asked of years and months.
 
 use core::fmt;
-use core::num::NonZeroU32;
 use core::ops::Sub;
 use core::str::{from_utf8, FromStr};
 
@@ -13,21 +12,20 @@ const TEXT_ROOM: usize = 13;
 
 /// A date of the proleptic Gregorian calendar, from 1 January of year -262143 to 31 December of year 262142.
 ///
-/// The year before year 1 is year 0 (ISO 8601). A date is one number, by which it is compared and hashed, and
-/// `Option<Date>` is as small. It is printed and read as `YYYY-MM-DD`. A year below 0 or above 9999 has a sign and at
-/// least four digits.
+/// The year before year 1 is year 0 (ISO 8601). In memory a date is its day number, an `i32`, by which it is compared and
+/// hashed. It is printed and read as `YYYY-MM-DD`. A year below 0 or above 9999 has a sign and at least four digits.
 ///
 /// ```
 /// use proved_calendar::Date;
 /// let date: Date = "2024-02-29".parse().unwrap();
 /// assert_eq!((date.year(), date.month(), date.day()), (2024, 2, 29));
-/// assert_eq!(size_of::<Option<Date>>(), 4);
+/// assert_eq!(size_of::<Date>(), 4);
 /// ```
 #[repr(transparent)]
 #[derive(Clone, Copy, PartialEq, Eq, PartialOrd, Ord, Hash)]
 pub struct Date {
-    /// How far the day number lies above `NONE`, which is no date's.
-    place: NonZeroU32,
+    /// The day number, from `MIN` to `MAX`.
+    number: i32,
 }
 
 impl Date {
@@ -36,35 +34,28 @@ impl Date {
     /// ```
     /// assert_eq!(proved_calendar::Date::MIN.to_string(), "-262143-01-01");
     /// ```
-    pub const MIN: Date = Date::known(MIN);
+    pub const MIN: Date = Date { number: MIN };
 
     /// The last date, 31 December of year 262142.
     ///
     /// ```
     /// assert_eq!(proved_calendar::Date::MAX.to_string(), "+262142-12-31");
     /// ```
-    pub const MAX: Date = Date::known(MAX);
+    pub const MAX: Date = Date { number: MAX };
 
     /// 1 January 1970.
     ///
     /// ```
     /// assert_eq!(proved_calendar::Date::UNIX_EPOCH.to_string(), "1970-01-01");
     /// ```
-    pub const UNIX_EPOCH: Date = Date::known(UNIX_EPOCH);
+    pub const UNIX_EPOCH: Date = Date { number: UNIX_EPOCH };
 
     /// The date that a function of the library returns.
     const fn found(number: i32) -> Option<Date> {
-        match NonZeroU32::new(number.wrapping_sub(NONE) as u32) {
-            Some(place) => Some(Date { place }),
-            None => None,
-        }
-    }
-
-    /// The date with a number that one has.
-    const fn known(number: i32) -> Date {
-        match Date::found(number) {
-            Some(date) => date,
-            None => panic!("no date has this number"),
+        if number == NONE {
+            None
+        } else {
+            Some(Date { number })
         }
     }
 
@@ -131,7 +122,7 @@ impl Date {
     #[must_use]
     pub const fn from_number(number: i32) -> Option<Date> {
         if MIN <= number && number <= MAX {
-            Date::found(number)
+            Some(Date { number })
         } else {
             None
         }
@@ -145,7 +136,7 @@ impl Date {
     /// ```
     #[must_use]
     pub const fn number(self) -> i32 {
-        (self.place.get() as i32).wrapping_add(NONE)
+        self.number
     }
 
     /// The year, from -262143 to 262142.
@@ -177,6 +168,18 @@ impl Date {
     #[must_use]
     pub fn day(self) -> u32 {
         calendar_day(self.number()) as u32
+    }
+
+    /// The year, the month and the day of the month, by one conversion.
+    ///
+    /// ```
+    /// use proved_calendar::Date;
+    /// assert_eq!(Date::from_ymd(2024, 2, 29).unwrap().year_month_day(), (2024, 2, 29));
+    /// ```
+    #[must_use]
+    pub fn year_month_day(self) -> (i32, u32, u32) {
+        let found = calendar_split(self.number());
+        (found.year, u32::from(found.month), u32::from(found.day))
     }
 
     /// The day of the year, from 1 to 366.

@@ -58,6 +58,19 @@ impl Duration {
         })
     }
 
+    /// The duration of so many seconds and nanoseconds past those. `None` if it is too long, or if the nanoseconds are a
+    /// second or more.
+    pub(crate) const fn of_parts(seconds: i64, nanos: u32) -> Option<Duration> {
+        let whole = i64::MAX / 1_000;
+        let is_short = -whole <= seconds && seconds < whole
+            || seconds == whole && nanos <= 807_000_000
+            || seconds == -whole - 1 && nanos >= 193_000_000;
+        match NonZeroU32::MIN.checked_add(nanos) {
+            Some(after) if is_short && nanos < NANOS as u32 => Some(Duration { seconds, after }),
+            _ => None,
+        }
+    }
+
     /// The duration as the library takes it.
     pub(crate) const fn span(self) -> Span {
         Span {

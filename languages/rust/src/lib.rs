@@ -2,7 +2,14 @@
 #![no_std]
 #![warn(missing_docs)]
 
+#[cfg(feature = "alloc")]
+extern crate alloc;
+#[cfg(feature = "std")]
+extern crate std;
+
 mod calls;
+pub mod chrono;
+pub mod columns;
 mod date;
 mod date_range;
 mod date_time;

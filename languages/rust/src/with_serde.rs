@@ -7,7 +7,7 @@ use core::str::FromStr;
 use serde::de::{Deserialize, Deserializer, Error, Visitor};
 use serde::ser::{Serialize, Serializer};
 
-use crate::{Date, DateTime, Duration, Weekday};
+use crate::{chrono, Date, DateTime, Duration, Weekday};
 
 /// Reads the text of a value.
 struct TextOf<T> {
@@ -29,15 +29,15 @@ impl<T: FromStr> Visitor<'_> for TextOf<T> {
 }
 
 macro_rules! as_text {
-    ($kind:literal, $name:ident) => {
+    ($kind:literal, $name:ty, $pattern:literal) => {
         impl Serialize for $name {
             fn serialize<S: Serializer>(&self, serializer: S) -> Result<S::Ok, S::Error> {
-                serializer.collect_str(self)
+                serializer.collect_str(&format_args!($pattern, self))
             }
         }
 
         impl<'de> Deserialize<'de> for $name {
-            fn deserialize<D: Deserializer<'de>>(deserializer: D) -> Result<$name, D::Error> {
+            fn deserialize<D: Deserializer<'de>>(deserializer: D) -> Result<Self, D::Error> {
                 let value = PhantomData;
                 deserializer.deserialize_str(TextOf { kind: $kind, value })
             }
@@ -45,7 +45,16 @@ macro_rules! as_text {
     };
 }
 
-as_text!("date", Date);
-as_text!("date-time", DateTime);
-as_text!("duration", Duration);
-as_text!("weekday", Weekday);
+as_text!("date", Date, "{}");
+as_text!("date-time", DateTime, "{}");
+as_text!("duration", Duration, "{}");
+as_text!("weekday", Weekday, "{}");
+
+// The values of the module `chrono`, as chrono has them.
+as_text!("date", chrono::NaiveDate, "{:?}");
+as_text!("time", chrono::NaiveTime, "{:?}");
+as_text!("date-time", chrono::NaiveDateTime, "{:?}");
+as_text!("instant", chrono::DateTime<chrono::Utc>, "{:?}");
+as_text!("instant", chrono::DateTime<chrono::FixedOffset>, "{:?}");
+as_text!("weekday", chrono::Weekday, "{}");
+as_text!("month", chrono::Month, "{:?}");

@@ -2,7 +2,7 @@
 //! function, named after it, and then what Rust adds.
 
 use proved_calendar::{
-    days_in_month as days_in, is_leap_year as is_leap, Date, DateTime, Duration, Weekday,
+    columns, days_in_month as days_in, is_leap_year as is_leap, Date, DateTime, Duration, Weekday,
     WeekdaySet,
 };
 use Weekday::{Fri, Mon, Sat, Sun, Thu, Tue, Wed};
@@ -663,4 +663,202 @@ fn durations() {
     assert!(
         nanoseconds(-1) < Duration::ZERO && nanoseconds(1_500_000_000) < nanoseconds(2_000_000_000)
     );
+}
+
+/// A column: the known days, numbers just beyond the dates, and others that are none.
+const COLUMN: [i32; 17] = {
+    let mut column = [columns::NO_DATE; 17];
+    let mut at = 0;
+    while at < DAYS.len() {
+        column[at] = DAYS[at].0;
+        at += 1;
+    }
+    column[13] = -95_746_130;
+    column[14] = 95_745_400;
+    column[15] = i32::MAX;
+    column
+};
+
+/// What a column function writes for the column, beside the answer for each date; `none` stands for no date.
+fn compare_column<T: Copy + PartialEq + std::fmt::Debug>(
+    none: T,
+    found: [T; 17],
+    wanted: impl Fn(Date) -> Option<T>,
+) {
+    let wanted = COLUMN.map(|it| Date::from_number(it).and_then(&wanted).unwrap_or(none));
+    assert_eq!(found, wanted);
+}
+
+#[test]
+fn split() {
+    for (number, year, [month, day, _], ..) in DAYS {
+        assert_eq!(dated(number).year_month_day(), (year, month, day));
+    }
+}
+
+#[test]
+fn column_weekdays() {
+    let mut found = [9; 17];
+    columns::weekdays(&COLUMN, &mut found);
+    compare_column(0, found, |it| Some(it.weekday().number() as u8));
+}
+
+#[test]
+fn column_years() {
+    let mut found = [9; 17];
+    columns::years(&COLUMN, &mut found);
+    compare_column(columns::NO_DATE, found, |it| Some(it.year()));
+}
+
+#[test]
+fn column_ordinals() {
+    let mut found = [9; 17];
+    columns::ordinals(&COLUMN, &mut found);
+    compare_column(0, found, |it| Some(it.ordinal() as u16));
+}
+
+#[test]
+fn column_split() {
+    let (mut years, mut months, mut days) = ([9; 17], [9; 17], [9; 17]);
+    columns::split(&COLUMN, &mut years, &mut months, &mut days);
+    compare_column(columns::NO_DATE, years, |it| Some(it.year()));
+    compare_column(0, months, |it| Some(it.month() as u8));
+    compare_column(0, days, |it| Some(it.day() as u8));
+}
+
+#[test]
+fn column_iso_weeks() {
+    let (mut years, mut weeks) = ([9; 17], [9; 17]);
+    columns::iso_weeks(&COLUMN, &mut years, &mut weeks);
+    compare_column(columns::NO_DATE, years, |it| Some(it.iso_year()));
+    compare_column(0, weeks, |it| Some(it.iso_week() as u8));
+}
+
+#[test]
+fn column_join() {
+    let mut found = [9; 4];
+    columns::join(
+        &[2024, 2023, -262_143, 1],
+        &[2, 2, 1, 13],
+        &[29, 29, 1, 1],
+        &mut found,
+    );
+    let none = columns::NO_DATE;
+    assert_eq!(found, [738_945, none, Date::MIN.number(), none]);
+}
+
+#[test]
+fn column_add_days() {
+    let mut found = [9; 17];
+    columns::add_days(&COLUMN, -1, &mut found);
+    compare_column(columns::NO_DATE, found, |it| {
+        number(it.checked_add_days(-1))
+    });
+}
+
+#[test]
+fn column_add_days_in_place() {
+    let mut found = COLUMN;
+    columns::add_days_in_place(&mut found, 400);
+    compare_column(columns::NO_DATE, found, |it| {
+        number(it.checked_add_days(400))
+    });
+}
+
+#[test]
+fn column_add_days_each() {
+    let mut found = [9; 3];
+    columns::add_days_each(&[1, 1, 95_745_399], &[-1, i32::MIN, 1], &mut found);
+    assert_eq!(found, [0, columns::NO_DATE, columns::NO_DATE]);
+}
+
+#[test]
+fn column_add_days_each_in_place() {
+    let mut found = [1, 95_745_399];
+    columns::add_days_each_in_place(&mut found, &[737_790, 1]);
+    assert_eq!(found, [737_791, columns::NO_DATE]);
+}
+
+#[test]
+fn column_add_months() {
+    let mut found = [9; 17];
+    columns::add_months(&COLUMN, 12, &mut found);
+    compare_column(columns::NO_DATE, found, |it| {
+        number(it.checked_add_months(12))
+    });
+}
+
+#[test]
+fn column_add_months_in_place() {
+    let mut found = COLUMN;
+    columns::add_months_in_place(&mut found, -1);
+    compare_column(columns::NO_DATE, found, |it| {
+        number(it.checked_add_months(-1))
+    });
+}
+
+#[test]
+fn column_days_between() {
+    let mut found = [9; 17];
+    columns::days_between(&COLUMN, &[Date::UNIX_EPOCH; 17], &mut found);
+    compare_column(columns::NO_DATE, found, |it| Some(it - Date::UNIX_EPOCH));
+}
+
+#[test]
+fn column_first_on() {
+    let mut found = [9; 17];
+    let weekend = WeekdaySet::from([Sat, Sun]);
+    columns::first_on(&COLUMN, weekend, &mut found);
+    compare_column(columns::NO_DATE, found, |it| number(it.first_on(weekend)));
+}
+
+#[test]
+fn column_from_unix_days() {
+    let mut found = [9; 4];
+    columns::from_unix_days(&[0, -719_162, i64::MIN, 95_026_237], &mut found);
+    assert_eq!(found, [719_163, 1, columns::NO_DATE, columns::NO_DATE]);
+}
+
+#[test]
+fn column_to_unix_days() {
+    let mut found = [9; 17];
+    columns::to_unix_days(&COLUMN, &mut found);
+    compare_column(i64::MIN, found, |it| Some(i64::from(it - Date::UNIX_EPOCH)));
+}
+
+#[test]
+fn column_write_dates() {
+    let mut found = [[9; 10]; 17];
+    columns::write_dates(&COLUMN, &mut found);
+    compare_column([0; 10], found, |it| {
+        it.to_string().as_bytes().try_into().ok()
+    });
+}
+
+#[test]
+fn column_read_dates() {
+    let mut found = [9; 3];
+    columns::read_dates(&[*b"2024-02-29", *b"2023-02-29", [0; 10]], &mut found);
+    assert_eq!(found, [738_945, columns::NO_DATE, columns::NO_DATE]);
+}
+
+#[test]
+fn column_count_dates() {
+    assert_eq!(columns::count_dates(&COLUMN), 12);
+    assert_eq!(columns::count_dates(&[] as &[Date]), 0);
+    assert_eq!(columns::dates(&COLUMN), None);
+    let dates = columns::dates(&COLUMN[..12]).unwrap();
+    assert_eq!(
+        dates.iter().map(|it| it.number()).collect::<Vec<_>>(),
+        COLUMN[..12]
+    );
+    let mut years = [9; 12];
+    columns::years(dates, &mut years);
+    assert_eq!(years, DAYS.map(|it| it.1));
+}
+
+#[test]
+#[should_panic(expected = "the columns have different lengths")]
+fn columns_of_different_lengths() {
+    columns::years(&[Date::MIN], &mut [0; 2]);
 }

@@ -69,6 +69,59 @@ fn texts_by_serde() {
 }
 
 #[test]
+fn texts_of_the_module_chrono() {
+    use proved_calendar::chrono::{
+        DateTime, FixedOffset, Month, NaiveDate, NaiveDateTime, NaiveTime, Utc, Weekday,
+    };
+    fn compare<T: Serialize + for<'a> Deserialize<'a> + PartialEq + std::fmt::Debug>(
+        value: T,
+        text: &str,
+    ) {
+        assert_eq!(Written(&value).to_string(), text);
+        assert_eq!(read(text), Ok(value));
+        assert!(read::<T>("x").is_err());
+    }
+    let date = NaiveDate::from_ymd_opt(2016, 12, 31).unwrap();
+    let time = NaiveTime::from_hms_milli_opt(23, 59, 59, 1_500).unwrap();
+    compare(date, "2016-12-31");
+    compare(time, "23:59:60.500");
+    compare::<NaiveDateTime>(date.and_time(time), "2016-12-31T23:59:60.500");
+    let instant: DateTime<Utc> = date.and_time(time).and_utc();
+    compare(instant, "2016-12-31T23:59:60.500Z");
+    let east = FixedOffset::east_opt(3_600).unwrap();
+    compare(
+        instant.with_timezone(&east),
+        "2017-01-01T00:59:60.500+01:00",
+    );
+    compare(Weekday::Sat, "Sat");
+    compare(Month::May, "May");
+}
+
+#[test]
+fn times_of_the_machine() {
+    use proved_calendar::chrono::{DateTime, SecondsFormat, TimeDelta, Utc};
+    use std::time::{Duration, SystemTime};
+    let now = SystemTime::now();
+    let later = Utc::now() - DateTime::<Utc>::from(now);
+    assert!(later >= TimeDelta::zero() && later < TimeDelta::minutes(10));
+    let early = SystemTime::UNIX_EPOCH - Duration::from_millis(1_500);
+    let instant = DateTime::<Utc>::from(early);
+    assert_eq!(instant.to_rfc3339(), "1969-12-31T23:59:58.500+00:00");
+    assert_eq!(
+        instant.to_rfc3339_opts(SecondsFormat::Nanos, true),
+        "1969-12-31T23:59:58.500000000Z"
+    );
+    assert_eq!(instant.to_rfc2822(), "Wed, 31 Dec 1969 23:59:58 +0000");
+    assert_eq!(
+        (
+            SystemTime::from(instant),
+            SystemTime::from(DateTime::<Utc>::from(now))
+        ),
+        (early, now)
+    );
+}
+
+#[test]
 fn example_with_chrono() {
     use chrono::NaiveDate;
     let theirs = NaiveDate::from(Date::from_ymd(2024, 2, 29).unwrap());

@@ -15,7 +15,6 @@ fn dated(number: i32) -> Date {
 
 #[test]
 fn room() {
-    assert_eq!(size_of::<Option<Date>>(), size_of::<Date>());
     assert_eq!(size_of::<Option<DateTime>>(), size_of::<DateTime>());
     assert_eq!(size_of::<Option<Duration>>(), size_of::<Duration>());
     assert_eq!(

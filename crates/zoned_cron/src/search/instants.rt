@@ -3,16 +3,16 @@ ghost use Rattle.std.specs.Prelude.{◌≡◌, ◌↔◌, ◌<◌, ℤ, pos, ◌
 ghost use Rattle.chrono_datetime.specs.Moment.{IsMoment};
 ghost use Rattle.chrono_instant.specs.Instants.{IsEpochSecond, LiesIn, epoch_second};
 ghost use Rattle.chrono_zoned.specs.Offsets.{IsOffset};
-ghost use Rattle.chrono_zoned.specs.Zones.{AreAll, IsAmong, Shows};
+ghost use Rattle.chrono_zoned.specs.Zones.{AreAll, HoldsUntil, IsAmong, Shows};
 ghost use Rattle.zoned_cron.specs.Fires.{Fires, IsGap};
-ghost use Rattle.zoned_cron.specs.Private.{EndsGap, IfTwo, IsLastIn, IsSettled, TakesDated};
+ghost use Rattle.zoned_cron.specs.Private.{EndsGap, IfTwo, IsLastIn, IsSettledAt, TakesDated};
 
 use crate::policy::{Fold, Gap};
 use crate::schedule::ZonedSchedule;
 use chrono_datetime::law::date_times_exist;
 use chrono_datetime::{NaiveDateTime, Timelike};
 use chrono_instant::{FixedOffset, FromTimestamp, Timestamp};
-use chrono_zoned::{MappedLocalTime, TimeZone};
+use chrono_zoned::{DateTime, MappedLocalTime, Stretch, TimeZone};
 
 // The first second of the first date, and the last of the last date, in UTC.
 pub(crate) const FIRST_SECOND: i64 = -8_334_601_228_800;
@@ -122,17 +122,24 @@ fn end_of_gap<Z: TimeZone>(zone: Z, gap: i64) -> MappedLocalTime<i64>
     }
 }
 
-// The only instant at which the clock shows a planned local second, if no change is near and UTC has a date for it.
-pub(crate) fn settled_instant<Z: TimeZone>(zone: Z, local: i64) -> Option<i64>
-    requires { IsEpochSecond local }
-    ensures shows { IfSome result (Shows (Z.ahead zone) local) }
-    ensures settled { IfSome result (IsSettled (Z.ahead zone)) }
-    ensures exists { IfSome result IsEpochSecond }
+// The instant at which the clock shows a planned local time, if the stretch that holds from the second `from` on has no end near it: neither
+// within two days before the instant, nor within two days behind it. Then the clock shows the local time at no other instant.
+#[inline]
+pub(crate) fn settled_instant<Z: TimeZone>(
+    zone: Z,
+    from: i64,
+    stretch: Stretch,
+    planned: NaiveDateTime,
+) -> Option<DateTime<Z>>
+    requires offset { stretch.offset ≡ Z.ahead zone from }
+    requires holds { HoldsUntil (Z.ahead zone) from stretch.until }
+    requires near { (u : ℤ) → IsOffset (Z.ahead zone u) }
+    ensures { IfSome result (IsSettledAt Z.ahead zone planned) }
 {
-    let stretch = zone.stretch_from(local - 3 * DAY);
-    let found = local - i64::from(stretch.offset.local_minus_utc());
-    if found + 2 * DAY <= stretch.until && FIRST_SECOND <= found && found <= LAST_SECOND {
-        Some(found)
+    date_times_exist(planned);
+    let found = before(planned.timestamp(), stretch.offset);
+    if from <= found - 2 * DAY && found + 2 * DAY <= stretch.until {
+        DateTime::from_local_and_offset(planned, stretch.offset, zone)
     } else {
         None
     }

@@ -1,7 +1,8 @@
 //! The first instant after a start at which a schedule fires.
-ghost use Rattle.std.specs.Prelude.{◌≡◌, ℤ, ◌≤ℤ◌, ◌<ℤ◌, IfSome};
+ghost use Rattle.std.specs.Prelude.{ℤ, ◌<ℤ◌, IfSome, Some};
 ghost use Rattle.chrono_instant.specs.Instants.{IsEpochSecond};
 ghost use Rattle.zoned_cron.specs.Fires.{Fires};
+ghost use Rattle.zoned_cron.specs.FiringLists.{IsNextFiring};
 ghost use Rattle.zoned_cron.specs.Private.{IsAtLeast, IsInDates, IsPlanned};
 
 use crate::schedule::ZonedSchedule;
@@ -9,7 +10,7 @@ use crate::search::instants::{DAY, LAST_SECOND, settled_instant};
 use chrono_datetime::NaiveDateTime;
 use chrono_datetime::law::{date_times_exist, first_date_time};
 use chrono_instant::{FromTimestamp, Timestamp};
-use chrono_zoned::TimeZone;
+use chrono_zoned::{AddOffset, DateTime, TimeZone};
 
 impl<Z: TimeZone> ZonedSchedule<Z> {
     // The first instant after `start` at which the schedule fires, as a second from 1 January 1970.
@@ -18,9 +19,6 @@ impl<Z: TimeZone> ZonedSchedule<Z> {
         ensures fires { IfSome result (λ c. (start <ℤ c) × Fires self.now.schedule.sets (Z.ahead self.now.zone) self.now.policy c) }
         ensures least { (u : ℤ) → start <ℤ u → Fires self.now.schedule.sets (Z.ahead self.now.zone) self.now.policy u → IsAtLeast result u }
     {
-        if let Some(found) = self.first_settled(start) {
-            return Some(found);
-        }
         let mut second = start;
         while let Some(next) = self.next_possible(second) {
             if self.fires_at(next) {
@@ -31,25 +29,31 @@ impl<Z: TimeZone> ZonedSchedule<Z> {
         None
     }
 
-    // The same where no change is near the start, and none near the instant that is found. `None` says nothing.
-    fn first_settled(&self, start: i64) -> Option<i64>
-        requires { IsEpochSecond start }
-        ensures fires { IfSome result (λ c. (start <ℤ c) × Fires self.now.schedule.sets (Z.ahead self.now.zone) self.now.policy c) }
-        ensures least { IfSome result (λ c. (u : ℤ) → start <ℤ u → Fires self.now.schedule.sets (Z.ahead self.now.zone) self.now.policy u → c ≤ℤ u) }
+    // The first instant after `start` at which the schedule fires, where no change is near the start, and none near that instant. `None` says
+    // nothing.
+    #[inline]
+    pub(crate) fn first_settled(&self, start: NaiveDateTime) -> Option<DateTime<Z>>
+        ensures { IfSome result (λ d. IsNextFiring Z.ahead self.now start (Some d)) }
     {
-        let stretch = self.zone.stretch_from(start - 2 * DAY);
-        if stretch.until < start + 2 * DAY {
+        date_times_exist(start);
+        let second = start.timestamp();
+        let from = second - 2 * DAY;
+        let stretch = self.zone.stretch_from(from);
+        if stretch.until < second + 2 * DAY {
             return None;
         }
-        let ahead = i64::from(stretch.offset.local_minus_utc());
-        let Some(planned) = self.planned_after(start + ahead) else {
+        let Some(local) = start.checked_add_offset(stretch.offset) else {
             return None;
         };
-        let near = planned - ahead;
-        if near + 2 * DAY <= stretch.until && near <= LAST_SECOND {
-            return Some(near);
+        let Some(planned) = self.schedule.next_after(local) else {
+            return None;
+        };
+        date_times_exist(planned);
+        if let Some(found) = settled_instant(self.zone, from, stretch, planned) {
+            return Some(found);
         }
-        settled_instant(self.zone, planned)
+        let from = planned.timestamp() - 3 * DAY;
+        settled_instant(self.zone, from, self.zone.stretch_from(from), planned)
     }
 
     // An instant after the second such that the schedule fires at none between them; `None` if it fires at none after the second.

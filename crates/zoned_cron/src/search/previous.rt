@@ -4,14 +4,14 @@ ghost use Rattle.chrono_datetime.specs.Moment.{IsBefore, Moment};
 ghost use Rattle.chrono_instant.specs.Instants.{IsEpochSecond, epoch_second};
 ghost use Rattle.chrono_cron.specs.Due.{is_due};
 ghost use Rattle.zoned_cron.specs.Fires.{Fires};
-ghost use Rattle.zoned_cron.specs.Private.{FiresFor, IsAtMost};
+ghost use Rattle.zoned_cron.specs.Private.{FiresFor, IsAtMost, IsPreviousFiring};
 
 use crate::schedule::ZonedSchedule;
-use crate::search::instants::{DAY, FIRST_SECOND, last_in, settled_instant, shown_at};
+use crate::search::instants::{DAY, FIRST_SECOND, begun_by, last_in, settled_instant, shown_at};
 use chrono_datetime::NaiveDateTime;
 use chrono_datetime::law::{date_times_exist, last_date_time};
 use chrono_instant::{FromTimestamp, Timestamp};
-use chrono_zoned::TimeZone;
+use chrono_zoned::{DateTime, TimeZone};
 
 impl<Z: TimeZone> ZonedSchedule<Z> {
     // The last instant before `end` at which the schedule fires, as a second from 1 January 1970.
@@ -21,9 +21,6 @@ impl<Z: TimeZone> ZonedSchedule<Z> {
         ensures fires { IfSome result (λ c. (c <ℤ end) × Fires self.now.schedule.sets (Z.ahead self.now.zone) self.now.policy c) }
         ensures greatest { (u : ℤ) → u <ℤ end → Fires self.now.schedule.sets (Z.ahead self.now.zone) self.now.policy u → IsAtMost result u }
     {
-        if let Some(found) = self.last_settled(end) {
-            return Some(found);
-        }
         let Some(mut local) = self.last_planned(end) else {
             return None;
         };
@@ -40,14 +37,14 @@ impl<Z: TimeZone> ZonedSchedule<Z> {
         best
     }
 
-    // The same where no change is near the end, and none near the instant that is found. `None` says nothing.
-    fn last_settled(&self, end: i64) -> Option<i64>
-        requires low { neg_ℤ (pos 8_334_601_228_800) ≤ℤ end }
-        requires high { end ≤ℤ pos 8_210_266_876_800 }
-        ensures fires { IfSome result (λ c. (c <ℤ end) × Fires self.now.schedule.sets (Z.ahead self.now.zone) self.now.policy c) }
-        ensures greatest { IfSome result (λ c. (u : ℤ) → u <ℤ end → Fires self.now.schedule.sets (Z.ahead self.now.zone) self.now.policy u → u ≤ℤ c) }
+    // The last instant before `end` at which the schedule fires, where no change is near the end, and none near that instant. `None` says nothing.
+    #[inline]
+    pub(crate) fn last_settled(&self, end: NaiveDateTime) -> Option<DateTime<Z>>
+        ensures { IfSome result (IsPreviousFiring Z.ahead self.now end) }
     {
-        let stretch = self.zone.stretch_from(end - 2 * DAY);
+        let end = begun_by(end);
+        let from = end - 5 * DAY;
+        let stretch = self.zone.stretch_from(from);
         if stretch.until < end {
             return None;
         }
@@ -59,7 +56,11 @@ impl<Z: TimeZone> ZonedSchedule<Z> {
             return None;
         };
         date_times_exist(planned);
-        settled_instant(self.zone, planned.timestamp())
+        if let Some(found) = settled_instant(self.zone, from, stretch, planned) {
+            return Some(found);
+        }
+        let from = planned.timestamp() - 3 * DAY;
+        settled_instant(self.zone, from, self.zone.stretch_from(from), planned)
     }
 
     // The last planned local time that may fire before `end`.

@@ -1,4 +1,6 @@
 //! The first local time of a rule from a second of a day on, and the last before one.
+//!
+//! A rule by the clock may have no time on a day that its rule of days has. Then the search goes on to the next day.
 ghost use Rattle.std.specs.Prelude.{◌≡◌, ◌≤◌, ◌<◌, ◌+◌, true, pos, neg_ℤ, ◌≤ℤ◌, ◌<ℤ◌, IfNone, IfSome};
 ghost use Rattle.chrono_datetime.specs.Moment.{IsMoment, Moment, moment};
 ghost use Rattle.chrono_datetime.specs.PassedOver.{PassedNumbers};
@@ -6,8 +8,8 @@ ghost use Rattle.chrono_instant.specs.Instants.{epoch_second};
 ghost use Rattle.zoned_rules.specs.LocalTimes.{is_planned, is_planned_on};
 ghost use Rattle.zoned_rules.specs.Private.{IsListed, second_on};
 
+use crate::clock_steps::DAY;
 use crate::local_rule::LocalRule;
-use crate::search::times::DAY;
 use chrono_datetime::law::{date_times_exist, first_date, last_date};
 use chrono_datetime::{NaiveDate, NaiveDateTime, NaiveTime, Timelike};
 use chrono_instant::FromTimestamp;
@@ -25,7 +27,7 @@ impl LocalRule {
         if !self.days.is_instance(self.start.date(), date) {
             return None;
         }
-        self.first_time(from)
+        self.first_time(date, from)
     }
 
     // The first local time from a second of a day on.
@@ -39,13 +41,27 @@ impl LocalRule {
         if let Some(second) = self.first_on(date, from) {
             return Some(beginning(date, second));
         }
-        let Some(second) = self.first_time(0) else {
+        self.first_behind_day(date)
+    }
+
+    // The first local time of a day after that one.
+    fn first_behind_day(&self, date: NaiveDate) -> Option<NaiveDateTime>
+        ensures listed { IfSome result (IsListed self.now) }
+        ensures later { IfSome result (λ m. date <ℤ m.date) }
+        ensures least { IfSome result (λ m. (q : Moment) → IsListed self.now q → date <ℤ q.date → epoch_second m ≤ℤ epoch_second q) }
+        ensures none { IfNone result ((q : Moment) → IsListed self.now q → q.date ≤ℤ date) }
+    {
+        if !self.may_recur() {
             return None;
-        };
-        let Some(day) = self.days.next_after(self.start.date(), date) else {
-            return None;
-        };
-        Some(beginning(day, second))
+        }
+        let mut day = date;
+        while let Some(next) = self.next_day(day) {
+            if let Some(second) = self.first_time(next, 0) {
+                return Some(beginning(next, second));
+            }
+            day = next;
+        }
+        None
     }
 
     // The last local time of a day before a second, as a second of the day.
@@ -59,7 +75,7 @@ impl LocalRule {
         if !self.days.is_instance(self.start.date(), date) {
             return None;
         }
-        self.last_time(end)
+        self.last_time(date, end)
     }
 
     // The last local time before a second of a day.
@@ -73,13 +89,27 @@ impl LocalRule {
         if let Some(second) = self.last_on(date, end) {
             return Some(beginning(date, second));
         }
-        let Some(second) = self.last_time(DAY) else {
+        self.last_in_front_of_day(date)
+    }
+
+    // The last local time of a day before that one.
+    fn last_in_front_of_day(&self, date: NaiveDate) -> Option<NaiveDateTime>
+        ensures listed { IfSome result (IsListed self.now) }
+        ensures earlier { IfSome result (λ m. epoch_second m <ℤ second_on date 0) }
+        ensures greatest { IfSome result (λ m. (q : Moment) → IsListed self.now q → q.date <ℤ date → epoch_second q ≤ℤ epoch_second m) }
+        ensures none { IfNone result ((q : Moment) → IsListed self.now q → date ≤ℤ q.date) }
+    {
+        if !self.may_recur() {
             return None;
-        };
-        let Some(day) = self.days.prev_before(self.start.date(), date) else {
-            return None;
-        };
-        Some(beginning(day, second))
+        }
+        let mut day = date;
+        while let Some(previous) = self.previous_day(day) {
+            if let Some(second) = self.last_time(previous, DAY) {
+                return Some(beginning(previous, second));
+            }
+            day = previous;
+        }
+        None
     }
 }
 
@@ -88,6 +118,7 @@ impl LocalRule {
     pub(crate) fn first_since(&self, second: i64) -> Option<NaiveDateTime>
         requires { second ≤ℤ pos 8_210_266_876_799 }
         ensures listed { IfSome result (IsListed self.now) }
+        ensures not_before { IfSome result (λ m. second ≤ℤ epoch_second m) }
         ensures least { IfSome result (λ m. (q : Moment) → IsListed self.now q → second ≤ℤ epoch_second q → epoch_second m ≤ℤ epoch_second q) }
         ensures none { IfNone result ((q : Moment) → IsListed self.now q → epoch_second q <ℤ second) }
     {
@@ -114,6 +145,7 @@ impl LocalRule {
     pub(crate) fn last_until(&self, second: i64) -> Option<NaiveDateTime>
         requires { neg_ℤ (pos 8_334_601_228_800) ≤ℤ second }
         ensures listed { IfSome result (IsListed self.now) }
+        ensures before { IfSome result (λ m. epoch_second m <ℤ second) }
         ensures greatest { IfSome result (λ m. (q : Moment) → IsListed self.now q → epoch_second q <ℤ second → epoch_second q ≤ℤ epoch_second m) }
         ensures none { IfNone result ((q : Moment) → IsListed self.now q → second ≤ℤ epoch_second q) }
     {

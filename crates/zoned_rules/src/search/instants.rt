@@ -1,7 +1,9 @@
 //! The first instant after a second at which a rule recurs, and the last before one.
 //!
-//! A local time lies less than a day from the instant that it stands for. A gap moves a local time behind later ones, so a search looks at all
-//! local times within a day of the best instant so far.
+//! Where the clock keeps its offset, the first local time stands for the first instant. Most searches end there.
+//!
+//! Near a change, a gap may move a local time behind later ones. A local time lies less than a day from the instant that it stands for. So a search
+//! there looks at all local times within a day of the best instant so far.
 ghost use Rattle.std.specs.Prelude.{◌≡◌, ◌↔◌, ◌⊎◌, ℤ, pos, neg_ℤ, ◌+ℤ◌, ◌-ℤ◌, ◌≤ℤ◌, ◌<ℤ◌, IfSome, IsFalse, IsSomeAnd, IsTrue};
 ghost use Rattle.chrono_datetime.specs.Moment.{Moment};
 ghost use Rattle.chrono_instant.specs.Instants.{IsEpochSecond, epoch_second};
@@ -9,11 +11,17 @@ ghost use Rattle.zoned_rules.specs.LocalInstants.{HasDates, IsInstantOf};
 ghost use Rattle.zoned_rules.specs.Recurs.{Recurs, RecursFor};
 ghost use Rattle.zoned_rules.specs.Private.{IsListed, IsReached, IsReachedBack, IsStoodFor};
 
+use crate::bound::{BEFORE_FIRST_SECOND, LAST_SECOND};
 use crate::local_instant::{DAY, offsets_are_small, second_of};
 use crate::zoned_rule::ZonedRule;
 use chrono_datetime::NaiveDateTime;
 use chrono_instant::Timestamp;
 use chrono_zoned::{InZone, TimeZone};
+
+// The seconds of two days and of four.
+const TWO_DAYS: i64 = 172_800;
+
+const FOUR_DAYS: i64 = 345_600;
 
 impl<Z: TimeZone> ZonedRule<Z> {
     // The first second after another at which the rule recurs, COUNT and UNTIL left out.
@@ -24,10 +32,46 @@ impl<Z: TimeZone> ZonedRule<Z> {
         ensures least { (u : ℤ) → start <ℤ u → Recurs self.now.local (Z.ahead self.now.zone) u → IsReached result u }
     {
         let begun = self.start_second();
-        self.first_planned(later_of(start, begun - 1))
+        self.first_stood_for(later_of(start, begun - 1))
     }
 
     // The first second after another that a local time stands for, be it before the start.
+    fn first_stood_for(&self, after: i64) -> Option<i64>
+        requires low { neg_ℤ (pos 8_334_601_400_000) ≤ℤ after }
+        requires high { after ≤ℤ pos 8_210_266_963_199 }
+        ensures recurs { IfSome result (λ c. (after <ℤ c) × IsStoodFor self.now.local (Z.ahead self.now.zone) c) }
+        ensures least { (m : Moment) (u : ℤ) → RecursFor self.now.local (Z.ahead self.now.zone) m u → after <ℤ u → IsReached result u }
+    {
+        if let Some(found) = self.first_in_stretch(after) {
+            return Some(found);
+        }
+        self.first_planned(after)
+    }
+
+    // The same, where the clock keeps its offset from two days before up to the second that is found. Else none.
+    fn first_in_stretch(&self, after: i64) -> Option<i64>
+        requires low { neg_ℤ (pos 8_334_601_400_000) ≤ℤ after }
+        requires high { after ≤ℤ pos 8_210_266_963_199 }
+        ensures recurs { IfSome result (λ c. (after <ℤ c) × IsStoodFor self.now.local (Z.ahead self.now.zone) c) }
+        ensures least { IfSome result (λ c. (m : Moment) (u : ℤ) → RecursFor self.now.local (Z.ahead self.now.zone) m u → after <ℤ u → c ≤ℤ u) }
+    {
+        let stretch = self.zone.stretch_from(after - TWO_DAYS);
+        let offset = i64::from(stretch.offset.local_minus_utc());
+        if after + offset >= LAST_SECOND {
+            return None;
+        }
+        let Some(local) = self.local.first_since(after + offset + 1) else {
+            return None;
+        };
+        let second = local.timestamp() - offset;
+        if second < stretch.until && has_dates(self.zone, second) {
+            Some(second)
+        } else {
+            None
+        }
+    }
+
+    // The same, by all local times near it.
     fn first_planned(&self, after: i64) -> Option<i64>
         requires low { neg_ℤ (pos 8_334_601_400_000) ≤ℤ after }
         requires high { after ≤ℤ pos 8_210_266_963_199 }
@@ -71,7 +115,7 @@ impl<Z: TimeZone> ZonedRule<Z> {
         ensures greatest { (u : ℤ) → u <ℤ end → Recurs self.now.local (Z.ahead self.now.zone) u → IsReachedBack result u }
     {
         let begun = self.start_second();
-        let last = self.last_planned(end)?;
+        let last = self.last_stood_for(end)?;
         if last < begun {
             return None;
         }
@@ -79,6 +123,42 @@ impl<Z: TimeZone> ZonedRule<Z> {
     }
 
     // The last second before another that a local time stands for, be it before the start.
+    fn last_stood_for(&self, end: i64) -> Option<i64>
+        requires low { neg_ℤ (pos 8_334_601_228_800) ≤ℤ end }
+        requires high { end ≤ℤ pos 8_210_266_876_800 }
+        ensures recurs { IfSome result (λ c. (c <ℤ end) × IsStoodFor self.now.local (Z.ahead self.now.zone) c) }
+        ensures greatest { (m : Moment) (u : ℤ) → RecursFor self.now.local (Z.ahead self.now.zone) m u → u <ℤ end → IsReachedBack result u }
+    {
+        if let Some(found) = self.last_in_stretch(end) {
+            return Some(found);
+        }
+        self.last_planned(end)
+    }
+
+    // The same, where it is one of the last two days and the clock keeps its offset from two days before them on. Else none.
+    fn last_in_stretch(&self, end: i64) -> Option<i64>
+        requires low { neg_ℤ (pos 8_334_601_228_800) ≤ℤ end }
+        requires high { end ≤ℤ pos 8_210_266_876_800 }
+        ensures recurs { IfSome result (λ c. (c <ℤ end) × IsStoodFor self.now.local (Z.ahead self.now.zone) c) }
+        ensures greatest { IfSome result (λ c. (m : Moment) (u : ℤ) → RecursFor self.now.local (Z.ahead self.now.zone) m u → u <ℤ end → u ≤ℤ c) }
+    {
+        let stretch = self.zone.stretch_from(end - FOUR_DAYS);
+        let offset = i64::from(stretch.offset.local_minus_utc());
+        if stretch.until < end || end + offset <= BEFORE_FIRST_SECOND {
+            return None;
+        }
+        let Some(local) = self.local.last_until(end + offset) else {
+            return None;
+        };
+        let second = local.timestamp() - offset;
+        if end - TWO_DAYS <= second && has_dates(self.zone, second) {
+            Some(second)
+        } else {
+            None
+        }
+    }
+
+    // The same, by all local times near it.
     fn last_planned(&self, end: i64) -> Option<i64>
         requires low { neg_ℤ (pos 8_334_601_228_800) ≤ℤ end }
         requires high { end ≤ℤ pos 8_210_266_876_800 }

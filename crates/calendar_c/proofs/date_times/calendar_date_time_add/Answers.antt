@@ -1,5 +1,5 @@
 use Rattle.std.proofs.Common.{ap, ◌∙◌, refl}
-use Rattle.calendar_c.specs.DateTimes.{duration_from_c, moment_from_c, numbers_or_none}
+use Rattle.numbers_c.specs.DateTimes.{duration_from_c, moment_from_c, numbers_or_none}
 use Rattle.calendar_c.proofs.AgainLemmas.{moved-again}
 use Rattle.calendar_c.proofs.date_times.calendar_date_time_add.Goals as goal
 

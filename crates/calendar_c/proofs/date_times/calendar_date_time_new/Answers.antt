@@ -1,7 +1,7 @@
 use Rattle.std.proofs.Common.{ap, ◌∙◌, w32}
 use Rattle.std.proofs.lemmas.Int.{to_z-of_z}
-use Rattle.calendar_c.specs.DateTimes.{moment_from_c}
-use Rattle.calendar_c.proofs.DateTimeLemmas.{moment_from_c-again}
+use Rattle.numbers_c.specs.DateTimes.{moment_from_c}
+use Rattle.numbers_c.proofs.DateTimeLemmas.{moment_from_c-again}
 use Rattle.calendar_c.proofs.date_times.calendar_date_time_new.Goals as goal
 
 pub returns-clause-named : goal.returns-clause-named

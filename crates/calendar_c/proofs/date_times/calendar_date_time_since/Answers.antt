@@ -1,5 +1,5 @@
 use Rattle.std.proofs.Common.{ap, ◌∙◌, refl}
-use Rattle.calendar_c.specs.DateTimes.{duration_from_c, duration_or_none, moment_from_c}
+use Rattle.numbers_c.specs.DateTimes.{duration_from_c, duration_or_none, moment_from_c}
 use Rattle.calendar_c.proofs.AgainLemmas.{distance-again}
 use Rattle.calendar_c.proofs.date_times.calendar_date_time_since.Goals as goal
 

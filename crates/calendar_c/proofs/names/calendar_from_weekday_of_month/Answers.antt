@@ -1,8 +1,8 @@
 use Rattle.std.proofs.Common.{ap, ◌∙◌}
 use Rattle.std.specs.Option.{option_and_then}
 use Rattle.chrono_calendar.specs.Weeks.{date_of_nth_weekday}
-use Rattle.calendar_c.specs.Answers.{or_none}
-use Rattle.calendar_c.specs.Arguments.{weekday_numbered}
+use Rattle.numbers_c.specs.Answers.{or_none}
+use Rattle.numbers_c.specs.Arguments.{weekday_numbered}
 use Rattle.calendar_c.proofs.Ranges.{date_of_nth_weekday-far, none_number-exists}
 use Rattle.calendar_c.proofs.names.calendar_from_weekday_of_month.Goals as goal
 

@@ -1,7 +1,7 @@
 use Rattle.std.proofs.Common.{ap, ◌∙◌, FitsSigned, rules, w32}
 use Rattle.std.proofs.lemmas.Int.{to_z-of_z}
 use Rattle.std.specs.Result.{result_ok}
-use Rattle.calendar_c.specs.Answers.{or_none}
+use Rattle.numbers_c.specs.Answers.{or_none}
 use Rattle.calendar_c.proofs.texts.calendar_read_date.Goals as goal
 
 pub returns-clause-every : goal.returns-clause-every

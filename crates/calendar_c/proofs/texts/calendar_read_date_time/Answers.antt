@@ -1,6 +1,6 @@
 use Rattle.std.proofs.Common.{ap, ◌∙◌}
 use Rattle.std.specs.Result.{result_ok}
-use Rattle.calendar_c.specs.DateTimes.{moment_from_c, numbers_or_none}
+use Rattle.numbers_c.specs.DateTimes.{moment_from_c, numbers_or_none}
 use Rattle.calendar_c.proofs.AgainLemmas.{text-again}
 use Rattle.calendar_c.proofs.texts.calendar_read_date_time.Goals as goal
 

@@ -4,9 +4,9 @@ use Rattle.std.specs.Option.{option_map}
 use Rattle.chrono_calendar.proofs.NamedDates.{date_of_day-Some, none-date_of_day}
 use Rattle.chrono_datetime.specs.DateText.{date_text}
 use Rattle.chrono_text.proofs.AnswerLemmas.{the_one}
-use Rattle.calendar_c.specs.Answers.{count_or_none}
-use Rattle.calendar_c.specs.Texts.{length_of, overwritten, text_within}
-use Rattle.calendar_c.proofs.LengthLemmas.{enough}
+use Rattle.numbers_c.specs.Answers.{count_or_none}
+use Rattle.numbers_c.specs.Texts.{length_of, overwritten, text_within}
+use Rattle.numbers_c.proofs.LengthLemmas.{enough}
 use Rattle.calendar_c.proofs.texts.calendar_write_date.Goals as goal
 
 -- the bytes that were put are the text of the date that was found

@@ -4,10 +4,10 @@ use Rattle.std.specs.Option.{option_map}
 use Rattle.chrono_datetime.specs.Moment.{Moment}
 use Rattle.chrono_datetime.specs.MomentText.{moment_text}
 use Rattle.chrono_text.proofs.AnswerLemmas.{no_one, the_one}
-use Rattle.calendar_c.specs.Answers.{count_or_none}
-use Rattle.calendar_c.specs.DateTimes.{moment_from_c}
-use Rattle.calendar_c.specs.Texts.{length_of, overwritten, text_within}
-use Rattle.calendar_c.proofs.LengthLemmas.{enough}
+use Rattle.numbers_c.specs.Answers.{count_or_none}
+use Rattle.numbers_c.specs.DateTimes.{moment_from_c}
+use Rattle.numbers_c.specs.Texts.{length_of, overwritten, text_within}
+use Rattle.numbers_c.proofs.LengthLemmas.{enough}
 use Rattle.calendar_c.proofs.texts.calendar_write_date_time.Goals as goal
 
 -- the bytes that were put are the text of the date-time that was found

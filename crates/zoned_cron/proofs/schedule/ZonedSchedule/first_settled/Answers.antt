@@ -1,178 +1,79 @@
-use Rattle.std.proofs.Common.{◌≡◌, rules, ℤ, pos, SFits, ◌+ℤ◌, ◌-ℤ◌, ◌≤ℤ◌, ◌<ℤ◌, of_z, to_z, w64, ap, arith, refl, subst, sym}
+use Rattle.std.proofs.Common.{◌≡◌, rules, ℤ, pos, SFits, ◌+ℤ◌, ◌-ℤ◌, ◌≤ℤ◌, of_z, to_z, w64, ap, arith, ◌∙◌}
 use Rattle.std.proofs.lemmas.Int.{ints, to_z-of_z}
-use Rattle.chrono_datetime.proofs.Signed.{casts}
-use Rattle.chrono_zoned.proofs.SecondSums.{carried, fits_by, offset_carried}
-use Rattle.zoned_cron.specs.Private.{IsPlanned}
-use Rattle.zoned_cron.proofs.Stretches.{first_least, first_there, if_three, near_shows, planned_date, settled_within}
-use Rattle.zoned_cron.proofs.Carried.{date_near, days_before, days_behind, minus, plus, showing_days_behind, showing_near, shown_near}
+use Rattle.std.proofs.lemmas.Option.{IfSome_then}
+use Rattle.chrono_instant.specs.Instants.{epoch_second}
+use Rattle.chrono_instant.proofs.InstantLemmas.{IsEpochSecond-moment}
+use Rattle.chrono_zoned.proofs.SecondSums.{carried, fits_by}
+use Rattle.zoned_cron.proofs.Carried.{days_before, days_behind}
+use Rattle.zoned_cron.proofs.Settled.{IsNextDue, IsStretch, next_settled}
 use Rattle.zoned_cron.proofs.schedule.ZonedSchedule.first_settled.Goals as goal
 
-pub overflow_sub-near : goal.overflow_sub-near
-overflow_sub-near g c =
-    let s = c.args.self.now.schedule.sets in
-    let ahead = g.Z.TimeZone.ahead c.args.self.now.zone in
-    let p = c.args.self.now.policy in
+pub overflow_sub-from : goal.overflow_sub-from
+overflow_sub-from g c =
     let start = c.args.start in
-    let here : to_z w64 (of_z w64 start) ≡ start = to_z-of_z w64 start c.ranges.start in
-    let stretch = c.stretch_from-stretch in
-    let from : ℤ = to_z w64 (of_z w64 (to_z w64 (of_z w64 start) -ℤ pos 172_800)) in
-    let begun : from ≡ (start -ℤ pos 172_800) = carried (to_z w64 (of_z w64 start) -ℤ pos 172_800) (start -ℤ pos 172_800) (ap (λ (x : ℤ). x -ℤ pos 172_800) here) (days_before start 172_800 c.requires (omega arith)) in
-    let o : ℤ = to_z w64 (of_z w64 c.from-ahead.result) in
-    let is_o : o ≡ ahead from = offset_carried c.from-ahead.result c.local_minus_utc.result stretch.result.offset (ahead from) c.from-ahead.ensures c.local_minus_utc.ensures.value stretch.ensures.offset (stretch.ensures.near from) in
-    let until : ℤ = stretch.result.until in
-    let fits : SFits w64 until = search rules in
-    let end : to_z w64 (of_z w64 until) ≡ until = to_z-of_z w64 until fits in
-    let later_start : to_z w64 (of_z w64 (to_z w64 (of_z w64 start) +ℤ pos 172_800)) ≡ (start +ℤ pos 172_800) = carried (to_z w64 (of_z w64 start) +ℤ pos 172_800) (start +ℤ pos 172_800) (ap (λ (x : ℤ). x +ℤ pos 172_800) here) (days_behind start 172_800 c.requires (omega arith)) in
-    let long : (start +ℤ pos 172_800) ≤ℤ until = omega (arith, ints, end, later_start, c.if-stretch-start.false) in
-    let local : ℤ = to_z w64 (of_z w64 (to_z w64 (of_z w64 start) +ℤ o)) in
-    let is : local ≡ (start +ℤ ahead from) = plus (to_z w64 (of_z w64 start)) o start (ahead from) here is_o (shown_near start (ahead from) c.requires (stretch.ensures.near from)) in
-    let planned = c.in-Some.planned in
-    let date = planned_date s planned c.in-Some.ensures.planned.1 in
-    let fits_planned : to_z w64 (of_z w64 planned) ≡ planned = carried planned planned refl (date_near planned date) in
-    fits_by (to_z w64 (of_z w64 planned) -ℤ o) (planned -ℤ ahead from) (omega (arith, ints, fits_planned, is_o)) (showing_near planned (ahead from) date (stretch.ensures.near from))
+    let S = epoch_second start in
+    let date = IsEpochSecond-moment start c.date_times_exist.ensures in
+    let second = to_z w64 (of_z w64 c.timestamp-second.result) in
+    let is_second : second ≡ S = to_z-of_z w64 c.timestamp-second.result (record { sfits = c.timestamp-second.type_inv }) ∙ c.timestamp-second.ensures.value in
+    fits_by (second -ℤ pos 172_800) (S -ℤ pos 172_800) (ap (λ (x : ℤ). x -ℤ pos 172_800) is_second) (days_before S 172_800 date (omega arith))
 
-pub overflow_add-near : goal.overflow_add-near
-overflow_add-near g c =
-    let s = c.args.self.now.schedule.sets in
-    let ahead = g.Z.TimeZone.ahead c.args.self.now.zone in
-    let p = c.args.self.now.policy in
+pub overflow_add-second : goal.overflow_add-second
+overflow_add-second g c =
     let start = c.args.start in
-    let here : to_z w64 (of_z w64 start) ≡ start = to_z-of_z w64 start c.ranges.start in
-    let stretch = c.stretch_from-stretch in
-    let from : ℤ = to_z w64 (of_z w64 (to_z w64 (of_z w64 start) -ℤ pos 172_800)) in
-    let begun : from ≡ (start -ℤ pos 172_800) = carried (to_z w64 (of_z w64 start) -ℤ pos 172_800) (start -ℤ pos 172_800) (ap (λ (x : ℤ). x -ℤ pos 172_800) here) (days_before start 172_800 c.requires (omega arith)) in
-    let o : ℤ = to_z w64 (of_z w64 c.from-ahead.result) in
-    let is_o : o ≡ ahead from = offset_carried c.from-ahead.result c.local_minus_utc.result stretch.result.offset (ahead from) c.from-ahead.ensures c.local_minus_utc.ensures.value stretch.ensures.offset (stretch.ensures.near from) in
-    let until : ℤ = stretch.result.until in
-    let fits : SFits w64 until = search rules in
-    let end : to_z w64 (of_z w64 until) ≡ until = to_z-of_z w64 until fits in
-    let later_start : to_z w64 (of_z w64 (to_z w64 (of_z w64 start) +ℤ pos 172_800)) ≡ (start +ℤ pos 172_800) = carried (to_z w64 (of_z w64 start) +ℤ pos 172_800) (start +ℤ pos 172_800) (ap (λ (x : ℤ). x +ℤ pos 172_800) here) (days_behind start 172_800 c.requires (omega arith)) in
-    let long : (start +ℤ pos 172_800) ≤ℤ until = omega (arith, ints, end, later_start, c.if-stretch-start.false) in
-    let local : ℤ = to_z w64 (of_z w64 (to_z w64 (of_z w64 start) +ℤ o)) in
-    let is : local ≡ (start +ℤ ahead from) = plus (to_z w64 (of_z w64 start)) o start (ahead from) here is_o (shown_near start (ahead from) c.requires (stretch.ensures.near from)) in
-    let planned = c.in-Some.planned in
-    let date = planned_date s planned c.in-Some.ensures.planned.1 in
-    let fits_planned : to_z w64 (of_z w64 planned) ≡ planned = carried planned planned refl (date_near planned date) in
-    let found : ℤ = to_z w64 (of_z w64 (to_z w64 (of_z w64 planned) -ℤ o)) in
-    let is_found : found ≡ (planned -ℤ ahead from) = minus (to_z w64 (of_z w64 planned)) o planned (ahead from) fits_planned is_o (showing_near planned (ahead from) date (stretch.ensures.near from)) in
-    fits_by (found +ℤ pos 172_800) ((planned -ℤ ahead from) +ℤ pos 172_800) (ap (λ (x : ℤ). x +ℤ pos 172_800) is_found) (showing_days_behind planned (ahead from) 172_800 date (stretch.ensures.near from) (omega arith))
+    let S = epoch_second start in
+    let date = IsEpochSecond-moment start c.date_times_exist.ensures in
+    let second = to_z w64 (of_z w64 c.timestamp-second.result) in
+    let is_second : second ≡ S = to_z-of_z w64 c.timestamp-second.result (record { sfits = c.timestamp-second.type_inv }) ∙ c.timestamp-second.ensures.value in
+    fits_by (second +ℤ pos 172_800) (S +ℤ pos 172_800) (ap (λ (x : ℤ). x +ℤ pos 172_800) is_second) (days_behind S 172_800 date (omega arith))
 
-pub settled_instant-requires : goal.settled_instant-requires
-settled_instant-requires g c =
-    let date = planned_date c.args.self.now.schedule.sets c.in-Some.planned c.in-Some.ensures.planned.1 in
-    (omega (arith, casts, date), omega (arith, casts, date))
-
-pub returns-then-near-le-LAST_SECOND-clause-fires : goal.returns-then-near-le-LAST_SECOND-clause-fires
-returns-then-near-le-LAST_SECOND-clause-fires g c =
-    let s = c.args.self.now.schedule.sets in
-    let ahead = g.Z.TimeZone.ahead c.args.self.now.zone in
-    let p = c.args.self.now.policy in
+pub returns-in-Some-settled_instant : goal.returns-in-Some-settled_instant
+returns-in-Some-settled_instant g c =
     let start = c.args.start in
-    let here : to_z w64 (of_z w64 start) ≡ start = to_z-of_z w64 start c.ranges.start in
-    let stretch = c.stretch_from-stretch in
-    let from : ℤ = to_z w64 (of_z w64 (to_z w64 (of_z w64 start) -ℤ pos 172_800)) in
-    let begun : from ≡ (start -ℤ pos 172_800) = carried (to_z w64 (of_z w64 start) -ℤ pos 172_800) (start -ℤ pos 172_800) (ap (λ (x : ℤ). x -ℤ pos 172_800) here) (days_before start 172_800 c.requires (omega arith)) in
-    let o : ℤ = to_z w64 (of_z w64 c.from-ahead.result) in
-    let is_o : o ≡ ahead from = offset_carried c.from-ahead.result c.local_minus_utc.result stretch.result.offset (ahead from) c.from-ahead.ensures c.local_minus_utc.ensures.value stretch.ensures.offset (stretch.ensures.near from) in
-    let until : ℤ = stretch.result.until in
-    let fits : SFits w64 until = search rules in
-    let end : to_z w64 (of_z w64 until) ≡ until = to_z-of_z w64 until fits in
-    let later_start : to_z w64 (of_z w64 (to_z w64 (of_z w64 start) +ℤ pos 172_800)) ≡ (start +ℤ pos 172_800) = carried (to_z w64 (of_z w64 start) +ℤ pos 172_800) (start +ℤ pos 172_800) (ap (λ (x : ℤ). x +ℤ pos 172_800) here) (days_behind start 172_800 c.requires (omega arith)) in
-    let long : (start +ℤ pos 172_800) ≤ℤ until = omega (arith, ints, end, later_start, c.if-stretch-start.false) in
-    let local : ℤ = to_z w64 (of_z w64 (to_z w64 (of_z w64 start) +ℤ o)) in
-    let is : local ≡ (start +ℤ ahead from) = plus (to_z w64 (of_z w64 start)) o start (ahead from) here is_o (shown_near start (ahead from) c.requires (stretch.ensures.near from)) in
-    let planned = c.in-Some.planned in
-    let date = planned_date s planned c.in-Some.ensures.planned.1 in
-    let fits_planned : to_z w64 (of_z w64 planned) ≡ planned = carried planned planned refl (date_near planned date) in
-    let found : ℤ = to_z w64 (of_z w64 (to_z w64 (of_z w64 planned) -ℤ o)) in
-    let is_found : found ≡ (planned -ℤ ahead from) = minus (to_z w64 (of_z w64 planned)) o planned (ahead from) fits_planned is_o (showing_near planned (ahead from) date (stretch.ensures.near from)) in
-    let later_found : to_z w64 (of_z w64 (found +ℤ pos 172_800)) ≡ ((planned -ℤ ahead from) +ℤ pos 172_800) = carried (found +ℤ pos 172_800) ((planned -ℤ ahead from) +ℤ pos 172_800) (ap (λ (x : ℤ). x +ℤ pos 172_800) is_found) (showing_days_behind planned (ahead from) 172_800 date (stretch.ensures.near from) (omega arith)) in
-    let within : (found +ℤ pos 172_800) ≤ℤ until = omega (arith, ints, end, is_found, later_found, c.if-near-stretch.true) in
-    let behind : start <ℤ found = omega (arith, ints, is_found, is, c.in-Some.ensures.planned.0) in
-    let shows = near_shows ahead from until planned found stretch.ensures.holds is_found (omega (arith, ints, begun, behind)) (omega (arith, ints, within)) in
-    let settled = settled_within ahead from until found stretch.ensures.holds stretch.ensures.near (omega (arith, ints, begun, behind)) within in
-    first_there s ahead p from until start local planned found stretch.ensures.holds begun long is c.in-Some.ensures.planned.0 c.in-Some.ensures.planned.1 shows settled (omega (arith, ints, behind, c.requires), omega (arith, ints, c.if-near-le-LAST_SECOND.true))
-
-pub returns-then-near-le-LAST_SECOND-clause-least : goal.returns-then-near-le-LAST_SECOND-clause-least
-returns-then-near-le-LAST_SECOND-clause-least g c =
-    let s = c.args.self.now.schedule.sets in
+    let S = epoch_second start in
+    let date = IsEpochSecond-moment start c.date_times_exist.ensures in
+    let second = to_z w64 (of_z w64 c.timestamp-second.result) in
+    let is_second : second ≡ S = to_z-of_z w64 c.timestamp-second.result (record { sfits = c.timestamp-second.type_inv }) ∙ c.timestamp-second.ensures.value in
     let ahead = g.Z.TimeZone.ahead c.args.self.now.zone in
-    let p = c.args.self.now.policy in
-    let start = c.args.start in
-    let here : to_z w64 (of_z w64 start) ≡ start = to_z-of_z w64 start c.ranges.start in
     let stretch = c.stretch_from-stretch in
-    let from : ℤ = to_z w64 (of_z w64 (to_z w64 (of_z w64 start) -ℤ pos 172_800)) in
-    let begun : from ≡ (start -ℤ pos 172_800) = carried (to_z w64 (of_z w64 start) -ℤ pos 172_800) (start -ℤ pos 172_800) (ap (λ (x : ℤ). x -ℤ pos 172_800) here) (days_before start 172_800 c.requires (omega arith)) in
-    let o : ℤ = to_z w64 (of_z w64 c.from-ahead.result) in
-    let is_o : o ≡ ahead from = offset_carried c.from-ahead.result c.local_minus_utc.result stretch.result.offset (ahead from) c.from-ahead.ensures c.local_minus_utc.ensures.value stretch.ensures.offset (stretch.ensures.near from) in
-    let until : ℤ = stretch.result.until in
-    let fits : SFits w64 until = search rules in
-    let end : to_z w64 (of_z w64 until) ≡ until = to_z-of_z w64 until fits in
-    let later_start : to_z w64 (of_z w64 (to_z w64 (of_z w64 start) +ℤ pos 172_800)) ≡ (start +ℤ pos 172_800) = carried (to_z w64 (of_z w64 start) +ℤ pos 172_800) (start +ℤ pos 172_800) (ap (λ (x : ℤ). x +ℤ pos 172_800) here) (days_behind start 172_800 c.requires (omega arith)) in
-    let long : (start +ℤ pos 172_800) ≤ℤ until = omega (arith, ints, end, later_start, c.if-stretch-start.false) in
-    let local : ℤ = to_z w64 (of_z w64 (to_z w64 (of_z w64 start) +ℤ o)) in
-    let is : local ≡ (start +ℤ ahead from) = plus (to_z w64 (of_z w64 start)) o start (ahead from) here is_o (shown_near start (ahead from) c.requires (stretch.ensures.near from)) in
-    let planned = c.in-Some.planned in
-    let date = planned_date s planned c.in-Some.ensures.planned.1 in
-    let fits_planned : to_z w64 (of_z w64 planned) ≡ planned = carried planned planned refl (date_near planned date) in
-    let found : ℤ = to_z w64 (of_z w64 (to_z w64 (of_z w64 planned) -ℤ o)) in
-    let is_found : found ≡ (planned -ℤ ahead from) = minus (to_z w64 (of_z w64 planned)) o planned (ahead from) fits_planned is_o (showing_near planned (ahead from) date (stretch.ensures.near from)) in
-    let later_found : to_z w64 (of_z w64 (found +ℤ pos 172_800)) ≡ ((planned -ℤ ahead from) +ℤ pos 172_800) = carried (found +ℤ pos 172_800) ((planned -ℤ ahead from) +ℤ pos 172_800) (ap (λ (x : ℤ). x +ℤ pos 172_800) is_found) (showing_days_behind planned (ahead from) 172_800 date (stretch.ensures.near from) (omega arith)) in
-    let within : (found +ℤ pos 172_800) ≤ℤ until = omega (arith, ints, end, is_found, later_found, c.if-near-stretch.true) in
-    let behind : start <ℤ found = omega (arith, ints, is_found, is, c.in-Some.ensures.planned.0) in
-    let shows = near_shows ahead from until planned found stretch.ensures.holds is_found (omega (arith, ints, begun, behind)) (omega (arith, ints, within)) in
-    let settled = settled_within ahead from until found stretch.ensures.holds stretch.ensures.near (omega (arith, ints, begun, behind)) within in
-    first_least s ahead p from until start local planned found stretch.ensures.holds begun long is c.in-Some.ensures.least shows settled
+    let from = to_z w64 (of_z w64 (second -ℤ pos 172_800)) in
+    let begun : from ≡ (S -ℤ pos 172_800) = carried (second -ℤ pos 172_800) (S -ℤ pos 172_800) (ap (λ (x : ℤ). x -ℤ pos 172_800) is_second) (days_before S 172_800 date (omega arith)) in
+    let behind : to_z w64 (of_z w64 (second +ℤ pos 172_800)) ≡ (S +ℤ pos 172_800) = carried (second +ℤ pos 172_800) (S +ℤ pos 172_800) (ap (λ (x : ℤ). x +ℤ pos 172_800) is_second) (days_behind S 172_800 date (omega arith)) in
+    let until_fits : SFits w64 stretch.result.until = search rules in
+    let until : to_z w64 (of_z w64 stretch.result.until) ≡ stretch.result.until = to_z-of_z w64 stretch.result.until until_fits in
+    let long : (S +ℤ pos 172_800) ≤ℤ stretch.result.until = omega (arith, ints, until, behind, c.if-stretch-second.false) in
+    let local = c.in-Some.local in
+    let is : epoch_second local ≡ (S +ℤ ahead from) = omega (arith, ints, c.in-Some.ensures.value.second, stretch.ensures.offset) in
+    let due = c.in-Some-next_after.ensures in
+    let next : IsNextDue c.args.self.now local c.in-Some-next_after.planned = record { exists = c.date_times_exist-2.ensures; due = due.member; later = due.later; least = due.least } in
+    let held : IsStretch ahead from stretch.result.until = record { holds = stretch.ensures.holds; near = stretch.ensures.near } in
+    next_settled g.Z.TimeZone.ahead c.args.self.now from stretch.result.until start local c.in-Some-next_after.planned c.in-Some-settled_instant.found held begun long c.date_times_exist.ensures c.in-Some.ensures.value.exists is next c.in-Some-settled_instant.ensures
 
-pub returns-clause-fires : goal.returns-clause-fires
-returns-clause-fires g c =
-    let s = c.args.self.now.schedule.sets in
-    let ahead = g.Z.TimeZone.ahead c.args.self.now.zone in
-    let p = c.args.self.now.policy in
-    let start = c.args.start in
-    let here : to_z w64 (of_z w64 start) ≡ start = to_z-of_z w64 start c.ranges.start in
-    let stretch = c.stretch_from-stretch in
-    let from : ℤ = to_z w64 (of_z w64 (to_z w64 (of_z w64 start) -ℤ pos 172_800)) in
-    let begun : from ≡ (start -ℤ pos 172_800) = carried (to_z w64 (of_z w64 start) -ℤ pos 172_800) (start -ℤ pos 172_800) (ap (λ (x : ℤ). x -ℤ pos 172_800) here) (days_before start 172_800 c.requires (omega arith)) in
-    let o : ℤ = to_z w64 (of_z w64 c.from-ahead.result) in
-    let is_o : o ≡ ahead from = offset_carried c.from-ahead.result c.local_minus_utc.result stretch.result.offset (ahead from) c.from-ahead.ensures c.local_minus_utc.ensures.value stretch.ensures.offset (stretch.ensures.near from) in
-    let until : ℤ = stretch.result.until in
-    let fits : SFits w64 until = search rules in
-    let end : to_z w64 (of_z w64 until) ≡ until = to_z-of_z w64 until fits in
-    let later_start : to_z w64 (of_z w64 (to_z w64 (of_z w64 start) +ℤ pos 172_800)) ≡ (start +ℤ pos 172_800) = carried (to_z w64 (of_z w64 start) +ℤ pos 172_800) (start +ℤ pos 172_800) (ap (λ (x : ℤ). x +ℤ pos 172_800) here) (days_behind start 172_800 c.requires (omega arith)) in
-    let long : (start +ℤ pos 172_800) ≤ℤ until = omega (arith, ints, end, later_start, c.if-stretch-start.false) in
-    let local : ℤ = to_z w64 (of_z w64 (to_z w64 (of_z w64 start) +ℤ o)) in
-    let is : local ≡ (start +ℤ ahead from) = plus (to_z w64 (of_z w64 start)) o start (ahead from) here is_o (shown_near start (ahead from) c.requires (stretch.ensures.near from)) in
-    let planned = c.in-Some.planned in
-    let date = planned_date s planned c.in-Some.ensures.planned.1 in
-    let fits_planned : to_z w64 (of_z w64 planned) ≡ planned = carried planned planned refl (date_near planned date) in
-    let there = c.settled_instant.ensures in
-    if_three c.settled_instant.result there.shows there.settled there.exists (λ x shows settled exists.
-    first_there s ahead p from until start local (to_z w64 (of_z w64 planned)) x stretch.ensures.holds begun long is (omega (arith, ints, fits_planned, c.in-Some.ensures.planned.0))
-    (subst (λ (k : ℤ). IsPlanned s k) (sym fits_planned) c.in-Some.ensures.planned.1) shows settled exists)
+pub overflow_sub-from-2 : goal.overflow_sub-from-2
+overflow_sub-from-2 g c =
+    let planned = c.in-Some-next_after.planned in
+    let l = epoch_second planned in
+    let at : to_z w64 (of_z w64 c.timestamp.result) ≡ l = to_z-of_z w64 c.timestamp.result (record { sfits = c.timestamp.type_inv }) ∙ c.timestamp.ensures.value in
+    fits_by (to_z w64 (of_z w64 c.timestamp.result) -ℤ pos 259_200) (l -ℤ pos 259_200) (ap (λ (x : ℤ). x -ℤ pos 259_200) at) (days_before l 259_200 (IsEpochSecond-moment planned c.date_times_exist-2.ensures) (omega arith))
 
-pub returns-clause-least : goal.returns-clause-least
-returns-clause-least g c =
-    let s = c.args.self.now.schedule.sets in
-    let ahead = g.Z.TimeZone.ahead c.args.self.now.zone in
-    let p = c.args.self.now.policy in
+pub returns : goal.returns
+returns g c =
     let start = c.args.start in
-    let here : to_z w64 (of_z w64 start) ≡ start = to_z-of_z w64 start c.ranges.start in
+    let S = epoch_second start in
+    let date = IsEpochSecond-moment start c.date_times_exist.ensures in
+    let second = to_z w64 (of_z w64 c.timestamp-second.result) in
+    let is_second : second ≡ S = to_z-of_z w64 c.timestamp-second.result (record { sfits = c.timestamp-second.type_inv }) ∙ c.timestamp-second.ensures.value in
+    let ahead = g.Z.TimeZone.ahead c.args.self.now.zone in
     let stretch = c.stretch_from-stretch in
-    let from : ℤ = to_z w64 (of_z w64 (to_z w64 (of_z w64 start) -ℤ pos 172_800)) in
-    let begun : from ≡ (start -ℤ pos 172_800) = carried (to_z w64 (of_z w64 start) -ℤ pos 172_800) (start -ℤ pos 172_800) (ap (λ (x : ℤ). x -ℤ pos 172_800) here) (days_before start 172_800 c.requires (omega arith)) in
-    let o : ℤ = to_z w64 (of_z w64 c.from-ahead.result) in
-    let is_o : o ≡ ahead from = offset_carried c.from-ahead.result c.local_minus_utc.result stretch.result.offset (ahead from) c.from-ahead.ensures c.local_minus_utc.ensures.value stretch.ensures.offset (stretch.ensures.near from) in
-    let until : ℤ = stretch.result.until in
-    let fits : SFits w64 until = search rules in
-    let end : to_z w64 (of_z w64 until) ≡ until = to_z-of_z w64 until fits in
-    let later_start : to_z w64 (of_z w64 (to_z w64 (of_z w64 start) +ℤ pos 172_800)) ≡ (start +ℤ pos 172_800) = carried (to_z w64 (of_z w64 start) +ℤ pos 172_800) (start +ℤ pos 172_800) (ap (λ (x : ℤ). x +ℤ pos 172_800) here) (days_behind start 172_800 c.requires (omega arith)) in
-    let long : (start +ℤ pos 172_800) ≤ℤ until = omega (arith, ints, end, later_start, c.if-stretch-start.false) in
-    let local : ℤ = to_z w64 (of_z w64 (to_z w64 (of_z w64 start) +ℤ o)) in
-    let is : local ≡ (start +ℤ ahead from) = plus (to_z w64 (of_z w64 start)) o start (ahead from) here is_o (shown_near start (ahead from) c.requires (stretch.ensures.near from)) in
-    let planned = c.in-Some.planned in
-    let date = planned_date s planned c.in-Some.ensures.planned.1 in
-    let fits_planned : to_z w64 (of_z w64 planned) ≡ planned = carried planned planned refl (date_near planned date) in
-    let there = c.settled_instant.ensures in
-    if_three c.settled_instant.result there.shows there.settled there.exists (λ x shows settled exists.
-    first_least s ahead p from until start local (to_z w64 (of_z w64 planned)) x stretch.ensures.holds begun long is (λ k after h. omega (arith, ints, fits_planned, c.in-Some.ensures.least k after h)) shows settled)
+    let from = to_z w64 (of_z w64 (second -ℤ pos 172_800)) in
+    let begun : from ≡ (S -ℤ pos 172_800) = carried (second -ℤ pos 172_800) (S -ℤ pos 172_800) (ap (λ (x : ℤ). x -ℤ pos 172_800) is_second) (days_before S 172_800 date (omega arith)) in
+    let behind : to_z w64 (of_z w64 (second +ℤ pos 172_800)) ≡ (S +ℤ pos 172_800) = carried (second +ℤ pos 172_800) (S +ℤ pos 172_800) (ap (λ (x : ℤ). x +ℤ pos 172_800) is_second) (days_behind S 172_800 date (omega arith)) in
+    let until_fits : SFits w64 stretch.result.until = search rules in
+    let until : to_z w64 (of_z w64 stretch.result.until) ≡ stretch.result.until = to_z-of_z w64 stretch.result.until until_fits in
+    let long : (S +ℤ pos 172_800) ≤ℤ stretch.result.until = omega (arith, ints, until, behind, c.if-stretch-second.false) in
+    let local = c.in-Some.local in
+    let is : epoch_second local ≡ (S +ℤ ahead from) = omega (arith, ints, c.in-Some.ensures.value.second, stretch.ensures.offset) in
+    let due = c.in-Some-next_after.ensures in
+    let next : IsNextDue c.args.self.now local c.in-Some-next_after.planned = record { exists = c.date_times_exist-2.ensures; due = due.member; later = due.later; least = due.least } in
+    let held : IsStretch ahead from stretch.result.until = record { holds = stretch.ensures.holds; near = stretch.ensures.near } in
+    IfSome_then c.settled_instant-2.result c.settled_instant-2.ensures (λ d h.
+    next_settled g.Z.TimeZone.ahead c.args.self.now from stretch.result.until start local c.in-Some-next_after.planned d held begun long c.date_times_exist.ensures c.in-Some.ensures.value.exists is next h)

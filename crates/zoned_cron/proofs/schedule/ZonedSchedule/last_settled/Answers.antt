@@ -1,67 +1,96 @@
-use Rattle.std.proofs.Common.{◌≡◌, rules, ℤ, pos, SFits, ◌+ℤ◌, ◌-ℤ◌, ◌≤ℤ◌, ◌<ℤ◌, of_z, to_z, w64, arith, subst, sym, ◌∙◌}
+use Rattle.std.proofs.Common.{◌≡◌, rules, ℤ, pos, SFits, ◌+ℤ◌, ◌-ℤ◌, ◌≤ℤ◌, of_z, to_z, w64, ap, arith, refl, subst, ◌∙◌}
 use Rattle.std.proofs.lemmas.Int.{ints, to_z-of_z}
-use Rattle.chrono_datetime.proofs.Signed.{casts}
-use Rattle.chrono_datetime.specs.Moment.{IsMoment}
-use Rattle.chrono_instant.specs.Instants.{epoch_second}
-use Rattle.chrono_zoned.proofs.SecondSums.{near}
-use Rattle.chrono_zoned.proofs.HeldSecondLemmas.{later_second}
-use Rattle.zoned_cron.specs.Private.{IsPlanned}
-use Rattle.zoned_cron.proofs.Stretches.{all_within, if_three, last_there, planned_at, settled_greatest}
+use Rattle.std.proofs.lemmas.Option.{IfSome_then}
+use Rattle.chrono_instant.specs.Instants.{LiesIn, epoch_second}
+use Rattle.chrono_instant.proofs.InstantLemmas.{IsEpochSecond-moment}
+use Rattle.chrono_zoned.proofs.HeldSecondLemmas.{IsFirstFrom}
+use Rattle.chrono_zoned.proofs.SecondSums.{IsNearDates, carried, fits_by, near, offset_carried}
+use Rattle.zoned_cron.proofs.Carried.{days_before}
+use Rattle.zoned_cron.proofs.Settled.{IsLastDue, IsStretch, last_settled_there}
 use Rattle.zoned_cron.proofs.schedule.ZonedSchedule.last_settled.Goals as goal
 
-pub returns-clause-fires : goal.returns-clause-fires
-returns-clause-fires g c =
-    let s = c.args.self.now.schedule.sets in
-    let ahead = g.Z.TimeZone.ahead c.args.self.now.zone in
-    let p = c.args.self.now.policy in
-    let stop = c.args.end in
-    let here : to_z w64 (of_z w64 stop) ≡ stop = to_z-of_z w64 stop c.ranges.end in
-    let stretch = c.stretch_from-stretch in
-    let from : ℤ = to_z w64 (of_z w64 (to_z w64 (of_z w64 stop) -ℤ pos 172_800)) in
-    let begun : from ≡ (stop -ℤ pos 172_800) = omega (arith, casts, here, c.requires.low, c.requires.high) in
-    let small = near (ahead from) (stretch.ensures.near from) in
-    let o : ℤ = to_z w64 (of_z w64 c.from-ahead.result) in
-    let is_o : o ≡ ahead from = omega (arith, casts, c.from-ahead.ensures, c.local_minus_utc.ensures.value, c.local_minus_utc.ensures.in_range, stretch.ensures.offset) in
-    let until : ℤ = stretch.result.until in
-    let fits : SFits w64 until = search rules in
-    let end : to_z w64 (of_z w64 until) ≡ until = to_z-of_z w64 until fits in
-    let high : stop ≤ℤ until = omega (arith, ints, here, end, c.if-stretch-end.false) in
-    let local : ℤ = to_z w64 (of_z w64 (to_z w64 (of_z w64 stop) +ℤ o)) in
-    let is : local ≡ (stop +ℤ ahead from) = omega (arith, casts, here, c.requires.low, c.requires.high, is_o, small) in
-    let k = c.in-Some.local in
-    let q = c.in-Some-prev_before.planned in
-    let at : to_z w64 (of_z w64 c.timestamp.result) ≡ epoch_second q = to_z-of_z w64 c.timestamp.result (record { sfits = c.timestamp.type_inv }) ∙ c.timestamp.ensures.value in
-    let exists : IsMoment k = c.in-Some.ensures.value.exists in
-    let there = c.settled_instant.ensures in
-    let sooner : epoch_second q <ℤ local = omega (arith, ints, later_second q k c.date_times_exist.ensures c.in-Some-prev_before.ensures.earlier c.in-Some.ensures.value.past, c.in-Some.ensures.value.second) in
-    if_three c.settled_instant.result there.shows there.settled there.exists (λ x shows settled date.
-    last_there s ahead p from until stop local (to_z w64 (of_z w64 c.timestamp.result)) x stretch.ensures.holds begun high is (omega (arith, ints, at, sooner))
-    (subst (λ (l : ℤ). IsPlanned s l) (sym at) (planned_at s q c.date_times_exist.ensures c.in-Some-prev_before.ensures.member)) shows settled date)
+pub overflow_sub-from : goal.overflow_sub-from
+overflow_sub-from g c =
+    let low = c.begun_by-end.ensures.low in
+    let high = c.begun_by-end.ensures.high in
+    let stop = to_z w64 (of_z w64 c.begun_by-end.result) in
+    let fits : stop ≡ c.begun_by-end.result = to_z-of_z w64 c.begun_by-end.result (record { sfits = c.begun_by-end.type_inv }) in
+    let close : IsNearDates (stop -ℤ pos 432_000) = (omega (arith, ints, fits, low), omega (arith, ints, fits, high)) in
+    fits_by (stop -ℤ pos 432_000) (stop -ℤ pos 432_000) refl close
 
-pub returns-clause-greatest : goal.returns-clause-greatest
-returns-clause-greatest g c =
-    let s = c.args.self.now.schedule.sets in
+pub overflow_add-end : goal.overflow_add-end
+overflow_add-end g c =
+    let low = c.begun_by-end.ensures.low in
+    let high = c.begun_by-end.ensures.high in
+    let stop = to_z w64 (of_z w64 c.begun_by-end.result) in
+    let fits : stop ≡ c.begun_by-end.result = to_z-of_z w64 c.begun_by-end.result (record { sfits = c.begun_by-end.type_inv }) in
+    let close : IsNearDates (stop -ℤ pos 432_000) = (omega (arith, ints, fits, low), omega (arith, ints, fits, high)) in
     let ahead = g.Z.TimeZone.ahead c.args.self.now.zone in
-    let p = c.args.self.now.policy in
-    let stop = c.args.end in
-    let here : to_z w64 (of_z w64 stop) ≡ stop = to_z-of_z w64 stop c.ranges.end in
     let stretch = c.stretch_from-stretch in
-    let from : ℤ = to_z w64 (of_z w64 (to_z w64 (of_z w64 stop) -ℤ pos 172_800)) in
-    let begun : from ≡ (stop -ℤ pos 172_800) = omega (arith, casts, here, c.requires.low, c.requires.high) in
+    let from = to_z w64 (of_z w64 (stop -ℤ pos 432_000)) in
     let small = near (ahead from) (stretch.ensures.near from) in
-    let o : ℤ = to_z w64 (of_z w64 c.from-ahead.result) in
-    let is_o : o ≡ ahead from = omega (arith, casts, c.from-ahead.ensures, c.local_minus_utc.ensures.value, c.local_minus_utc.ensures.in_range, stretch.ensures.offset) in
-    let until : ℤ = stretch.result.until in
-    let fits : SFits w64 until = search rules in
-    let end : to_z w64 (of_z w64 until) ≡ until = to_z-of_z w64 until fits in
-    let high : stop ≤ℤ until = omega (arith, ints, here, end, c.if-stretch-end.false) in
-    let local : ℤ = to_z w64 (of_z w64 (to_z w64 (of_z w64 stop) +ℤ o)) in
-    let is : local ≡ (stop +ℤ ahead from) = omega (arith, casts, here, c.requires.low, c.requires.high, is_o, small) in
-    let k = c.in-Some.local in
-    let q = c.in-Some-prev_before.planned in
-    let at : to_z w64 (of_z w64 c.timestamp.result) ≡ epoch_second q = to_z-of_z w64 c.timestamp.result (record { sfits = c.timestamp.type_inv }) ∙ c.timestamp.ensures.value in
-    let exists : IsMoment k = c.in-Some.ensures.value.exists in
-    let there = c.settled_instant.ensures in
-    if_three c.settled_instant.result there.shows there.settled there.exists (λ x shows settled date u before f.
-    settled_greatest s ahead p (to_z w64 (of_z w64 c.timestamp.result)) x u settled shows f
-    (omega (arith, ints, at, all_within s ahead p from until stop local k q stretch.ensures.holds stretch.ensures.near (omega (arith, ints, begun)) high is c.in-Some.ensures.value.second exists c.in-Some-prev_before.ensures.greatest c.date_times_exist.ensures u before f)))
+    let o = to_z w64 (of_z w64 c.from-ahead.result) in
+    let is_o : o ≡ ahead from = offset_carried c.from-ahead.result c.local_minus_utc.result stretch.result.offset (ahead from) c.from-ahead.ensures c.local_minus_utc.ensures.value stretch.ensures.offset (stretch.ensures.near from) in
+    fits_by (stop +ℤ o) (stop +ℤ ahead from) (ap (λ (x : ℤ). stop +ℤ x) is_o) (omega (arith, ints, fits, low, small), omega (arith, ints, fits, high, small))
+
+pub returns-in-Some-settled_instant : goal.returns-in-Some-settled_instant
+returns-in-Some-settled_instant g c =
+    let low = c.begun_by-end.ensures.low in
+    let high = c.begun_by-end.ensures.high in
+    let stop = to_z w64 (of_z w64 c.begun_by-end.result) in
+    let fits : stop ≡ c.begun_by-end.result = to_z-of_z w64 c.begun_by-end.result (record { sfits = c.begun_by-end.type_inv }) in
+    let close : IsNearDates (stop -ℤ pos 432_000) = (omega (arith, ints, fits, low), omega (arith, ints, fits, high)) in
+    let ahead = g.Z.TimeZone.ahead c.args.self.now.zone in
+    let stretch = c.stretch_from-stretch in
+    let from = to_z w64 (of_z w64 (stop -ℤ pos 432_000)) in
+    let begun : from ≡ (stop -ℤ pos 432_000) = carried (stop -ℤ pos 432_000) (stop -ℤ pos 432_000) refl close in
+    let until_fits : SFits w64 stretch.result.until = search rules in
+    let until : to_z w64 (of_z w64 stretch.result.until) ≡ stretch.result.until = to_z-of_z w64 stretch.result.until until_fits in
+    let reach : stop ≤ℤ stretch.result.until = omega (arith, ints, until, c.if-stretch-end.false) in
+    let small = near (ahead from) (stretch.ensures.near from) in
+    let o = to_z w64 (of_z w64 c.from-ahead.result) in
+    let is_o : o ≡ ahead from = offset_carried c.from-ahead.result c.local_minus_utc.result stretch.result.offset (ahead from) c.from-ahead.ensures c.local_minus_utc.ensures.value stretch.ensures.offset (stretch.ensures.near from) in
+    let is : to_z w64 (of_z w64 (stop +ℤ o)) ≡ (stop +ℤ ahead from) = carried (stop +ℤ o) (stop +ℤ ahead from) (ap (λ (x : ℤ). stop +ℤ x) is_o) (omega (arith, ints, fits, low, small), omega (arith, ints, fits, high, small)) in
+    let local = c.in-Some.local in
+    let lies : LiesIn (stop +ℤ ahead from) 0 local = subst (λ (x : ℤ). LiesIn x 0 local) is c.in-Some.ensures.value in
+    let due = c.in-Some-prev_before.ensures in
+    let last : IsLastDue c.args.self.now local c.in-Some-prev_before.planned = record { exists = c.date_times_exist.ensures; due = due.member; earlier = due.earlier; greatest = due.greatest } in
+    let held : IsStretch ahead from stretch.result.until = record { holds = stretch.ensures.holds; near = stretch.ensures.near } in
+    let first : IsFirstFrom stop c.args.end = record { whole = λ e. fits ∙ c.begun_by-end.ensures.whole e; within = λ e. fits ∙ c.begun_by-end.ensures.within e } in
+    let exists = c.begun_by-end.ensures.exists in
+    last_settled_there g.Z.TimeZone.ahead c.args.self.now from stretch.result.until stop c.args.end local c.in-Some-prev_before.planned c.in-Some-settled_instant.found held (omega (arith, ints, begun)) reach first exists lies last c.in-Some-settled_instant.ensures
+
+pub overflow_sub-from-2 : goal.overflow_sub-from-2
+overflow_sub-from-2 g c =
+    let planned = c.in-Some-prev_before.planned in
+    let l = epoch_second planned in
+    let at : to_z w64 (of_z w64 c.timestamp.result) ≡ l = to_z-of_z w64 c.timestamp.result (record { sfits = c.timestamp.type_inv }) ∙ c.timestamp.ensures.value in
+    fits_by (to_z w64 (of_z w64 c.timestamp.result) -ℤ pos 259_200) (l -ℤ pos 259_200) (ap (λ (x : ℤ). x -ℤ pos 259_200) at) (days_before l 259_200 (IsEpochSecond-moment planned c.date_times_exist.ensures) (omega arith))
+
+pub returns : goal.returns
+returns g c =
+    let low = c.begun_by-end.ensures.low in
+    let high = c.begun_by-end.ensures.high in
+    let stop = to_z w64 (of_z w64 c.begun_by-end.result) in
+    let fits : stop ≡ c.begun_by-end.result = to_z-of_z w64 c.begun_by-end.result (record { sfits = c.begun_by-end.type_inv }) in
+    let close : IsNearDates (stop -ℤ pos 432_000) = (omega (arith, ints, fits, low), omega (arith, ints, fits, high)) in
+    let ahead = g.Z.TimeZone.ahead c.args.self.now.zone in
+    let stretch = c.stretch_from-stretch in
+    let from = to_z w64 (of_z w64 (stop -ℤ pos 432_000)) in
+    let begun : from ≡ (stop -ℤ pos 432_000) = carried (stop -ℤ pos 432_000) (stop -ℤ pos 432_000) refl close in
+    let until_fits : SFits w64 stretch.result.until = search rules in
+    let until : to_z w64 (of_z w64 stretch.result.until) ≡ stretch.result.until = to_z-of_z w64 stretch.result.until until_fits in
+    let reach : stop ≤ℤ stretch.result.until = omega (arith, ints, until, c.if-stretch-end.false) in
+    let small = near (ahead from) (stretch.ensures.near from) in
+    let o = to_z w64 (of_z w64 c.from-ahead.result) in
+    let is_o : o ≡ ahead from = offset_carried c.from-ahead.result c.local_minus_utc.result stretch.result.offset (ahead from) c.from-ahead.ensures c.local_minus_utc.ensures.value stretch.ensures.offset (stretch.ensures.near from) in
+    let is : to_z w64 (of_z w64 (stop +ℤ o)) ≡ (stop +ℤ ahead from) = carried (stop +ℤ o) (stop +ℤ ahead from) (ap (λ (x : ℤ). stop +ℤ x) is_o) (omega (arith, ints, fits, low, small), omega (arith, ints, fits, high, small)) in
+    let local = c.in-Some.local in
+    let lies : LiesIn (stop +ℤ ahead from) 0 local = subst (λ (x : ℤ). LiesIn x 0 local) is c.in-Some.ensures.value in
+    let due = c.in-Some-prev_before.ensures in
+    let last : IsLastDue c.args.self.now local c.in-Some-prev_before.planned = record { exists = c.date_times_exist.ensures; due = due.member; earlier = due.earlier; greatest = due.greatest } in
+    let held : IsStretch ahead from stretch.result.until = record { holds = stretch.ensures.holds; near = stretch.ensures.near } in
+    let first : IsFirstFrom stop c.args.end = record { whole = λ e. fits ∙ c.begun_by-end.ensures.whole e; within = λ e. fits ∙ c.begun_by-end.ensures.within e } in
+    let exists = c.begun_by-end.ensures.exists in
+    IfSome_then c.settled_instant-2.result c.settled_instant-2.ensures (λ d h.
+    last_settled_there g.Z.TimeZone.ahead c.args.self.now from stretch.result.until stop c.args.end local c.in-Some-prev_before.planned d held (omega (arith, ints, begun)) reach first exists lies last h)

@@ -10,6 +10,22 @@ use Rattle.zoned_cron.specs.Fires.{Fires, NotFiringAfter, NotFiringBetween}
 use Rattle.zoned_cron.proofs.Windows.{exists_there}
 use Rattle.zoned_cron.proofs.schedule.ZonedSchedule.next_after.Goals as goal
 
+pub returns-in-Some-clause-fires : goal.returns-in-Some-clause-fires
+returns-in-Some-clause-fires g c = c.in-Some.ensures.0
+
+pub returns-in-Some-clause-zone : goal.returns-in-Some-clause-zone
+returns-in-Some-clause-zone g c = c.in-Some.ensures.1
+
+pub returns-in-Some-clause-later : goal.returns-in-Some-clause-later
+returns-in-Some-clause-later g c = subst (λ (m : Moment). IsBefore m c.in-Some.found.utc) c.naive_utc-utc.ensures c.in-Some.ensures.2
+
+pub returns-in-Some-clause-least : goal.returns-in-Some-clause-least
+returns-in-Some-clause-least g c =
+    let s = c.args.self.now.schedule.sets in
+    let ahead = g.Z.TimeZone.ahead c.args.self.now.zone in
+    let p = c.args.self.now.policy in
+    subst (λ (m : Moment). NotFiringBetween s ahead p m c.in-Some.found.utc) c.naive_utc-utc.ensures c.in-Some.ensures.3
+
 pub returns-in_err-first_after-clause-none : goal.returns-in_err-first_after-clause-none
 returns-in_err-first_after-clause-none g c =
     let s = c.args.self.now.schedule.sets in

@@ -1,34 +1,21 @@
-use Rattle.std.proofs.Common.{◌≡◌, rules, ◌/◌, ◌%◌, true, false, arith}
-use Rattle.zoned_rules.specs.LocalTimes.{names_number}
-use Rattle.zoned_rules.proofs.ListedTimes.{all_three, no_hour, no_minute, no_second}
+use Rattle.std.proofs.Common.{◌≡◌, rules, arith}
+use Rattle.chrono_datetime.proofs.Signed.{casts}
+use Rattle.zoned_rules.proofs.CountedUnits.{behind-ahead, interval_units-some, unit_number-rises}
+use Rattle.zoned_rules.proofs.ListedTimes.{counted_and_listed, not_counted, not_listed}
 use Rattle.zoned_rules.proofs.local_rule.LocalRule.time_from.Goals as goal
 
-pub returns-then-not-names_number-clause-passed : goal.returns-then-not-names_number-clause-passed
-returns-then-not-names_number-clause-passed c =
+pub returns-then-units_behind-gt0-clause-passed : goal.returns-then-units_behind-gt0-clause-passed
+returns-then-units_behind-gt0-clause-passed c = λ k low high.
     let r = c.args.self.now in
-    let n = c.args.second in
-    let off : names_number r.times.hours (r.start.time.second / 3_600) (n / 3_600) ≡ false = search rules in
-    λ k low high. no_hour r.times r.start.time.second n k off (omega (arith, low, high))
-
-pub returns-then-not-names_number-2-clause-passed : goal.returns-then-not-names_number-2-clause-passed
-returns-then-not-names_number-2-clause-passed c =
-    let r = c.args.self.now in
-    let n = c.args.second in
-    let off : names_number r.times.minutes (r.start.time.second / 60 % 60) (n / 60 % 60) ≡ false = search rules in
-    λ k low high. no_minute r.times r.start.time.second n k off (omega (arith, low, high))
-
-pub returns-then-not-names_number-3-clause-passed : goal.returns-then-not-names_number-3-clause-passed
-returns-then-not-names_number-3-clause-passed c =
-    let r = c.args.self.now in
-    let n = c.args.second in
-    let off : names_number r.times.seconds (r.start.time.second % 60) (n % 60) ≡ false = search rules in
-    λ k low high. no_second r.times r.start.time.second n k off (omega (arith, low, high))
+    let n = c.args.date in
+    let j = c.args.second in
+    let is_unit : c.self.inside.steps.unit ≡ r.steps.unit = search rules in
+    not_counted r n k
+    (behind-ahead r n n j k (interval_units-some r.steps) (omega (arith, c.units_behind.ensures.value)) (unit_number-rises r.steps.unit n j k low)
+    (omega (arith, casts, rw is_unit at (c.later_unit.ensures.passed n k high), c.units_to_next.ensures.value, c.units_to_next.ensures.some, c.units_to_next.ensures.few)))
 
 pub returns-clause-time : goal.returns-clause-time
-returns-clause-time c =
-    let r = c.args.self.now in
-    let n = c.args.second in
-    let a : names_number r.times.hours (r.start.time.second / 3_600) (n / 3_600) ≡ true = search rules in
-    let b : names_number r.times.minutes (r.start.time.second / 60 % 60) (n / 60 % 60) ≡ true = search rules in
-    let d : names_number r.times.seconds (r.start.time.second % 60) (n % 60) ≡ true = search rules in
-    λ e. all_three r.times r.start.time.second n a b d
+returns-clause-time c = λ e. counted_and_listed c.args.self.now c.args.date c.args.second (omega (arith, c.units_behind.ensures.value)) (c.listed_from.ensures.time e)
+
+pub returns-clause-passed : goal.returns-clause-passed
+returns-clause-passed c = λ k low high. not_listed c.args.self.now c.args.date k (c.listed_from.ensures.passed k low high)

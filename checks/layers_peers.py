@@ -1,0 +1,157 @@
+#!/usr/bin/env python3
+"""Holds the schedules of libcalendar_layers to those of croniter, and its open days to those of numpy.
+
+    /usr/bin/python3 checks/layers_peers.py [CASES [SEED]]
+
+It needs crates/layers_c/out/liblayers_c.a, which `rt lib` leaves there, a C compiler, croniter and numpy. The static library becomes
+a shared one, which is called by ctypes. Each case is a generated schedule and a start: 20,000 cases, or so many. The next and the last moment have to be croniter's. Left out is what the two read otherwise: a field of days that begins with `*`
+and has a step, or lists all its numbers. So is what croniter 1.3 does not find: 29 February backwards, and a day in more than 50
+years or in a month that is too short for the days listed. As many cases count and move open days by generated weekends and holidays.
+"""
+import ctypes
+import datetime
+import os
+import random
+import subprocess
+import sys
+import tempfile
+
+try:
+    import croniter
+    import numpy
+except ImportError:
+    print("not run: there is no croniter or no numpy\n0 passed, 1 failed")
+    sys.exit(1)
+
+TOP = os.path.dirname(os.path.dirname(os.path.abspath(__file__)))
+LIBRARY = f"{TOP}/crates/layers_c/out/liblayers_c.a"
+EPOCH = datetime.datetime(1970, 1, 1)
+RANGES = ((0, 59), (0, 23), (1, 31), (1, 12), (0, 6))
+
+
+class Moment(ctypes.Structure):
+    """A calendar_date_time."""
+
+    _fields_ = [("seconds", ctypes.c_int64), ("nanos", ctypes.c_uint32)]
+
+
+class Schedule(ctypes.Structure):
+    """A calendar_schedule."""
+
+    _fields_ = [(f"set_{k}", ctypes.c_uint64) for k in range(10)]
+
+
+class Fault(ctypes.Structure):
+    """A calendar_fault."""
+
+    _fields_ = [("code", ctypes.c_uint32), ("field", ctypes.c_uint32), ("byte", ctypes.c_size_t), ("end", ctypes.c_size_t)]
+
+
+def load(room):
+    """The library as a shared one."""
+    shared = f"{room}/layers.so"
+    words = ["cc", "-shared", "-nostartfiles", "-Wl,--whole-archive", LIBRARY, "-Wl,--no-whole-archive", "-o", shared]
+    subprocess.run(words, check=True)
+    library = ctypes.CDLL(shared)
+    for name in ("next", "prev"):
+        function = getattr(library, f"calendar_schedule_{name}")
+        function.restype, function.argtypes = Moment, [ctypes.POINTER(Schedule), Moment]
+    library.calendar_schedule_read.restype = ctypes.c_bool
+    return library
+
+
+def apart(numbers, low, high):
+    """Two numbers of a field in order, but not its first and its last."""
+    first, last = sorted((numbers.randint(low, high), numbers.randint(low, high)))
+    return first, last - ((first, last) == (low, high))
+
+
+def is_left_out(theirs, ours, name):
+    """Whether croniter does not find what it should."""
+    day = EPOCH + datetime.timedelta(seconds=ours.seconds)
+    return theirs is None or (name == "prev" and (day.month, day.day) == (2, 29))
+
+
+def field(numbers, low, high, is_day):
+    """A field: `*`, a number, a range, a list or a step."""
+    one = lambda: numbers.randint(low, high)  # noqa: E731
+    kind = numbers.randrange(6)
+    if kind < 2:
+        return "*"
+    if kind == 2:
+        return str(one())
+    if kind == 3:
+        first, last = apart(numbers, low, high)
+        return f"{first}-{last}"
+    if kind == 4:
+        return ",".join(str(one()) for _ in range(numbers.randint(2, 4)))
+    first, last = apart(numbers, low, high)
+    return f"{first}-{last}/{numbers.randint(1, 5)}" if is_day or numbers.randrange(2) else f"*/{numbers.randint(1, high)}"
+
+
+def peer(text, start, name):
+    """Croniter's answer in seconds since 1970, or None."""
+    try:
+        found = getattr(croniter.croniter(text, start), f"get_{name}")(datetime.datetime)
+    except croniter.CroniterBadDateError:
+        return None
+    return int((found - EPOCH).total_seconds())
+
+
+def test_open_days(library, numbers, cases):
+    """Counts and moves of open days beside numpy's; how many passed and failed."""
+    passed = failed = 0
+    library.calendar_open_days_between.restype = ctypes.c_int64
+    for _ in range(cases):
+        weekend = numbers.choice((96, 96, 64, 0, numbers.randrange(127)))
+        mask = [not weekend >> k & 1 for k in range(7)]
+        days = numpy.unique(numpy.array([numbers.randrange(10_000, 30_000) for _ in range(numbers.randrange(60))], "M8[D]"))
+        calendar = numpy.busdaycalendar(mask, days)
+        holidays = (calendar.holidays.astype("i8") + 719_163).astype("i4")
+        given = weekend, holidays.ctypes.data_as(ctypes.c_void_p), ctypes.c_size_t(len(holidays))
+        first, last = (numpy.datetime64(it, "D") for it in sorted(numbers.randrange(10_000, 30_000) for _ in range(2)))
+        moved, n = numpy.busday_offset(first, 0, "forward", busdaycal=calendar), numbers.randrange(-400, 400)
+        theirs = int(numpy.busday_offset(moved, n, busdaycal=calendar).astype("i8")) + 719_163
+        start = int(moved.astype("i8")) + 719_163
+        is_moved = library.calendar_add_open_days(*given, start, ctypes.c_int64(n)) == theirs
+        ends = (int(it.astype("i8")) + 719_163 for it in (first, last))
+        count = library.calendar_open_days_between(*given, *ends)
+        is_same = is_moved and count == numpy.busday_count(first, last, busdaycal=calendar)
+        passed, failed = passed + is_same, failed + (not is_same)
+        if not is_same and failed < 10:
+            print(f"weekend {weekend}, {len(holidays)} holidays: {start} and {n}, or {first} to {last}")
+    print(f"open days: {passed} passed, {failed} failed")
+    return passed, failed
+
+
+def main():
+    cases = int(sys.argv[1]) if len(sys.argv) > 1 else 20_000
+    numbers = random.Random(int(sys.argv[2]) if len(sys.argv) > 2 else 1)
+    passed = failed = none = 0
+    with tempfile.TemporaryDirectory(prefix="layers-peers-") as room:
+        library = load(room)
+        for _ in range(cases):
+            text = " ".join(field(numbers, low, high, place in (2, 4)) for place, (low, high) in enumerate(RANGES))
+            start = EPOCH + datetime.timedelta(seconds=numbers.randrange(10**9, 3 * 10**9))
+            schedule, fault = Schedule(), Fault()
+            is_read = library.calendar_schedule_read(text.encode(), len(text), ctypes.byref(schedule), ctypes.byref(fault))
+            for name in ("next", "prev"):
+                at = Moment(int((start - EPOCH).total_seconds()), 0)
+                ours = getattr(library, f"calendar_schedule_{name}")(ctypes.byref(schedule), at)
+                theirs = peer(text, start, name)
+                if is_left_out(theirs, ours, name):
+                    none += 1
+                    continue
+                is_same = is_read and ours.nanos == 0 and ours.seconds == theirs
+                passed, failed = passed + is_same, failed + (not is_same)
+                if not is_same and failed < 10:
+                    print(f"{text}: {name} of {start} is {EPOCH + datetime.timedelta(seconds=ours.seconds)}, croniter has {theirs}")
+        print(f"schedules: {passed} passed, {failed} failed, {none} answers were left out")
+        more = test_open_days(library, numbers, cases)
+        passed, failed = passed + more[0], failed + more[1]
+    print(f"{passed} passed, {failed} failed")
+    return 1 if failed else 0
+
+
+if __name__ == "__main__":
+    sys.exit(main())

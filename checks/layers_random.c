@@ -1,0 +1,216 @@
+/* Calls each function of calendar_layers.h with random arguments, and holds the answers to one another. The seed is the first
+ * word of the command line, the number of rounds the second. The last line is `N passed, M failed`. */
+#include "calendar_layers.h"
+
+#include <stdio.h>
+#include <stdlib.h>
+#include <string.h>
+
+static int passed, failed;
+static uint64_t state;
+
+static void count(bool is_right, int line)
+{
+    if (is_right) {
+        passed++;
+    } else {
+        failed++;
+        printf("line %d\n", line);
+    }
+}
+
+#define HOLDS(claim) count(claim, __LINE__)
+
+/* A number of all 64-bit numbers (xorshift). */
+static uint64_t any(void)
+{
+    state ^= state << 13;
+    state ^= state >> 7;
+    state ^= state << 17;
+    return state;
+}
+
+/* Bytes of their own, so that a tool sees each one read or written beyond them. */
+static uint8_t *bytes(size_t length)
+{
+    uint8_t *made = (uint8_t *)malloc(length ? length : 1);
+    for (size_t i = 0; i < length; i++) {
+        made[i] = (uint8_t)any();
+    }
+    return made;
+}
+
+/* A text of letters that stand in texts of schedules and rules. */
+static uint8_t *text(size_t length)
+{
+    static const char letters[] = "0123456789***,,--//  @LW#monjanfri;=FREQDAILYBYTX.%:YmdHMS";
+    uint8_t *made = bytes(length);
+    for (size_t i = 0; i < length; i++) {
+        made[i] = (uint8_t)letters[any() % (sizeof letters - 1)];
+    }
+    return made;
+}
+
+static void fill(void *place, size_t length)
+{
+    uint8_t *made = bytes(length);
+    memcpy(place, made, length);
+    free(made);
+}
+
+/* A date-time of the calendar, or now and then any two numbers. */
+static calendar_date_time moment(void)
+{
+    calendar_date_time made = {(int64_t)any(), (uint32_t)any()};
+    if (any() % 8) {
+        made.seconds = (int64_t)(any() % 16544868105599u) - 8334601228800;
+        made.nanos = any() % 2 ? 0 : (uint32_t)(any() % 1000000000);
+    }
+    return made;
+}
+
+static bool is_before(calendar_date_time a, calendar_date_time b)
+{
+    return a.seconds < b.seconds || (a.seconds == b.seconds && a.nanos < b.nanos);
+}
+
+static bool is_moment(calendar_date_time a)
+{
+    bool has_seconds = -8334601228800 <= a.seconds && a.seconds <= 8210266876799;
+    int64_t second = ((a.seconds % 60) + 60) % 60;
+    return has_seconds && (a.nanos < 1000000000 || (a.nanos < 2000000000 && second == 59));
+}
+
+static void schedule_texts(void)
+{
+    size_t length = any() % 24;
+    uint8_t *given = text(length);
+    calendar_schedule schedule, before;
+    calendar_fault fault = {0, 0, 0, 0};
+    fill(&schedule, sizeof schedule);
+    before = schedule;
+    if (calendar_schedule_read(given, length, &schedule, &fault)) {
+        HOLDS(fault.code == 0);
+    } else {
+        HOLDS(memcmp(&schedule, &before, sizeof schedule) == 0);
+        HOLDS(fault.byte <= fault.end && fault.end <= length);
+        uint8_t *said = bytes(99);
+        HOLDS(calendar_schedule_fault_text(&fault, said, 99) > 0);
+        free(said);
+    }
+    free(given);
+    fill(&fault, sizeof fault);
+    fault.code = (uint32_t)(any() % 20);
+    size_t room = any() % 100;
+    uint8_t *said = bytes(room);
+    int32_t written = calendar_schedule_fault_text(&fault, said, room);
+    HOLDS(written == CALENDAR_NONE || (written > 0 && (size_t)written <= room));
+    free(said);
+}
+
+static void schedules(void)
+{
+    calendar_schedule schedule;
+    fill(&schedule, sizeof schedule);
+    if (any() % 2) {
+        /* (a seldom one) */
+        schedule.minutes &= any() & any() & any();
+        schedule.hours &= any() & any() & any();
+        schedule.days &= any() & any() & any();
+        schedule.months &= any() & any();
+    }
+    calendar_date_time start = moment(), until = moment();
+    calendar_date_time next = calendar_schedule_next(&schedule, start), last = calendar_schedule_prev(&schedule, start);
+    HOLDS(!is_moment(next) || (is_before(start, next) && calendar_schedule_is_due(&schedule, next)));
+    HOLDS(!is_moment(last) || (is_before(last, start) && calendar_schedule_is_due(&schedule, last)));
+    HOLDS(is_moment(start) || (!is_moment(next) && !is_moment(last)));
+    size_t room = any() % 9;
+    calendar_date_time *out = (calendar_date_time *)malloc((room ? room : 1) * sizeof *out);
+    size_t written = calendar_schedule_due(&schedule, start, until, out, room);
+    HOLDS(written <= room);
+    calendar_date_time at = start;
+    size_t found = 0;
+    while (is_moment(start) && is_moment(until) && found < room) {
+        at = calendar_schedule_next(&schedule, at);
+        if (!is_moment(at) || is_before(until, at) || found >= written || out[found].seconds != at.seconds || out[found].nanos != at.nanos) {
+            break;
+        }
+        found++;
+    }
+    HOLDS(found == written);
+    free(out);
+}
+
+/* A date of the calendar, or now and then any number. */
+static int32_t date(void)
+{
+    return any() % 8 ? (int32_t)(any() % 191491529) - 95746129 : (int32_t)any();
+}
+
+/* Holidays as they should be: some of the workdays from a date on, and now and then a wrong one. */
+static size_t holidays(uint8_t weekend, int32_t *days, size_t room)
+{
+    int64_t day = date();
+    size_t count = 0;
+    while (count < room && any() % 16) {
+        day += 1 + (int64_t)(any() % 40);
+        /* (day 1 is a Monday) */
+        int64_t place = (((day - 1) % 7) + 7) % 7;
+        if (!(weekend >> place & 1) || any() % 64 == 0) {
+            days[count++] = (int32_t)day;
+        }
+    }
+    return count;
+}
+
+static void open_days(void)
+{
+    uint8_t weekend = any() % 2 ? 96 : (uint8_t)any();
+    size_t room = any() % 40;
+    int32_t *days = (int32_t *)malloc((room ? room : 1) * sizeof *days);
+    size_t length = holidays(weekend, days, room);
+    int32_t near = length ? (int32_t)((int64_t)days[any() % length] + (int64_t)(any() % 9) - 4) : date();
+    int64_t n = any() % 8 ? (int64_t)(any() % 400) - 200 : (int64_t)any();
+    int32_t moved = calendar_add_open_days(weekend, days, length, near, n);
+    HOLDS(moved == CALENDAR_NONE || calendar_is_open_day(weekend, days, length, moved));
+    if (moved != CALENDAR_NONE && calendar_is_open_day(weekend, days, length, near)) {
+        HOLDS(calendar_open_days_between(weekend, days, length, near, moved) == n);
+    }
+    for (uint32_t roll = 0; roll < 9; roll++) {
+        int32_t rolled = calendar_roll(weekend, days, length, near, roll);
+        HOLDS(rolled == CALENDAR_NONE || roll == CALENDAR_ROLL_UNADJUSTED || calendar_is_open_day(weekend, days, length, rolled));
+    }
+    free(days);
+}
+
+static void day_counts(void)
+{
+    int32_t from = date(), to = date();
+    uint32_t kind = (uint32_t)(any() % 6);
+    calendar_fraction on = calendar_day_count(kind, from, to), back = calendar_day_count(kind, to, from);
+    HOLDS(on.denominator == back.denominator);
+    HOLDS(kind > CALENDAR_ACTUAL_365_FIXED || on.numerator == -back.numerator);
+}
+
+static void versions(void)
+{
+    size_t room = any() % 9;
+    uint8_t *said = bytes(room);
+    HOLDS((calendar_version(said, room) == CALENDAR_NONE) == (room < strlen(CALENDAR_VERSION)));
+    free(said);
+}
+
+int main(int count_of_words, char **words)
+{
+    state = count_of_words > 1 ? strtoull(words[1], NULL, 10) : 1;
+    long rounds = count_of_words > 2 ? strtol(words[2], NULL, 10) : 1000;
+    for (long i = 0; i < rounds; i++) {
+        versions();
+        schedule_texts();
+        schedules();
+        open_days();
+        day_counts();
+    }
+    printf("%d passed, %d failed\n", passed, failed);
+    return failed != 0;
+}

@@ -1,0 +1,5 @@
+mod FoldLemmas
+mod FoldBack
+mod TimesBack
+mod PieceLemmas
+mod PutLemmas

@@ -1,0 +1,9 @@
+pub mod CalendarTexts
+pub mod CalendarTimes
+pub mod Folds
+pub mod Lines
+pub mod Puts
+pub mod Reads
+pub mod TextParts
+pub mod TimeLists
+pub mod WrittenCalendars

@@ -1,0 +1,35 @@
+use Rattle.std.proofs.Common.{◌∙◌, sym, subst, ℤ, Option, IfSome, FitsSigned, rules, w32, to_z, of_z}
+use Rattle.std.proofs.lemmas.Int.{to_z-of_z}
+use Rattle.chrono_calendar.proofs.NamedDates.{date_of_day-number, none-date_of_day}
+use Rattle.chrono_calendar.specs.Days.{IsDate}
+use Rattle.chrono_text.proofs.AnswerLemmas.{the_one}
+use Rattle.chrono_business.specs.Rolls.{RollsTo}
+use Rattle.chrono_business.specs.declared.roll.Roll.{Roll}
+use Rattle.layers_c.specs.OpenDays.{closed_from_c}
+use Rattle.layers_c.proofs.FoundNumbers.{found-holds, none-holds}
+use Rattle.layers_c.proofs.open_days.calendar_roll.Goals as goal
+
+pub returns-in-Some-date_of-clause-rolled : goal.returns-in-Some-date_of-clause-rolled
+returns-in-Some-date_of-clause-rolled c =
+    let fits : FitsSigned w32 c.number_or_none.result = search rules in
+    let number = to_z-of_z w32 c.number_or_none.result fits in
+    let day = (date_of_day-number c.in-Some-date_of.date c.args.date (sym (rw (to_z-of_z w32 c.args.date c.ranges.date) at c.in-Some-date_of.ensures.date))).1 in
+    let rolled = rw (c.in-Some.ensures.calendar, ← day) at c.roll.ensures.rolled in
+    λ some.
+    subst (λ (o : Option Roll). IfSome o (λ r. RollsTo (closed_from_c c.args.weekend c.args.holidays.now) r c.args.date (to_z w32 (of_z w32 c.number_or_none.result)))) c.in-Some-roll_of.ensures
+    (found-holds c.roll.result (RollsTo (closed_from_c c.args.weekend c.args.holidays.now) c.in-Some-roll_of.roll c.args.date) _ (number ∙ c.number_or_none.ensures.number) rolled some)
+
+pub returns-in-Some-date_of-clause-none : goal.returns-in-Some-date_of-clause-none
+returns-in-Some-date_of-clause-none c =
+    let fits : FitsSigned w32 c.number_or_none.result = search rules in
+    let number = to_z-of_z w32 c.number_or_none.result fits in
+    let day = (date_of_day-number c.in-Some-date_of.date c.args.date (sym (rw (to_z-of_z w32 c.args.date c.ranges.date) at c.in-Some-date_of.ensures.date))).1 in
+    let unrolled = rw (c.in-Some.ensures.calendar, ← day) at c.roll.ensures.none in
+    λ r none numbered _ _.
+    subst (λ (r : Roll). (e : ℤ) → IsDate e → RollsTo (closed_from_c c.args.weekend c.args.holidays.now) r c.args.date e → ⊥) (the_one _ _ _ c.in-Some-roll_of.ensures numbered)
+    (none-holds c.roll.result ((e : ℤ) → IsDate e → RollsTo (closed_from_c c.args.weekend c.args.holidays.now) c.in-Some-roll_of.roll c.args.date e → ⊥) _
+    (number ∙ c.number_or_none.ensures.number) c.roll.ensures.exists unrolled none)
+
+pub returns-in-None-clause-none : goal.returns-in-None-clause-none
+returns-in-None-clause-none c =
+    λ r _ _ _ date. absurd (none-date_of_day c.args.date (rw (to_z-of_z w32 c.args.date c.ranges.date) at c.in-None.ensures.date) date)

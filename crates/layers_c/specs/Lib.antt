@@ -1,0 +1,5 @@
+pub mod DayCounts
+pub mod Faults
+pub mod NumberSets
+pub mod OpenDays
+pub mod Schedules

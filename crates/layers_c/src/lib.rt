@@ -1,0 +1,17 @@
+//! The layers for C: a static library of schedules, rules, open days, patterns and zones.
+//!
+//! Each function accepts all values of its argument types. It takes no memory, and keeps nothing between calls. A date is its day
+//! number, and a date-time is a `CalendarDateTime`, as in `calendar_c`. Each function states its result by the definitions of the
+//! crates below. `languages/c/calendar_layers.h` declares it.
+#![tactic(auto)]
+
+mod day_counts;
+mod faults;
+mod number_sets;
+mod open_days;
+mod part_end;
+mod schedule_faults;
+mod schedule_numbers;
+mod schedule_texts;
+mod schedules;
+mod versions;

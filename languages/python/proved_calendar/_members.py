@@ -1,0 +1,225 @@
+"""Members of Date, DateTime and Duration that are written in Python: the clock, and formats by the C library's strftime.
+
+What a date is called comes from the proved functions; nothing else here is proved. Each class below gives its members to the type
+of its name.
+"""
+import datetime
+import re
+import time as c_time
+from collections.abc import Callable
+from typing import Any
+
+from . import _calendar
+from ._texts import iso_text_of_duration, nanoseconds_of_text, ratio_of, rounded
+from .time_of_day import Time
+
+_DAYS = ("Mon", "Tue", "Wed", "Thu", "Fri", "Sat", "Sun")
+_MONTHS = ("Jan", "Feb", "Mar", "Apr", "May", "Jun", "Jul", "Aug", "Sep", "Oct", "Nov", "Dec")
+_EPOCH = _calendar.DateTime(1970, 1, 1)
+
+# Directives that C's library lacks, or that it writes otherwise for some years.
+_OWN = re.compile("%([%fzZYGyCF])")
+
+
+def _microseconds(timestamp: Any) -> int:
+    """The whole microseconds of a POSIX timestamp, rounded as datetime does."""
+    over, under = ratio_of(timestamp)
+    return rounded(over * 10**6, under)
+
+
+def _local(timestamp: Any) -> tuple[c_time.struct_time, int]:
+    """The local time of a POSIX timestamp, and the microseconds after it."""
+    seconds, microseconds = divmod(_microseconds(timestamp), 10**6)
+    return c_time.localtime(seconds), microseconds
+
+
+def _year_text(year: int) -> str:
+    return f"{year:04}" if 0 <= year <= 9999 else f"{year:+05}"
+
+
+# The text of each of them for a date and a fraction of a second.
+_DIRECTIVES: dict[str, Callable[[Any, int], str]] = {
+    "%": lambda date, fraction: "%%", "f": lambda date, fraction: f"{fraction // 1_000:06}",
+    "z": lambda date, fraction: "", "Z": lambda date, fraction: "",
+    "Y": lambda date, fraction: _year_text(date.year), "G": lambda date, fraction: _year_text(date.isocalendar().year),
+    "y": lambda date, fraction: f"{date.year % 100:02}", "C": lambda date, fraction: f"{date.year // 100:02}",
+    "F": lambda date, fraction: f"{_year_text(date.year)}-{date.month:02}-{date.day:02}",
+}
+
+
+def _formatted(date: Any, format: str, fraction: int) -> str:
+    """The text of a date or date-time by a format of time.strftime."""
+    if not isinstance(format, str):
+        raise TypeError(f"a format must be str, not {type(format).__name__}")
+
+    moment: c_time.struct_time = date.timetuple()
+    return c_time.strftime(_OWN.sub(lambda found: _DIRECTIVES[found[1]](date, fraction), format), moment)
+
+
+def _named(date: Any, clock: tuple[int, int, int]) -> c_time.struct_time:
+    ordinal = _calendar.Date.fromordinal(date.toordinal()).ordinal
+    return c_time.struct_time((date.year, date.month, date.day, *clock, date.weekday(), ordinal, -1))
+
+
+def _shown(date: Any, clock: str) -> str:
+    return f"{_DAYS[date.weekday()]} {_MONTHS[date.month - 1]} {date.day:2} {clock} {_year_text(date.year)}"
+
+
+class Date:
+    @classmethod
+    def today(cls: Any) -> Any:
+        """Returns the local date of today."""
+        return cls.fromtimestamp(c_time.time())
+
+    @classmethod
+    def fromtimestamp(cls: Any, timestamp: Any, /) -> Any:
+        """Returns the local date of a POSIX timestamp."""
+        local, _ = _local(timestamp)
+        return cls(local.tm_year, local.tm_mon, local.tm_mday)
+
+    def timetuple(self) -> c_time.struct_time:
+        """Returns the date as a time.struct_time, at midnight."""
+        return _named(self, (0, 0, 0))
+
+    def ctime(self) -> str:
+        """Returns the date as C's ctime writes it.
+
+        >>> Date(2024, 2, 29).ctime()
+        'Thu Feb 29 00:00:00 2024'
+        """
+        return _shown(self, "00:00:00")
+
+    def strftime(self, format: str, /) -> str:
+        """Returns the date as a format of time.strftime says. %Y has at least four digits, and a sign outside 0 to 9999.
+
+        >>> Date(2024, 2, 29).strftime('%d/%m/%Y')
+        '29/02/2024'
+        """
+        return _formatted(self, format, 0)
+
+
+class DateTime:
+    @classmethod
+    def fromordinal(cls: Any, number: Any, /) -> Any:
+        """Returns midnight of the date with this day number."""
+        return cls(_calendar.Date.fromordinal(number))
+
+    @classmethod
+    def fromisocalendar(cls: Any, year: Any, week: Any, day: Any) -> Any:
+        """Returns midnight of the date of an ISO year, week and weekday."""
+        return cls(_calendar.Date.from_iso_week(year, week, day))
+
+    @classmethod
+    def combine(cls: Any, date: Any, time: Any) -> Any:
+        """Returns the date-time of a date, or of the date of a date-time, and a Time.
+
+        >>> DateTime.combine(Date(2024, 2, 29), Time(12, 30)) == DateTime(2024, 2, 29, 12, 30)
+        True
+        """
+        if isinstance(date, _calendar.DateTime):
+            date = date.date
+        if not isinstance(date, _calendar.Date):
+            raise TypeError(f"a Date is wanted, not {type(date).__name__}")
+        if not isinstance(time, Time):
+            raise TypeError(f"a Time is wanted, not {type(time).__name__}")
+        return cls(date, time.hour, time.minute, time.second, nanosecond=time.nanosecond)
+
+    @classmethod
+    def now(cls: Any) -> Any:
+        """Returns the local time of now, in whole microseconds."""
+        return cls.fromtimestamp(c_time.time())
+
+    @classmethod
+    def today(cls: Any) -> Any:
+        """The same as now, by another name of datetime's."""
+        return cls.now()
+
+    @classmethod
+    def utcnow(cls: Any) -> Any:
+        """Returns the time of now in UTC, in whole microseconds."""
+        return cls.utcfromtimestamp(c_time.time())
+
+    @classmethod
+    def fromtimestamp(cls: Any, timestamp: Any, /) -> Any:
+        """Returns the local time of a POSIX timestamp, rounded to a microsecond."""
+        local, microseconds = _local(timestamp)
+        clock = local.tm_hour, local.tm_min, min(local.tm_sec, 59)
+        return cls(_calendar.Date(local.tm_year, local.tm_mon, local.tm_mday), *clock, microsecond=microseconds)
+
+    @classmethod
+    def utcfromtimestamp(cls: Any, timestamp: Any, /) -> Any:
+        """Returns the time in UTC of a POSIX timestamp, rounded to a microsecond."""
+        moment = _EPOCH + _calendar.Duration(microseconds=_microseconds(timestamp))
+        return cls(moment.date, moment.hour, moment.minute, moment.second, moment.nanosecond)
+
+    @classmethod
+    def strptime(cls: Any, text: str, format: str, /) -> Any:
+        """Returns the date-time that datetime.datetime.strptime reads, in the years 1 to 9999."""
+        return cls.from_datetime(datetime.datetime.strptime(text, format))
+
+    @property
+    def time(self: Any) -> Time:
+        """The time of day."""
+        return Time(self.hour, self.minute, self.second, nanosecond=self.nanosecond)
+
+    def timetuple(self: Any) -> c_time.struct_time:
+        """Returns the date-time as a time.struct_time."""
+        return _named(self, (self.hour, self.minute, self.second))
+
+    def timestamp(self: Any) -> float:
+        """Returns the POSIX timestamp of this local time; of a time that comes twice, the one that C's mktime takes."""
+        nanosecond: int = self.nanosecond
+        return (int(c_time.mktime(self.timetuple())) * 10**9 + nanosecond) / 10**9
+
+    def ctime(self: Any) -> str:
+        """Returns the date-time as C's ctime writes it."""
+        return _shown(self, f"{self.hour:02}:{self.minute:02}:{self.second:02}")
+
+    def strftime(self: Any, format: str, /) -> str:
+        """Returns the date-time as a format of time.strftime says. %f has six digits, and %z and %Z are empty.
+
+        >>> DateTime(2024, 2, 29, 12, 30).strftime('%H.%M on %d %b')
+        '12.30 on 29 Feb'
+        """
+        return _formatted(self, format, self.nanosecond)
+
+
+class Duration:
+    @classmethod
+    def fromisoformat(cls: Any, text: str, /) -> Any:
+        """Returns the duration of an ISO 8601 text of weeks, days, hours, minutes and seconds.
+
+        >>> Duration.fromisoformat('P1DT2H0.5S') == Duration(hours=26, milliseconds=500)
+        True
+        """
+        if not isinstance(text, str):
+            raise TypeError(f"a str is wanted, not {type(text).__name__}")
+        return cls.from_nanoseconds(nanoseconds_of_text(text))
+
+    def isoformat(self) -> str:
+        """Returns the duration by ISO 8601, with the sign in front of it.
+
+        >>> Duration(hours=-26, milliseconds=-500).isoformat()
+        '-P1DT2H0.500S'
+        """
+        return iso_text_of_duration(self)
+
+    def total_seconds(self: Any) -> float:
+        """Returns the length in seconds, as the nearest float."""
+        whole: int = self.nanoseconds
+        return whole / 10**9
+
+
+def _extend(kind: type, members: type, first: Any, last: Any, resolution: Any) -> None:
+    """Gives a type the members of a class here, and its ends and resolution."""
+    ends = {"min": first, "max": last, "resolution": resolution}
+    own = {name: it for name, it in vars(members).items() if not name.startswith("__")}
+    for name, it in {**own, **ends}.items():
+        _calendar.extend(kind, name, it)
+
+
+_FIRST_DAY, _LAST_DAY, _LONGEST = _calendar.Date.MIN, _calendar.Date.MAX, _calendar.Duration(milliseconds=2**63 - 1)
+_NANOSECOND = _calendar.Duration(nanoseconds=1)
+_extend(_calendar.Date, Date, _FIRST_DAY, _LAST_DAY, _calendar.Duration(days=1))
+_extend(_calendar.DateTime, DateTime, _calendar.DateTime(_FIRST_DAY), _calendar.DateTime(_LAST_DAY, 23, 59, 59, 999_999_999), _NANOSECOND)
+_extend(_calendar.Duration, Duration, -_LONGEST, _LONGEST, _NANOSECOND)

@@ -1,0 +1,439 @@
+#!/usr/bin/env python3
+"""Calls every function of proved_calendar.columns on arrays of each type, beside Date element by element, and tries what is wrong:
+NaT, numbers of no date, empty arrays, strides, other byte orders, arrays that cannot be written, and other types. It needs numpy."""
+import ctypes
+import doctest
+import random
+import threading
+import tracemalloc
+import unittest
+from datetime import date, timedelta
+
+try:
+    import numpy
+except ImportError:
+    raise SystemExit("not run: the tests of columns, since there is no numpy") from None
+
+try:
+    import pandas
+except ImportError:
+    pandas = None
+
+from proved_calendar import Date, columns
+
+FIRST, LAST, EPOCH = Date.MIN.number, Date.MAX.number, 719_163
+NONE, NAT = -(2**31), -(2**63)
+UNITS = {"h": 24, "m": 1_440, "s": 86_400, "ms": 86_400 * 10**3, "us": 86_400 * 10**6, "ns": 86_400 * 10**9}
+COUNT = 1_000
+# More elements than one piece has.
+MANY = 100_000
+
+
+def outcome(call, *arguments):
+    """What a call answers, or None if there is no such date."""
+    try:
+        return call(*arguments)
+    except (ValueError, OverflowError):
+        return None
+
+
+def number_of(it):
+    """The number of a date that may not be there."""
+    return None if it is None else it.number
+
+
+class Columns(unittest.TestCase):
+    def setUp(self):
+        self.chance = random.Random(self.id())
+        self.addTypeEqualityFunc(list, self.same_lists)
+
+    def same_lists(self, one, other, msg=None):
+        """Compares lists, and tells the first elements that differ (unittest would look for the shortest way from one to the other)."""
+        if one != other:
+            at = next((at for at, (left, right) in enumerate(zip(one, other)) if left != right), min(len(one), len(other)))
+            self.fail(f"element {at}: {one[at:at + 1]} is not {other[at:at + 1]} {msg or ''}")
+
+    def some_numbers(self, count=COUNT):
+        """Numbers of dates, near and far and at both ends, and of no dates."""
+        kinds = (
+            lambda: self.chance.randint(FIRST, LAST), lambda: EPOCH + self.chance.randint(-60_000, 60_000),
+            lambda: FIRST + self.chance.randrange(1_000), lambda: LAST - self.chance.randrange(1_000),
+            lambda: self.chance.choice((NONE, FIRST - 1, LAST + 1, 2**31 - 1)),
+        )
+        return [self.chance.choice(kinds)() for _ in range(count)]
+
+    def arrays(self, numbers):
+        """The same dates in arrays of each type, each with the numbers that it holds, or None."""
+        dates = [it if FIRST <= it <= LAST else None for it in numbers]
+        yield numpy.array(numbers, numpy.int32), dates
+        yield numpy.array(numbers, numpy.int64), dates
+        far = [it if it is not None else self.chance.choice((NAT, 2**63 - 1, 2**40, FIRST - 1)) for it in dates]
+        yield numpy.array(far, numpy.int64), dates
+        days = [NAT if it is None else it - EPOCH for it in dates]
+        yield numpy.array(days, numpy.int64).view("M8[D]"), dates
+        beyond = [LAST + 1 - EPOCH if it is None else it - EPOCH for it in dates]
+        yield numpy.array(beyond, numpy.int64).view("M8[D]"), dates
+        for unit, day in UNITS.items():
+            held = [it if it is not None and abs(it - EPOCH) < 2**63 // day - 1 else None for it in dates]
+            times = [NAT if it is None else (it - EPOCH) * day + self.chance.randrange(day) for it in held]
+            yield numpy.array(times, numpy.int64).view(f"M8[{unit}]"), held
+
+    def asked(self, call, of_date, kinds):
+        """A function that tells something of dates answers the same as Date, in the types that it has."""
+        for array, dates in self.arrays(self.some_numbers()):
+            found = call(array)
+            found = found if isinstance(found, tuple) else (found,)
+            wanted = [of_date(Date.from_number(it)) if it is not None else tuple(kinds.values()) for it in dates]
+            for at, kind in enumerate(kinds):
+                self.assertEqual(found[at].dtype, kind)
+                self.assertEqual(found[at].tolist(), [it[at] for it in wanted])
+
+    def number_array(self, array):
+        """The dates of an array as numbers, or None; and what is left of their days."""
+        if array.dtype.kind != "M":
+            none = NONE if array.dtype == numpy.int32 else NAT
+            self.assertTrue(all(FIRST <= it <= LAST or it == none for it in array.tolist()))
+            return [None if it == none else it for it in array.tolist()], 0
+        unit = numpy.datetime_data(array.dtype)[0]
+        times, day = array.view(numpy.int64).tolist(), UNITS.get(unit, 1)
+        return [None if it == NAT else it // day + EPOCH for it in times], [None if it == NAT else it % day for it in times]
+
+    def moved(self, call, of_date, arrays=None):
+        """A move answers the same as Date, in the type of the array, at the same time of day."""
+        for array, dates in arrays or self.arrays(self.some_numbers()):
+            found = call(array)
+            self.assertEqual(found.dtype, array.dtype)
+            ends, rests = self.number_array(found)
+            wanted = [number_of(outcome(of_date, Date.from_number(it))) if it is not None else None for it in dates]
+            if array.dtype == "M8[ns]":
+                wanted = [it if it is not None and abs(it - EPOCH) < 106_751 else None for it in wanted]
+            self.assertEqual(ends, wanted)
+            if array.dtype.kind == "M":
+                _, starts = self.number_array(array)
+                self.assertEqual(rests, [None if end is None else start for end, start in zip(ends, starts)])
+
+
+class Names(Columns):
+    def test_years(self):
+        self.asked(columns.years, lambda it: (it.year,), {numpy.dtype(numpy.int32): NONE})
+
+    def test_ordinals(self):
+        self.asked(columns.ordinals, lambda it: (it.ordinal,), {numpy.dtype(numpy.uint16): 0})
+
+    def test_weekdays(self):
+        self.asked(columns.weekdays, lambda it: (int(it.isoweekday()),), {numpy.dtype(numpy.uint8): 0})
+
+    def test_fields(self):
+        for array, dates in self.arrays(self.some_numbers()):
+            years, months, days = columns.fields(array)
+            self.assertEqual((years.dtype, months.dtype, days.dtype), (numpy.int32, numpy.uint8, numpy.uint8))
+            wanted = [(NONE, 0, 0) if it is None else (Date.from_number(it).year, Date.from_number(it).month, Date.from_number(it).day) for it in dates]
+            self.assertEqual(list(zip(years.tolist(), months.tolist(), days.tolist())), wanted)
+        self.assertEqual(columns.fields(array).months.tolist(), months.tolist())
+
+    def test_iso_weeks(self):
+        for array, dates in self.arrays(self.some_numbers()):
+            years, weeks = columns.iso_weeks(array)
+            self.assertEqual((years.dtype, weeks.dtype), (numpy.int32, numpy.uint8))
+            wanted = [(NONE, 0) if it is None else tuple(Date.from_number(it).isocalendar())[:2] for it in dates]
+            self.assertEqual(list(zip(years.tolist(), weeks.tolist())), wanted)
+
+    def test_numbers(self):
+        for array, dates in self.arrays(self.some_numbers()):
+            self.assertEqual(columns.numbers(array).tolist(), [NONE if it is None else it for it in dates])
+            self.assertEqual(columns.numbers(array).dtype, numpy.int32)
+            self.assertEqual(columns.is_date(array).tolist(), [it is not None for it in dates])
+            self.assertEqual(columns.count_dates(array), sum(it is not None for it in dates))
+
+    def test_texts(self):
+        for array, dates in self.arrays(self.some_numbers()):
+            found = columns.texts(array)
+            shown = ["" if it is None else Date.from_number(it).isoformat() for it in dates]
+            wanted = [it if len(it) == 10 else "" for it in shown]
+            self.assertEqual((found.dtype, found.astype(str).tolist()), (numpy.dtype("S10"), wanted))
+            back = [None if not it else Date.fromisoformat(it).number for it in wanted]
+            for texts in (found, found.astype(str), found.astype("S12"), found.astype("U15")):
+                self.assertEqual(self.number_array(columns.from_texts(texts))[0], back)
+            self.assertEqual(columns.from_texts(found, numpy.int32).tolist(), [NONE if it is None else it for it in back])
+
+    def test_wrong_texts(self):
+        wrong = ["", "2024-02-30", "2024-02-2", "2024-02-291", "2024/02/29", "٢٠٢٤-02-29", "2024-02-29 ", "20240229", " 2024-02-29", "\0" + "2024-02-29"]
+        for texts in (numpy.array(wrong), numpy.array([it.encode() for it in wrong])):
+            self.assertEqual(columns.from_texts(texts).astype(str).tolist(), ["NaT"] * len(wrong))
+        mixed = numpy.array(["2024-02-29", "2024-02-291", "2024-02-2"])
+        self.assertEqual(columns.from_texts(mixed).astype(str).tolist(), ["2024-02-29", "NaT", "NaT"])
+        for width in (1, 5, 9):
+            self.assertEqual(columns.from_texts(numpy.array(["2024-02-29"], f"U{width}")).astype(str).tolist(), ["NaT"])
+            self.assertEqual(columns.from_texts(numpy.array(["2024-02-29"], f"S{width}")).astype(str).tolist(), ["NaT"])
+        self.assertEqual(columns.from_texts(numpy.array([b"2024-02-29", b"2024-02-29"], "S10")[::-1], "M8[s]").astype(str).tolist(),
+                         ["2024-02-29T00:00:00"] * 2)
+        for wrong in (numpy.array([1]), numpy.array(["2024-02-29"], object), [1.5], None):
+            self.assertRaises(TypeError, columns.from_texts, wrong)
+
+
+class Moves(Columns):
+    def test_add_days(self):
+        for days in (0, 1, -1, 36_525, -36_525, 10**8, 2**31 - 1, 2**31, -(2**31), 10**30, numpy.int64(7), numpy.uint8(3)):
+            self.moved(lambda array: columns.add_days(array, days), lambda it: it + int(days))
+
+    def test_add_days_each(self):
+        for dtype in (numpy.int8, numpy.int32, numpy.int64, numpy.uint16):
+            days = numpy.array([self.chance.randint(0, 100) * self.chance.choice((1, 1 if dtype == numpy.uint16 else -1)) for _ in range(COUNT)], dtype)
+            for array, dates in self.arrays(self.some_numbers()):
+                wanted = [None if it is None else number_of(outcome(Date.from_number(it).__add__, int(by))) for it, by in zip(dates, days)]
+                found, _ = self.number_array(columns.add_days(array, days))
+                if array.dtype == "M8[ns]":
+                    wanted = [it if it is not None and abs(it - EPOCH) < 106_751 else None for it in wanted]
+                self.assertEqual(found, wanted)
+        far = numpy.array([2**31, -(2**31), -(2**40), 2**62, 0])
+        self.assertEqual(columns.add_days(numpy.full(5, 1, numpy.int32), far).tolist(), [NONE] * 4 + [1])
+
+    def test_add_months(self):
+        for months in (0, 1, -1, 13, -4_800, 6_291_455, 2**31, -(2**40)):
+            self.moved(lambda array: columns.add_months(array, months), lambda it: it.add_months(months))
+
+    def test_first_on(self):
+        for weekdays in ([1], [6, 7], {1, 2, 3, 4, 5, 6, 7}, (it for it in (3, 3))):
+            chosen = list(weekdays)
+            self.moved(lambda array: columns.first_on(array, chosen), lambda it: it.first_on(chosen))
+
+    def test_days_between(self):
+        def wanted(one, other):
+            return None if one is None or other is None else one - other
+
+        numbers, bases = self.some_numbers(), self.some_numbers()
+        for (array, dates), (base, others) in zip(self.arrays(numbers), self.arrays(bases)):
+            found = columns.days_between(array, base)
+            self.assertEqual(found.dtype, numpy.dtype("m8[D]" if array.dtype.kind == "M" else numpy.int32))
+            none = NAT if array.dtype.kind == "M" else NONE
+            expected = [none if wanted(*it) is None else wanted(*it) for it in zip(dates, others)]
+            self.assertEqual(found.view(numpy.int64 if none == NAT else numpy.int32).tolist(), expected)
+        days, seconds = numpy.array(["2024-03-01", "NaT"], "M8[D]"), numpy.array(["2024-02-29T23:59:59"], "M8[s]")
+        for found in (columns.days_between(days, seconds), columns.days_between(days, seconds[0]), columns.days_between(days, numpy.datetime64("2024-02-29"))):
+            self.assertEqual(found.view(numpy.int64).tolist(), [1, NAT])
+        self.assertEqual(columns.days_between(days[0], days).view(numpy.int64).tolist(), [0, NAT])
+        self.assertRaises(TypeError, columns.days_between, days, numpy.array([1, 2]))
+        self.assertRaises(ValueError, columns.days_between, days, days.repeat(2))
+
+    def test_nanoseconds_at_their_ends(self):
+        ends = numpy.array([NAT + 1, 2**63 - 1, NAT], numpy.int64).view("M8[ns]")
+        self.assertEqual(columns.add_days(ends, 0).view(numpy.int64).tolist(), [NAT + 1, 2**63 - 1, NAT])
+        self.assertEqual(columns.add_days(ends, 1).view(numpy.int64).tolist(), [NAT + 1 + UNITS["ns"], NAT, NAT])
+        self.assertEqual(columns.add_days(ends, -1).view(numpy.int64).tolist(), [NAT, 2**63 - 1 - UNITS["ns"], NAT])
+        for number in range(-2, 3):
+            for rest in (0, 1, UNITS["ns"] - 1):
+                for edge in (NAT // UNITS["ns"], (2**63 - 1) // UNITS["ns"]):
+                    start, end = (100_000 + number) * UNITS["ns"] + rest, (edge + number) * UNITS["ns"] + rest
+                    found = columns.add_days(numpy.array([start]).view("M8[ns]"), edge - 100_000).view(numpy.int64)[0]
+                    self.assertEqual(found, end if NAT < end < 2**63 else NAT)
+
+
+class FromFields(Columns):
+    def test_names(self):
+        names = [(self.chance.randint(-262_200, 262_200), self.chance.randint(-1, 14), self.chance.randint(-1, 33)) for _ in range(COUNT)]
+        names += [(2024, 2, 29), (2**31 + 2024, 2, 28), (2024, 256 + 2, 28), (2024, 2, 256 + 28), (-(2**40), 1, 1)]
+        wanted = [number_of(outcome(Date, *it)) for it in names]
+        years, months, days = (numpy.array(it) for it in zip(*names))
+        for dtype in ("M8[D]", "M8[s]", "M8[us]", numpy.int64, numpy.int32):
+            found = columns.from_fields(years, months, days, dtype)
+            self.assertEqual((found.dtype, self.number_array(found)[0]), (numpy.dtype(dtype), wanted))
+        self.assertEqual(columns.from_fields([2024, 2023], 2, 29).astype(str).tolist(), ["2024-02-29", "NaT"])
+        self.assertEqual(columns.from_fields([[2024], [2023]], numpy.array([1, 2], numpy.uint8), 31, numpy.int32).shape, (2, 2))
+        self.assertEqual(columns.from_fields(2024, 2, 29).shape, ())
+        self.assertEqual(columns.from_fields([2024, 1600], 2, 29, "M8[ns]").astype(str).tolist(), ["2024-02-29T00:00:00.000000000", "NaT"])
+        for dtype in ("M8", "M8[Y]", "M8[W]", "M8[2D]", float, "S10", numpy.int16, ">i4", ">M8[D]"):
+            self.assertRaises(TypeError, columns.from_fields, 2024, 2, 29, dtype)
+        for wrong in (2024.0, "2024", None, True, numpy.array([2024], numpy.uint64)):
+            self.assertRaises(TypeError, columns.from_fields, wrong, 2, 29)
+            self.assertRaises(TypeError, columns.from_fields, 2024, wrong, 29)
+            self.assertRaises(TypeError, columns.from_fields, 2024, 2, wrong)
+        self.assertRaises(ValueError, columns.from_fields, [1, 2], [1, 2, 3], 1)
+
+
+# Each function of one column, by a call.
+CALLS = {
+    "years": columns.years, "ordinals": columns.ordinals, "weekdays": columns.weekdays, "fields": columns.fields,
+    "iso_weeks": columns.iso_weeks, "texts": columns.texts, "numbers": columns.numbers, "is_date": columns.is_date, "count_dates": columns.count_dates,
+    "add_days": lambda it: columns.add_days(it, 1), "add_days_each": lambda it: columns.add_days(it, numpy.ones(numpy.shape(it), int)),
+    "add_months": lambda it: columns.add_months(it, 1), "first_on": lambda it: columns.first_on(it, [1]),
+    "days_between": lambda it: columns.days_between(it, it),
+}
+
+
+class Arrays(Columns):
+    def same(self, one, other, what):
+        one, other = (it if isinstance(it, tuple) else (it,) for it in (one, other))
+        for left, right in zip(one, other):
+            left, right = numpy.asarray(left), numpy.asarray(right)
+            self.assertEqual((left.dtype, left.shape), (right.dtype, right.shape), what)
+            self.assertEqual(left.tolist(), right.tolist(), what)
+
+    def plain(self):
+        for array, _ in self.arrays(self.some_numbers(24)):
+            yield array
+
+    def test_layouts(self):
+        """Strides, other byte orders, no alignment and arrays that cannot be written give the same as a plain array."""
+        for array in self.plain():
+            apart = numpy.zeros(2 * array.size, array.dtype)
+            apart[::2] = array
+            locked = array.copy()
+            locked.flags.writeable = False
+            shifted = numpy.frombuffer(b"\0" + array.tobytes() + b"\0" * 7, numpy.uint8)[1:1 + array.nbytes].view(array.dtype)
+            others = {"strides": apart[::2], "reversed": array[::-1][::-1], "order": array.astype(array.dtype.newbyteorder(">")),
+                      "locked": locked, "shifted": shifted}
+            for name, call in CALLS.items():
+                wanted = call(array)
+                for what, other in others.items():
+                    self.same(call(other), wanted, (name, what))
+            for what, other in others.items():
+                self.assertEqual(other.tolist(), array.tolist(), what)
+
+    def test_shapes(self):
+        for array in self.plain():
+            for name, call in CALLS.items():
+                flat = call(array)
+                for shape in ((4, 6), (2, 3, 4), (24, 1)):
+                    shaped = call(array.reshape(shape))
+                    wanted = tuple(it.reshape(shape) for it in flat) if isinstance(flat, tuple) else flat if name == "count_dates" else flat.reshape(shape)
+                    self.same(shaped, wanted, (name, shape))
+                crossed = call(array.reshape(4, 6).T)
+                if name != "count_dates":
+                    first = (crossed[0] if isinstance(crossed, tuple) else crossed).T.reshape(-1)
+                    self.same(first, flat[0] if isinstance(flat, tuple) else flat, (name, "crossed"))
+                one = call(array[5])
+                if name != "count_dates":
+                    self.same(one[0] if isinstance(one, tuple) else one, (flat[0] if isinstance(flat, tuple) else flat)[5:6].reshape(()), (name, "one"))
+
+    def test_empty(self):
+        for array in self.plain():
+            for name, call in CALLS.items():
+                for empty in (array[:0], array[:0].reshape(0, 3), array[::-1][:0]):
+                    found = call(empty)
+                    if name == "count_dates":
+                        self.assertEqual(found, 0)
+                    else:
+                        self.assertEqual((found[0] if isinstance(found, tuple) else found).shape, empty.shape)
+        self.assertEqual(columns.from_texts(numpy.array([], "S10")).shape, (0,))
+        self.assertEqual(columns.from_texts(numpy.array([], "U10")).shape, (0,))
+        self.assertEqual(columns.from_fields(numpy.array([], int), 1, 1).shape, (0,))
+
+    def test_nat(self):
+        for unit in ("D", *UNITS):
+            nothing = numpy.full(3, "NaT", f"M8[{unit}]")
+            self.assertEqual(columns.count_dates(nothing), 0)
+            for name in ("add_days", "add_days_each", "add_months", "first_on", "days_between"):
+                self.assertTrue(numpy.isnat(CALLS[name](nothing)).all(), (name, unit))
+            self.assertEqual(columns.texts(nothing).tolist(), [b""] * 3)
+            self.assertEqual(columns.fields(nothing).years.tolist(), [NONE] * 3)
+
+    def test_wrong_types(self):
+        wrong = [
+            numpy.array([1.0]), numpy.array([True]), numpy.array(["2024-02-29"]), numpy.array([Date(2024, 2, 29)], object), numpy.array([1j]),
+            numpy.array([1], numpy.uint64), numpy.array(["2024"], "M8[Y]"), numpy.array(["2024-02"], "M8[M]"), numpy.array([1], "M8[W]"),
+            numpy.array([1], "M8[7D]"), numpy.array(["NaT"], "M8"), numpy.array([1], "M8[ps]"), numpy.array([1], "m8[D]"), None, "2024-02-29",
+            numpy.zeros(2, [("a", int)]), 1.5, [None], {}, Date(2024, 2, 29), date(2024, 2, 29),
+        ]
+        for name, call in CALLS.items():
+            for it in wrong:
+                with self.assertRaises(TypeError, msg=(name, it)):
+                    call(it)
+        dates = numpy.array([1, 2])
+        for by in (1.0, "1", None, True, timedelta(1), numpy.timedelta64(1, "D"), numpy.array([1.0, 2.0]), ["1", "2"], [True, False]):
+            self.assertRaises(TypeError, columns.add_days, dates, by)
+            self.assertRaises(TypeError, columns.add_months, dates, by)
+        self.assertRaises(TypeError, columns.add_months, dates, dates)
+        self.assertRaises(ValueError, columns.add_days, dates, [1, 2, 3])
+        for weekdays, error in (([], ValueError), ([0], ValueError), ([8], ValueError), ([1.0], TypeError), (1, TypeError), (None, TypeError)):
+            self.assertRaises(error, columns.first_on, dates, weekdays)
+
+    def test_other_whole_numbers(self):
+        for kind in (numpy.int8, numpy.int16, numpy.uint8, numpy.uint16, numpy.uint32):
+            found = columns.add_days(numpy.array([1, 100], kind), 300)
+            self.assertEqual((found.dtype, found.tolist()), (numpy.int64, [301, 400]))
+        self.assertEqual(columns.years([738_945, 0]).tolist(), [2024, 0])
+
+    def test_many(self):
+        """Of more elements than a piece has, those at the joints are right too."""
+        array = (numpy.arange(MANY) % 90_000 - 30_000).astype("M8[D]")
+        years, months, days = columns.fields(array)
+        self.assertTrue((years == array.astype("M8[Y]").astype(int) + 1970).all())
+        self.assertTrue((months == array.astype("M8[M]").astype(int) % 12 + 1).all())
+        self.assertTrue((days == (array - array.astype("M8[M]")).astype(int) + 1).all())
+        self.assertTrue((columns.from_fields(years, months, days) == array).all())
+        self.assertTrue((columns.texts(array).astype(str) == array.astype(str)).all())
+        self.assertTrue((columns.from_texts(array.astype(str)) == array).all())
+        self.assertTrue((columns.add_days(array, numpy.arange(MANY)) == array + numpy.arange(MANY)).all())
+        self.assertTrue((columns.days_between(array, array[::-1]) == array - array[::-1]).all())
+        self.assertEqual(columns.count_dates(array), MANY)
+        nanoseconds = array.astype("M8[ns]") + numpy.timedelta64(5, "h")
+        self.assertTrue((columns.add_days(nanoseconds, 7) == nanoseconds + numpy.timedelta64(7, "D")).all())
+
+    def test_memory(self):
+        """Beside the result a call takes the memory of some pieces, however long the column is."""
+        array = numpy.arange(20 * MANY).astype("M8[D]")
+        for call in (columns.weekdays, lambda it: columns.days_between(it, it[0]), lambda it: columns.add_months(it, 1)):
+            tracemalloc.start()
+            found = call(array)
+            _, peak = tracemalloc.get_traced_memory()
+            tracemalloc.stop()
+            self.assertLess(peak - found.nbytes, 3 * 2**20)
+
+    def test_in_place_of_a_copy(self):
+        """A column of int32 is read where it lies: the library sees its own address."""
+        array, seen = numpy.arange(10, dtype=numpy.int32), []
+        call = columns._call
+
+        def spy(name, *arguments):
+            seen.extend(it.__array_interface__["data"][0] for it in arguments if not isinstance(it, int))
+            call(name, *arguments)
+
+        columns._call = spy
+        try:
+            columns.weekdays(array)
+            found = columns.add_days(array, 1)
+        finally:
+            columns._call = call
+        self.assertEqual(seen[0], array.ctypes.data)
+        self.assertEqual(seen[-1], found.ctypes.data)
+
+    def test_threads(self):
+        """Calls of several threads at once give the same."""
+        array = (numpy.arange(MANY) % 90_000).astype("M8[D]")
+        wanted, found = columns.add_months(array, 1), [None] * 4
+
+        def work(place):
+            found[place] = columns.add_months(array, 1)
+
+        threads = [threading.Thread(target=work, args=(it,)) for it in range(4)]
+        for it in threads:
+            it.start()
+        for it in threads:
+            it.join()
+        self.assertTrue(all((it == wanted).all() for it in found))
+        self.assertNotIsInstance(columns._LIBRARY, ctypes.PyDLL)
+
+    @unittest.skipUnless(pandas, "there is no pandas")
+    def test_pandas(self):
+        """A series gives the same as its array; one with a time zone, or of objects, is refused."""
+        for array in (numpy.array(["2024-01-31T12:30:15.250000007", "NaT"], "M8[ns]"), numpy.array([738_945, 0], numpy.int32)):
+            series = pandas.Series(array, index=[5, 3])
+            for name, call in CALLS.items():
+                self.same(call(series), call(array), name)
+        self.assertEqual(columns.from_texts(pandas.Series(["2024-02-29"]).to_numpy("U10")).astype(str).tolist(), ["2024-02-29"])
+        for wrong in (pandas.Series(pandas.date_range("2024", periods=2, tz="UTC")), pandas.Series([1, None], dtype="Int32"),
+                      pandas.Series(["2024-02-29"])):
+            self.assertRaises(TypeError, columns.years, wrong)
+
+    def test_all(self):
+        self.assertEqual({it.removesuffix("_each") for it in CALLS} | {"from_fields", "from_texts", "Fields", "IsoWeeks"}, set(columns.__all__))
+        for name in columns.__all__:
+            self.assertTrue(getattr(columns, name).__doc__)
+
+    def test_examples(self):
+        failed, tried = doctest.testmod(columns, verbose=False)
+        self.assertEqual((failed, tried > 2), (0, True))
+
+
+if __name__ == "__main__":
+    unittest.main()
