@@ -363,7 +363,7 @@ def of_zone(chance, _):
         word = instant_word(chance, found[0], False)
     shown = [it.astimezone(target) for it in found]
     lines = [f"{instant_text(it, False)} {it.tzname()}" for it in shown] or ["none"]
-    objects = [{"moment": instant_text(it, False), "name": it.tzname()} for it in shown] or [{"moment": None}]
+    objects = [{"moment": instant_text(it, False), "name": it.tzname()} for it in shown] or [{"moment": None, "name": None}]
     error = "" if found else f"{moment_text(local)}: the zone's clock never shows it"
     return Asked(["in", name, word, *(["--from-zone", source] if source else [])], [], 0, lines, objects, int(not found), error)
 
@@ -606,6 +606,50 @@ def of_due(chance, files):
     return Asked(words, kinds, len(words), lines or ["none"], objects or [{"moment": None}], int(not moments))
 
 
+# Schedules with fixed times, of which a clock that is set skips some or shows some twice, and such as follow the clock.
+ZONED_SCHEDULES = ("30 2 * * *", "0 0 * * *", "15,45 1-3 * * *", "59 1 * * 0", "*/20 0-4 * * *", "30 * * * *", "* 2 * * *", "*/15 * * * *")
+
+
+def behind_gap(local, zone):
+    """The first instant behind the gap in which a local time lies."""
+    utc, minute = local.replace(tzinfo=zone).astimezone(datetime.timezone.utc), Span(minutes=1)
+    offset = utc.astimezone(zone).utcoffset()
+    while (utc - minute).astimezone(zone).utcoffset() == offset:
+        utc -= minute
+    return utc
+
+
+def firings(schedule, zone, start, days):
+    """The instants near a start at which a schedule is due by the clock of a zone, as cron has it."""
+    first = DateTime.combine(start.astimezone(zone).date() - days * DAY, datetime.time())
+    follows, fired = len(schedule.sets[0]) == 60 or len(schedule.sets[1]) == 24, set()
+    for day in (first + it * DAY for it in range(2 * days)):
+        for minute in schedule.minutes if schedule.is_day(day.toordinal()) else []:
+            local = day + Span(minutes=minute)
+            found = instants_at(local, zone)
+            fired.update(found if follows else found[:1])
+            if not found and not follows:
+                fired.add(behind_gap(local, zone))
+    return sorted(fired)
+
+
+def of_zoned_due(chance, _):
+    """When a schedule is due by the clock of a zone: none of the words is spoiled."""
+    name, text, back, days = chance.choice(ZONES), chance.choice(ZONED_SCHEDULES), chance.random() < 0.4, 9
+    zone = zoneinfo.ZoneInfo(name)
+    start = any_instant(chance).replace(year=chance.randint(1980, 2036), day=1)
+    if chance.random() < 0.7:
+        start = DateTime.combine(chance.choice(SET_ON) + chance.randint(-1, 1) * DAY, start.timetz())
+    fired = firings(cron.Schedule(text, False), zone, start, days)
+    near = [it for it in reversed(fired) if it < start] if back else [it for it in fired if start < it]
+    count = chance.choice((1, 2, 3))
+    shown = [it.astimezone(zone) for it in near[:count]]
+    if len(shown) < count or any(it.utcoffset() % Span(minutes=1) for it in shown):
+        return of_zoned_due(chance, _)
+    words = ["prev" if back else "next", text, "--from", instant_word(chance, start, False), "--zone", name, "--count", str(count)]
+    return Asked(words, [], 0, [f"{instant_text(it, False)} {it.tzname()}" for it in shown], [{"moment": instant_text(it, False), "name": it.tzname()} for it in shown])
+
+
 def of_rule(chance, _):
     rule, start = rules_days.at_random(chance)
     days = rules_days.of_dateutil(rule, start)
@@ -809,7 +853,7 @@ def asks_of_lines(words):
 
 
 SPOILERS = (with_wrong_word, with_wrong_word, with_words_missing, with_a_word_more, with_no_such_day)
-MAKERS = {of_day: 10, of_lines: 4, of_add: 16, of_diff: 16, of_instant: 8, of_zone: 6, of_zoned_add: 6, of_seq: 10, of_week: 4, of_easter: 4, of_leap: 3, of_open: 8, of_roll: 9, of_each: 8, of_check: 5, of_due: 9, of_rule: 9, of_cal: 5}
+MAKERS = {of_day: 10, of_lines: 4, of_add: 16, of_diff: 16, of_instant: 8, of_zone: 6, of_zoned_add: 6, of_zoned_due: 6, of_seq: 10, of_week: 4, of_easter: 4, of_leap: 3, of_open: 8, of_roll: 9, of_each: 8, of_check: 5, of_due: 9, of_rule: 9, of_cal: 5}
 
 
 def commands(chance, files, count):
@@ -818,7 +862,7 @@ def commands(chance, files, count):
     while len(made) < count:
         maker = chance.choices(list(MAKERS), list(MAKERS.values()))[0]
         asked = maker(chance, files)
-        if maker in (of_each, of_instant, of_zone, of_zoned_add):
+        if maker in (of_each, of_instant, of_zone, of_zoned_add, of_zoned_due):
             made.append(asked)
             continue
         if asked.words and chance.random() < 0.2:

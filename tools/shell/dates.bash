@@ -32,10 +32,12 @@ _dates()
     check:*) COMPREPLY=($(compgen -W $'--json\n--help\n' -- "$word")); COMPREPLY+=($(compgen -f -- "$word")); compopt -o filenames 2>/dev/null ;;
     next:--from) COMPREPLY=($(compgen -W $'' -- "$word")) ;;
     next:--count) COMPREPLY=($(compgen -W $'' -- "$word")) ;;
-    next:*) COMPREPLY=($(compgen -W $'--from\n--count\n--unix\n--json\n--help\n' -- "$word")) ;;
+    next:--zone) COMPREPLY=($(compgen -W $'' -- "$word")) ;;
+    next:*) COMPREPLY=($(compgen -W $'--from\n--count\n--zone\n--unix\n--json\n--help\n' -- "$word")) ;;
     prev:--from) COMPREPLY=($(compgen -W $'' -- "$word")) ;;
     prev:--count) COMPREPLY=($(compgen -W $'' -- "$word")) ;;
-    prev:*) COMPREPLY=($(compgen -W $'--from\n--count\n--unix\n--json\n--help\n' -- "$word")) ;;
+    prev:--zone) COMPREPLY=($(compgen -W $'' -- "$word")) ;;
+    prev:*) COMPREPLY=($(compgen -W $'--from\n--count\n--zone\n--unix\n--json\n--help\n' -- "$word")) ;;
     rule:--start) COMPREPLY=($(compgen -W $'' -- "$word")) ;;
     rule:--from) COMPREPLY=($(compgen -W $'' -- "$word")) ;;
     rule:--count) COMPREPLY=($(compgen -W $'' -- "$word")) ;;

@@ -47,12 +47,14 @@ complete -c dates -n '__fish_seen_subcommand_from check' -l help
 complete -c dates -n __fish_use_subcommand -a next -d 'print when a schedule is due next'
 complete -c dates -n '__fish_seen_subcommand_from next' -l from -r -a ''
 complete -c dates -n '__fish_seen_subcommand_from next' -l count -r -a ''
+complete -c dates -n '__fish_seen_subcommand_from next' -l zone -r -a ''
 complete -c dates -n '__fish_seen_subcommand_from next' -l unix
 complete -c dates -n '__fish_seen_subcommand_from next' -l json
 complete -c dates -n '__fish_seen_subcommand_from next' -l help
 complete -c dates -n __fish_use_subcommand -a prev -d 'print when a schedule was due before'
 complete -c dates -n '__fish_seen_subcommand_from prev' -l from -r -a ''
 complete -c dates -n '__fish_seen_subcommand_from prev' -l count -r -a ''
+complete -c dates -n '__fish_seen_subcommand_from prev' -l zone -r -a ''
 complete -c dates -n '__fish_seen_subcommand_from prev' -l unix
 complete -c dates -n '__fish_seen_subcommand_from prev' -l json
 complete -c dates -n '__fish_seen_subcommand_from prev' -l help

@@ -20,40 +20,43 @@ pub(crate) fn command() -> CommandRow {
     )
 }
 
-// What moves days and date-times: moves, and the texts that write them.
+// What moves days and date-times: moves, in turn, and the texts that write them.
 #[derive(Drop)]
 struct Add<'a> {
     form: OutputForm,
     instants: Instants,
-    holidays: Holidays<'a>,
+    holidays: Holidays,
     moves: Vec<Move>,
     texts: Vec<&'a str>,
+    kinds: Kinds<'a>,
+}
+
+// What kinds of moves there are: the first that writes months by `m`, and whether one is a time.
+#[derive(Clone, Copy)]
+struct Kinds<'a> {
     short: Option<Word<'a>>,
     timed: bool,
 }
 
 // The day or the date-time, or that of each line, moved; the exit status.
-pub(crate) fn answer<'a>(rt: &HostRuntime, asked: &mut Asked<'a>) -> Answered<'a> {
+pub(crate) fn answer<'a>(rt: &HostRuntime, asked: &Asked<'a>, none: &mut Reply) -> Answered<'a> {
     let instants = value!(instants_by(rt, asked));
     let (first, words) = parted(asked.words.operands.as_slice());
     if let Some(word) = first {
-        asked.none = instants.form.none_of_text(word.text.as_bytes());
+        *none = instants.form.none_of_text(word.text.as_bytes());
     }
     let start = given!(first, word, instants.start_of(word));
-    let mut moves: Vec<Move> = Vec::new(rt.alloc());
-    let mut texts: Vec<&'a str> = Vec::new(rt.alloc());
-    let (short, timed) = value!(read_moves(start, words, &mut moves, &mut texts));
+    let kinds = value!(kinds_of(start, words));
     let mut add = Add {
         form: asked.form,
         instants,
         holidays: value!(holidays_of(rt, asked)),
-        moves,
-        texts,
-        short,
-        timed,
+        moves: moves_of(rt, words)?,
+        texts: texts_of(rt, words)?,
+        kinds,
     };
     match start {
-        Some(start) => Ok(add.answer_start(rt, ALONE, start)?),
+        Some(start) => answered(add.answer_start(rt, ALONE, start)),
         None => take_lines(rt, INPUT, rt.reader(), &mut add),
     }
 }
@@ -71,37 +74,38 @@ const MOVES: &str = "a span as 3d, -2w, 1mo, 4y, 5b, 36h, 90min, 15s or PT1.5S";
 
 const DAY_MOVES: &str = "a span of days, or a date-time before it as 2024-02-29T00:00";
 
-// Puts the moves that words write, and their texts, into lists; the first word that writes months by `m`, and whether a move is a time. No time moves a
-// day, and no `m`, which was meant for minutes, stands beside a time of day.
-fn read_moves<'a>(
-    start: Option<Start>,
-    words: &[Word<'a>],
-    moves: &mut Vec<Move>,
-    texts: &mut Vec<&'a str>,
-) -> Result<(Option<Word<'a>>, bool), Fault<'a>> {
+// The kinds of the moves that words write. No time moves a day, and no `m`, which was meant for minutes, stands beside a time of day.
+fn kinds_of<'a>(start: Option<Start>, words: &[Word<'a>]) -> Result<Kinds<'a>, Fault<'a>> {
     let mut short = None;
     let mut timed = false;
     let of_day = matches!(start, Some(Start::Day(_)));
     for word in words {
-        let Some(by) = read_move(word.text.as_bytes()) else {
-            return Err(Fault::expected(*word, MOVES));
-        };
-        match by {
-            Move::Time(_) if of_day => return Err(Fault::expected(*word, DAY_MOVES)),
-            Move::Time(_) => timed = true,
-            Move::ShortMonths(_) if short.is_none() => short = Some(*word),
-            _ => {}
+        match read_move(word.text.as_bytes()) {
+            Some(Move::Time(_)) if of_day => return Err(Fault::expected(*word, DAY_MOVES)),
+            Some(Move::Time(_)) => timed = true,
+            Some(Move::ShortMonths(_)) if short.is_none() => short = Some(*word),
+            Some(_) => {}
+            None => return Err(Fault::expected(*word, MOVES)),
         }
-        put_move(moves, by)?;
-        texts.push(word.text)?;
     }
     match short {
         _ if words.is_empty() => Err(Fault::Missing("SPAN", "")),
         Some(word) if timed || start.is_some() && !of_day => {
             Err(Fault::Word(word, Cause::Months(word.text)))
         }
-        _ => Ok((short, timed)),
+        _ => Ok(Kinds { short, timed }),
     }
+}
+
+// The moves that words write.
+fn moves_of(rt: &HostRuntime, words: &[Word<'_>]) -> io::Result<Vec<Move>> {
+    let mut moves: Vec<Move> = Vec::new(rt.alloc());
+    for word in words {
+        if let Some(by) = read_move(word.text.as_bytes()) {
+            put_move(&mut moves, by)?;
+        }
+    }
+    Ok(moves)
 }
 
 // Puts a move behind others.
@@ -109,32 +113,43 @@ fn put_move<A: Allocator>(moves: &mut Vec<Move, A>, by: Move) -> io::Result<()> 
     Ok(moves.push(by)?)
 }
 
+// The texts of words.
+fn texts_of<'a>(rt: &HostRuntime, words: &[Word<'a>]) -> io::Result<Vec<&'a str>> {
+    let mut texts: Vec<&'a str> = Vec::new(rt.alloc());
+    for word in words {
+        texts.push(word.text)?;
+    }
+    Ok(texts)
+}
+
 impl<'a> Add<'a> {
     // What is moved, by each move in turn, or `none` where one leads nowhere; the exit status.
     fn answer_start(&mut self, rt: &HostRuntime, number: u64, start: Start) -> io::Result<u8> {
+        let form = self.instants.form;
         let mut last = start;
         let mut step: usize = 0;
         for by in self.moves.as_slice() {
-            match moved_by(&self.instants, last, *by, &mut self.holidays)? {
-                Ok(reached) => last = reached,
-                Err(is_past) => {
-                    let why = if is_past { Cause::Past } else { Cause::NotOnce };
-                    let by = match self.texts.as_slice().get(step) {
-                        Some(text) => *text,
-                        None => "",
-                    };
-                    let none = self.instants.form.none_of(last);
-                    return print_nowhere(rt, self.form, none, number, &last, by, why);
+            let why = match moved_by(&self.instants, last, *by, &mut self.holidays)? {
+                Moved::To(reached) => {
+                    last = reached;
+                    step = step.saturating_add(1);
+                    continue;
                 }
-            }
-            step = step.saturating_add(1);
+                Moved::Past => Cause::Past,
+                Moved::NotOnce => Cause::NotOnce,
+            };
+            let text = match self.texts.as_slice().get(step) {
+                Some(text) => *text,
+                None => "",
+            };
+            return print_nowhere(rt, self.form, form.none_of(last), number, &last, text, why);
         }
-        print_reply(rt, self.form, self.instants.form.reply(last))
+        print_reply(rt, self.form, form.reply(last))
     }
 
     // What a date-time of a line comes to, which no `m` moves; the exit status.
     fn answer_moment(&mut self, rt: &HostRuntime, number: u64, start: Start) -> io::Result<u8> {
-        let Some(Word { text, .. }) = self.short else {
+        let Some(Word { text, .. }) = self.kinds.short else {
             return self.answer_start(rt, number, start);
         };
         let (none, why) = (self.instants.form.no_moment(), Cause::Months(text));
@@ -146,7 +161,7 @@ impl<'a> EachLine for Add<'a> {
     fn take_line(&mut self, rt: &HostRuntime, number: u64, line: &[u8]) -> io::Result<u8> {
         let form = self.instants.form;
         match self.instants.read(line) {
-            Some(Start::Day(_)) | None if self.timed => {
+            Some(Start::Day(_)) | None if self.kinds.timed => {
                 print_reply(rt, self.form, form.no_moment())
             }
             Some(start @ Start::Day(_)) => self.answer_start(rt, number, start),
@@ -156,22 +171,45 @@ impl<'a> EachLine for Add<'a> {
     }
 }
 
-// What lies a move away; where nothing does, whether that is past the calendar's end. A move of days keeps the time of day.
+// What lies a move away, or why nothing does: it is past the calendar's end, or the zone's clock does not show it once.
+#[derive(Clone, Copy)]
+enum Moved {
+    To(Start),
+    Past,
+    NotOnce,
+}
+
+// What lies a move away. A move of days keeps the time of day.
 fn moved_by(
     instants: &Instants,
     start: Start,
     by: Move,
-    holidays: &mut Holidays<'_>,
-) -> io::Result<Result<Start, bool>> {
+    holidays: &mut Holidays,
+) -> io::Result<Moved> {
     let date = start.local().date();
-    let reached = match by {
-        Move::Calendar(span) | Move::ShortMonths(span) => moved(date, span),
-        Move::OpenDays(count) => open_days_later(date, count, holidays)?,
-        Move::Time(time) => return Ok(instants.later(start, time).ok_or(true)),
+    match by {
+        Move::Calendar(span) | Move::ShortMonths(span) => {
+            Ok(moved_to(instants, start, moved(date, span)))
+        }
+        Move::OpenDays(count) => {
+            let reached = open_days_later(date, count, holidays)?;
+            Ok(moved_to(instants, start, reached))
+        }
+        Move::Time(time) => match instants.later(start, time) {
+            Some(reached) => Ok(Moved::To(reached)),
+            None => Ok(Moved::Past),
+        },
+    }
+}
+
+// The day that is reached at the time of day of the start.
+fn moved_to(instants: &Instants, start: Start, reached: Option<NaiveDate>) -> Moved {
+    let Some(date) = reached else {
+        return Moved::Past;
     };
-    match reached {
-        Some(date) => Ok(instants.on(start, date).ok_or(false)),
-        None => Ok(Err(true)),
+    match instants.on(start, date) {
+        Some(there) => Moved::To(there),
+        None => Moved::NotOnce,
     }
 }
 
@@ -179,7 +217,7 @@ fn moved_by(
 fn open_days_later(
     date: NaiveDate,
     count: i64,
-    holidays: &mut Holidays<'_>,
+    holidays: &mut Holidays,
 ) -> io::Result<Option<NaiveDate>> {
     let years = years_of_open_days(date, count, holidays.listed.len());
     Ok(holidays.calendar(years)?.add_open_days(date, count))

@@ -13,8 +13,6 @@ pub(crate) struct Asked<'a> {
     pub command: CommandRow,
     /// In which form the answer is written.
     pub form: OutputForm,
-    /// What is printed where there is no answer, by the key of the command.
-    pub none: Reply,
     /// The operands and the options.
     pub words: Arguments<'a>,
 }
@@ -45,13 +43,13 @@ impl<'a> Asked<'a> {
 
     // Prints the line of a reply; the exit status.
     pub(crate) fn print(&self, rt: &HostRuntime, reply: Reply) -> Answered<'a> {
-        Ok(print_reply(rt, self.form, reply)?)
+        answered(print_reply(rt, self.form, reply))
     }
 
     // The status of answers so far, or, where there is none, that of the line that says so.
-    pub(crate) fn finish(&self, rt: &HostRuntime, status: u8) -> Answered<'a> {
+    pub(crate) fn finish(&self, rt: &HostRuntime, status: u8, none: Reply) -> Answered<'a> {
         if status == NONE {
-            return self.print(rt, self.none);
+            return self.print(rt, none);
         }
         Ok(status)
     }
@@ -59,10 +57,18 @@ impl<'a> Asked<'a> {
 
 const NO_WORD: Word<'static> = Word { place: 0, text: "" };
 
+// The exit status of what was printed, or that it could not be.
+pub(crate) fn answered<'a>(printed: io::Result<u8>) -> Answered<'a> {
+    match printed {
+        Ok(status) => Ok(status),
+        Err(error) => Err(Fault::Failed(error)),
+    }
+}
+
 // Prints the line of a reply; the exit status.
 pub(crate) fn print_reply(rt: &HostRuntime, form: OutputForm, reply: Reply) -> io::Result<u8> {
     let status = match reply {
-        Reply::Nothing(_) | Reply::NoParts | Reply::NoWeek(_) => NONE,
+        Reply::Nothing(_) | Reply::NoParts | Reply::NoWeek(_) | Reply::NoClock => NONE,
         _ => ANSWERED,
     };
     println!(rt; "{}", ReplyLine { form, reply })?;

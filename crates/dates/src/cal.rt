@@ -28,7 +28,7 @@ pub(crate) fn command() -> CommandRow {
 }
 
 // The month or the year as sheets with closed days marked; `none` where the calendar has no such year. The exit status.
-pub(crate) fn answer<'a>(rt: &HostRuntime, asked: &mut Asked<'a>) -> Answered<'a> {
+pub(crate) fn answer<'a>(rt: &HostRuntime, asked: &Asked<'a>, _none: &mut Reply) -> Answered<'a> {
     let (first, is_year) = value!(time_of(asked.word(0)));
     let start = value!(weekday_of(asked.option("--first")));
     let mut holidays = value!(holidays_of(rt, asked));

@@ -22,7 +22,7 @@ struct CheckedLines {
 }
 
 // Each line of the file, or of the input, that is no day; the exit status.
-pub(crate) fn answer<'a>(rt: &HostRuntime, asked: &mut Asked<'a>) -> Answered<'a> {
+pub(crate) fn answer<'a>(rt: &HostRuntime, asked: &Asked<'a>, _none: &mut Reply) -> Answered<'a> {
     let mut lines = CheckedLines { form: asked.form };
     match asked.word_or_lines() {
         Some(word) => {

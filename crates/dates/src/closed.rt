@@ -20,13 +20,36 @@ fn weekend_named(text: &str) -> Option<WeekdaySet> {
     Some(first.union(WeekdaySet::single(weekday_named(second)?)))
 }
 
-// Puts the holidays by the rules of the calendar with that name in these years into the list; none where it is empty.
-pub(crate) fn put_holidays(name: &str, years: Years, days: &mut Vec<NaiveDate>) -> io::Result<()> {
+/// Whose rules give holidays.
+#[derive(Clone, Copy)]
+pub(crate) enum Ruled {
+    UsFederal,
+    Target,
+    England,
+    Nobody,
+}
+
+// The rules of the calendar with that name; of none where it is empty.
+pub(crate) fn ruled_by(name: &str) -> Ruled {
     match name {
-        "us-federal" => put_ruled(&us_federal(), years, days),
-        "target" => put_ruled(&target(), years, days),
-        "england" => put_ruled(&england_and_wales(), years, days),
-        _ => Ok(()),
+        "us-federal" => Ruled::UsFederal,
+        "target" => Ruled::Target,
+        "england" => Ruled::England,
+        _ => Ruled::Nobody,
+    }
+}
+
+// Puts the holidays by rules in these years into the list.
+pub(crate) fn put_holidays(
+    rules: Ruled,
+    years: Years,
+    days: &mut Vec<NaiveDate>,
+) -> io::Result<()> {
+    match rules {
+        Ruled::UsFederal => put_ruled(&us_federal(), years, days),
+        Ruled::Target => put_ruled(&target(), years, days),
+        Ruled::England => put_ruled(&england_and_wales(), years, days),
+        Ruled::Nobody => Ok(()),
     }
 }
 

@@ -28,16 +28,13 @@ pub(crate) fn command() -> CommandRow {
 }
 
 // The day by all its names, or that of each line, or a page of the program; the exit status.
-pub(crate) fn answer<'a>(rt: &HostRuntime, asked: &mut Asked<'a>) -> Answered<'a> {
+pub(crate) fn answer<'a>(rt: &HostRuntime, asked: &Asked<'a>, _none: &mut Reply) -> Answered<'a> {
     if asked.words.has("--version") {
         return asked.print(rt, Reply::Version);
     }
-    let rows = commands();
-    let mut page = String::new(rt.alloc());
-    put_page(&mut page, asked, &program(&rows))?;
-    if !page.is_empty() {
-        print!(rt; "{page}")?;
-        return Ok(ANSWERED);
+    let words = &asked.words;
+    if words.has("--man") || words.has("--reference") || words.has("--completion") {
+        return answered(print_page(rt, asked));
     }
     let form = asked.form;
     match asked.word_or_lines() {
@@ -54,6 +51,15 @@ pub(crate) fn first_of<'a>(word: Word<'a>) -> Result<NaiveDate, Fault<'a>> {
     }
 }
 
+// Prints the page that an option asks for; the exit status.
+fn print_page(rt: &HostRuntime, asked: &Asked<'_>) -> io::Result<u8> {
+    let rows = commands();
+    let mut page = String::new(rt.alloc());
+    put_page(&mut page, asked, &program(&rows))?;
+    print!(rt; "{page}")?;
+    Ok(ANSWERED)
+}
+
 // Puts the page that an option asks for behind a text, if one does.
 fn put_page(out: &mut String, asked: &Asked<'_>, program: &Program<'_>) -> Put {
     if asked.words.has("--man") {
@@ -62,10 +68,7 @@ fn put_page(out: &mut String, asked: &Asked<'_>, program: &Program<'_>) -> Put {
     if asked.words.has("--reference") {
         return put_reference(out, program);
     }
-    let Some(word) = asked.value("--completion") else {
-        return Ok(());
-    };
-    let shell = match word.text {
+    let shell = match asked.option("--completion").text {
         "bash" => Shell::Bash,
         "zsh" => Shell::Zsh,
         _ => Shell::Fish,

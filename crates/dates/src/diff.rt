@@ -40,46 +40,50 @@ type Ends = (Option<Start>, Option<Start>);
 
 // From where to where, in what, and by which holidays.
 #[derive(Drop)]
-struct Diff<'a> {
+struct Diff {
     form: OutputForm,
     instants: Instants,
     none: Reply,
     ends: Ends,
     measure: Measure,
-    holidays: Holidays<'a>,
+    holidays: Holidays,
 }
 
 // How far it is from one day to another, or to that of each line; the exit status.
-pub(crate) fn answer<'a>(rt: &HostRuntime, asked: &mut Asked<'a>) -> Answered<'a> {
+pub(crate) fn answer<'a>(rt: &HostRuntime, asked: &Asked<'a>, none: &mut Reply) -> Answered<'a> {
     let instants = value!(instants_by(rt, asked));
-    let (ends, measure) = value!(read(&instants, asked));
+    let (ends, measure) = value!(read(&instants, asked, none));
     let mut diff = Diff {
         form: asked.form,
         instants,
-        none: asked.none,
+        none: *none,
         ends,
         measure,
         holidays: value!(holidays_of(rt, asked)),
     };
     match ends {
-        (Some(from), Some(to)) => Ok(diff.answer_ends(rt, from, to)?),
+        (Some(from), Some(to)) => answered(diff.answer_ends(rt, from, to)),
         _ => take_lines(rt, INPUT, rt.reader(), &mut diff),
     }
 }
 
 // Reads from where to where, and in what.
-fn read<'a>(instants: &Instants, asked: &mut Asked<'a>) -> Result<(Ends, Measure), Fault<'a>> {
+fn read<'a>(
+    instants: &Instants,
+    asked: &Asked<'a>,
+    none: &mut Reply,
+) -> Result<(Ends, Measure), Fault<'a>> {
     let (words, unit) = cut(asked.words.operands.as_slice());
     let measure = value!(measure_of(unit));
-    asked.none = none_of(measure);
+    *none = none_of(measure);
     if let [first, ..] = words {
         if first.text.as_bytes().contains(&b'T') {
-            asked.none = Reply::Nothing(Key::Duration);
+            *none = Reply::Nothing(Key::Duration);
         }
     }
     let ends = value!(ends_of(instants, words));
     if let Some(Start::DateTime(_) | Start::Stamp(_)) = ends.0.or(ends.1) {
-        asked.none = Reply::Nothing(Key::Duration);
+        *none = Reply::Nothing(Key::Duration);
         if let [word, ..] = unit {
             return Err(Fault::expected(*word, NO_MORE));
         }
@@ -196,7 +200,7 @@ fn key_of(unit: Unit) -> Key {
     }
 }
 
-impl Diff<'_> {
+impl Diff {
     // How far it is from one day or date-time to another of its kind; the exit status.
     fn answer_ends(&mut self, rt: &HostRuntime, from: Start, to: Start) -> io::Result<u8> {
         let answer = match from {
@@ -229,7 +233,7 @@ impl Diff<'_> {
     }
 }
 
-impl EachLine for Diff<'_> {
+impl EachLine for Diff {
     fn take_line(&mut self, rt: &HostRuntime, _number: u64, line: &[u8]) -> io::Result<u8> {
         match (self.ends, self.instants.read(line)) {
             ((Some(from), _), Some(to)) => self.answer_ends(rt, from, to),

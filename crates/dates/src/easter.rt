@@ -12,7 +12,7 @@ pub(crate) fn command() -> CommandRow {
 }
 
 // Easter Sunday of the year; the exit status.
-pub(crate) fn answer<'a>(rt: &HostRuntime, asked: &mut Asked<'a>) -> Answered<'a> {
+pub(crate) fn answer<'a>(rt: &HostRuntime, asked: &Asked<'a>, _none: &mut Reply) -> Answered<'a> {
     let word = asked.word(0);
     let sunday = chrono_business::easter(value!(year_of(word)));
     let sunday = value!(sunday.ok_or(Fault::NoSuch(word, Cause::Outside)));

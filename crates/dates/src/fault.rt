@@ -1,14 +1,14 @@
 //! Faults: why a command has no answer, how that is said, and the exit statuses.
 
 use crate::prelude::*;
-use chrono_cron::ScheduleError;
 use chrono_rules::RuleError;
 use command_words::{Why, Wrong, nearest, put_choices, put_usage};
 use std::alloc::AllocFailed;
-use std::env::{Env, FillError};
+use std::env::{self, Env, FillError, VarError};
 use std::fmt::Write;
 use std::str;
 use zone_database::ZoneError;
+use zoned_cron::ScheduleError;
 
 /// The exit status of an answer.
 pub(crate) const ANSWERED: u8 = 0;
@@ -32,6 +32,8 @@ pub(crate) enum Fault<'a> {
     Input(Word<'a>, io::Error),
     /// The line of holidays with that number is no day.
     NoHoliday(Word<'a>, u64, Reason),
+    /// The machine's own time zone cannot be read.
+    Machine(ZoneError),
     /// No answer can be written, or memory is short.
     Failed(io::Error),
 }
@@ -120,6 +122,7 @@ pub(crate) fn refuse(
     let mut text = String::new(rt.alloc());
     let status = match fault {
         Fault::Failed(error) => return Err(error),
+        Fault::Machine(error) => return refuse_machine(rt, error),
         Fault::NoSuch(_, _) => print_reply(rt, form, none)?,
         _ => {
             text.push_str("dates: ")?;
@@ -169,8 +172,24 @@ fn put_fault(out: &mut String, command: &CommandRow, fault: Fault<'_>) -> Put {
             out.push_str(": ")?;
             put_holiday(out, reason)
         }
+        Fault::Machine(error) => show(out, &error),
         Fault::Failed(error) => show(out, &error),
     }
+}
+
+// Says that the machine's own zone cannot be read: which zone `TZ` asks for, or else why its file is none; the exit status.
+fn refuse_machine(rt: &HostRuntime, error: ZoneError) -> io::Result<u8> {
+    let mut text = String::new(rt.alloc());
+    match env::var(rt, "TZ") {
+        Ok(name) => put(&mut text, &["dates: TZ: no zone '", name.as_str(), "'"])?,
+        Err(VarError::NotPresent) => text.push_str("dates: /etc/localtime")?,
+        Err(_) => text.push_str("dates: TZ")?,
+    }
+    if !matches!(error, ZoneError::NoSuchZone | ZoneError::NoName) {
+        text.push_str(": ")?;
+        show(&mut text, &error)?;
+    }
+    Ok(tell(rt, text.as_str(), WRONG))
 }
 
 // A space, if a text stands behind it.

@@ -7,10 +7,10 @@ use std::fs::{self, File};
 
 /// The holidays by the options of a command.
 #[derive(Drop)]
-pub(crate) struct Holidays<'a> {
+pub(crate) struct Holidays {
     weekend: WeekdaySet,
-    // The name of the calendar of rules; empty for none.
-    rules: &'a str,
+    // Whose rules give others, if any do.
+    rules: Ruled,
     /// Those that the file of the options lists.
     pub listed: Vec<NaiveDate>,
     // These and those of the rules in some years, in order and but for those on the weekend.
@@ -19,7 +19,7 @@ pub(crate) struct Holidays<'a> {
     years: Option<Years>,
 }
 
-impl<'a> Holidays<'a> {
+impl Holidays {
     // The calendar by the options, with the holidays of these years at least.
     pub(crate) fn calendar(&mut self, years: Years) -> io::Result<Calendar<'_>> {
         match self.years {
@@ -38,29 +38,28 @@ impl<'a> Holidays<'a> {
     fn put_together(&mut self, years: Years) -> io::Result<()> {
         self.years = None;
         self.days.clear();
-        for day in self.listed.as_slice() {
-            self.days.push(*day)?;
-        }
+        self.days.extend_from_slice(self.listed.as_slice())?;
         put_holidays(self.rules, years, &mut self.days)?;
-        self.days.as_mut_slice().sort_unstable();
-        self.days.dedup();
-        let weekend = self.weekend;
-        let count = without_weekends(weekend, self.days.as_mut_slice());
-        self.days.truncate(count);
+        put_in_order(&mut self.days, self.weekend);
         self.years = Some(years);
         Ok(())
     }
 }
 
+// Puts days in order, each once and without those on the weekend.
+fn put_in_order(days: &mut Vec<NaiveDate>, weekend: WeekdaySet) {
+    days.as_mut_slice().sort_unstable();
+    days.dedup();
+    let count = without_weekends(weekend, days.as_mut_slice());
+    days.truncate(count);
+}
+
 // The holidays by the options of a command.
-pub(crate) fn holidays_of<'a>(
-    rt: &HostRuntime,
-    asked: &Asked<'a>,
-) -> Result<Holidays<'a>, Fault<'a>> {
+pub(crate) fn holidays_of<'a>(rt: &HostRuntime, asked: &Asked<'a>) -> Result<Holidays, Fault<'a>> {
     let weekend = value!(weekend_of(asked.option("--weekend")));
     let mut holidays = Holidays {
         weekend,
-        rules: asked.option("--calendar").text,
+        rules: ruled_by(asked.option("--calendar").text),
         listed: Vec::new(rt.alloc()),
         days: Vec::new(rt.alloc()),
         years: None,

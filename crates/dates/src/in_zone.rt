@@ -17,20 +17,19 @@ pub(crate) fn command() -> CommandRow {
 }
 
 // What the zone's clock shows at the instant, or at both where a local time is shown twice; the exit status.
-pub(crate) fn answer<'a>(rt: &HostRuntime, asked: &mut Asked<'a>) -> Answered<'a> {
-    asked.none = Reply::Nothing(Key::Moment);
+pub(crate) fn answer<'a>(rt: &HostRuntime, asked: &Asked<'a>, none: &mut Reply) -> Answered<'a> {
+    *none = Reply::NoClock;
     let zone = value!(zone_of(rt, asked.word(0)));
     let start = value!(moment_of(InstantForm::of(&asked.words), asked.word(1)));
     let from = given!(asked.value("--from-zone"), word, zone_of(rt, word));
     match instants_of(from.as_ref().unwrap_or(&zone), start) {
         MappedLocalTime::None => {
-            let (form, none) = (asked.form, asked.none);
-            Ok(print_nowhere(rt, form, none, ALONE, &start, "", Cause::Never)?)
+            answered(print_nowhere(rt, asked.form, *none, ALONE, &start, "", Cause::Never))
         }
-        MappedLocalTime::Single(only) => print_in(rt, asked, &zone, only),
+        MappedLocalTime::Single(only) => answered(print_in(rt, asked.form, &zone, only)),
         MappedLocalTime::Ambiguous(earlier, later) => {
-            value!(print_in(rt, asked, &zone, earlier));
-            print_in(rt, asked, &zone, later)
+            value!(answered(print_in(rt, asked.form, &zone, earlier)));
+            answered(print_in(rt, asked.form, &zone, later))
         }
     }
 }

@@ -12,8 +12,8 @@ pub(crate) fn command() -> CommandRow {
 }
 
 // `yes` where the year is a leap year, and else `no`; the exit status.
-pub(crate) fn answer<'a>(rt: &HostRuntime, asked: &mut Asked<'a>) -> Answered<'a> {
-    asked.none = Reply::Nothing(Key::Leap);
+pub(crate) fn answer<'a>(rt: &HostRuntime, asked: &Asked<'a>, none: &mut Reply) -> Answered<'a> {
+    *none = Reply::Nothing(Key::Leap);
     let first = value!(start_of_year(asked.word(0)));
     asked.print(rt, Reply::Whether(Key::Leap, first.leap_year()))
 }

@@ -26,7 +26,10 @@ pub(crate) fn today() -> CommandRow {
 }
 
 // The day, or the second, that the zone's clock shows now; the exit status.
-pub(crate) fn answer<'a>(rt: &HostRuntime, asked: &mut Asked<'a>) -> Answered<'a> {
+pub(crate) fn answer<'a>(rt: &HostRuntime, asked: &Asked<'a>, none: &mut Reply) -> Answered<'a> {
+    if asked.command.name != TODAY {
+        *none = InstantForm::of(&asked.words).no_moment();
+    }
     let zone = value!(zone_of(rt, asked.option("--zone")));
     let shown = shown_in(&zone, second_of(SystemTime::now(rt)?));
     let instants = InstantForm::of(&asked.words);
@@ -35,7 +38,7 @@ pub(crate) fn answer<'a>(rt: &HostRuntime, asked: &mut Asked<'a>) -> Answered<'a
             asked.print(rt, Reply::Date(stamp.naive_local().date()))
         }
         Some(stamp) => asked.print(rt, instants.reply(Start::Stamp(stamp))),
-        None => asked.print(rt, asked.none),
+        None => asked.print(rt, *none),
     }
 }
 

@@ -15,40 +15,41 @@ pub(crate) fn command() -> CommandRow {
 
 // Whether days are open by these holidays, or where they go by a convention.
 #[derive(Drop)]
-struct Days<'a> {
+struct Days {
     form: OutputForm,
     none: Reply,
     roll: Option<Roll>,
-    holidays: Holidays<'a>,
+    holidays: Holidays,
 }
 
 // Whether the day, or that of each line, is open; the exit status.
-pub(crate) fn answer<'a>(rt: &HostRuntime, asked: &mut Asked<'a>) -> Answered<'a> {
-    asked.none = Reply::Nothing(Key::Open);
+pub(crate) fn answer<'a>(rt: &HostRuntime, asked: &Asked<'a>, none: &mut Reply) -> Answered<'a> {
+    *none = Reply::Nothing(Key::Open);
     let date = given!(asked.word_or_lines(), word, day_of(word));
-    answer_days(rt, asked, date, None)
+    answer_days(rt, asked, *none, date, None)
 }
 
 // Whether the day, or that of each line, is open, or where it goes by a convention; the exit status.
 pub(crate) fn answer_days<'a>(
     rt: &HostRuntime,
     asked: &Asked<'a>,
+    none: Reply,
     date: Option<NaiveDate>,
     roll: Option<Roll>,
 ) -> Answered<'a> {
     let mut days = Days {
         form: asked.form,
-        none: asked.none,
+        none,
         roll,
         holidays: value!(holidays_of(rt, asked)),
     };
     match date {
-        Some(date) => Ok(days.answer_day(rt, ALONE, date)?),
+        Some(date) => answered(days.answer_day(rt, ALONE, date)),
         None => take_lines(rt, INPUT, rt.reader(), &mut days),
     }
 }
 
-impl Days<'_> {
+impl Days {
     // The day that a day rolls to, or `none` past the calendar's end; without a convention whether it is open. The exit status.
     fn answer_day(&mut self, rt: &HostRuntime, number: u64, date: NaiveDate) -> io::Result<u8> {
         let (form, none) = (self.form, self.none);
@@ -63,7 +64,7 @@ impl Days<'_> {
     }
 }
 
-impl EachLine for Days<'_> {
+impl EachLine for Days {
     fn take_line(&mut self, rt: &HostRuntime, number: u64, line: &[u8]) -> io::Result<u8> {
         match read_day(line) {
             Ok(date) => self.answer_day(rt, number, date),

@@ -24,9 +24,9 @@ pub(crate) fn command() -> CommandRow {
 }
 
 // Where the day, or that of each line, goes; the exit status.
-pub(crate) fn answer<'a>(rt: &HostRuntime, asked: &mut Asked<'a>) -> Answered<'a> {
+pub(crate) fn answer<'a>(rt: &HostRuntime, asked: &Asked<'a>, none: &mut Reply) -> Answered<'a> {
     let (date, roll) = value!(read(asked.word(0), asked.words.operand(1)));
-    crate::open::answer_days(rt, asked, date, Some(roll))
+    crate::open::answer_days(rt, asked, *none, date, Some(roll))
 }
 
 // The day and the convention; no day for the lines of the input.

@@ -28,7 +28,7 @@ pub(crate) fn command() -> CommandRow {
 }
 
 // The instances of the rule, a line each; `none` where there is none. The exit status.
-pub(crate) fn answer<'a>(rt: &HostRuntime, asked: &mut Asked<'a>) -> Answered<'a> {
+pub(crate) fn answer<'a>(rt: &HostRuntime, asked: &Asked<'a>, none: &mut Reply) -> Answered<'a> {
     let rule = value!(rule_of(asked.word(0)));
     let start = value!(day_of(asked.option("--start")));
     let from = given!(asked.value("--from"), word, day_of(word)).unwrap_or(start);
@@ -37,7 +37,7 @@ pub(crate) fn answer<'a>(rt: &HostRuntime, asked: &mut Asked<'a>) -> Answered<'a
     for day in rule.instances_from(start, from).take(most as usize) {
         status = value!(asked.print(rt, Reply::Date(day)));
     }
-    asked.finish(rt, status)
+    asked.finish(rt, status, *none)
 }
 
 // The rule that a word writes.

@@ -16,7 +16,7 @@ pub(crate) fn command() -> CommandRow {
 }
 
 // The days of the sequence as long as they are not past its end; `none` where the first day is past it. The exit status.
-pub(crate) fn answer<'a>(rt: &HostRuntime, asked: &mut Asked<'a>) -> Answered<'a> {
+pub(crate) fn answer<'a>(rt: &HostRuntime, asked: &Asked<'a>, none: &mut Reply) -> Answered<'a> {
     let from = value!(day_of(asked.word(0)));
     let to = value!(day_of(asked.word(1)));
     let step = given!(asked.words.operand(2), word, step_of(word));
@@ -28,7 +28,7 @@ pub(crate) fn answer<'a>(rt: &HostRuntime, asked: &mut Asked<'a>) -> Answered<'a
             None => break,
         }
     }
-    asked.finish(rt, status)
+    asked.finish(rt, status, *none)
 }
 
 // The span that a word writes, which is not 0.

@@ -44,10 +44,10 @@ macro_rules! list_rows {
 }
 
 macro_rules! answer_named {
-    ($rt:ident, $asked:ident, $($module:ident::$command:ident,)*) => {
+    ($rt:ident, $asked:ident, $none:ident, $($module:ident::$command:ident,)*) => {
         $(
             if $asked.command.name == crate::$module::$command().name {
-                return crate::$module::answer($rt, $asked);
+                return crate::$module::answer($rt, $asked, $none);
             }
         )*
     };
@@ -60,9 +60,9 @@ pub(crate) fn commands() -> [CommandRow; ROWS] {
     each_command!(list_rows)
 }
 
-// Answers the command that is asked; the exit status.
-fn answer<'a>(rt: &HostRuntime, asked: &mut Asked<'a>) -> Answered<'a> {
-    each_command!(answer_named, rt, asked);
+// Answers the command that is asked, and tells what is printed where there is no answer; the exit status.
+fn answer<'a>(rt: &HostRuntime, asked: &Asked<'a>, none: &mut Reply) -> Answered<'a> {
+    each_command!(answer_named, rt, asked, none);
     Ok(ANSWERED)
 }
 
@@ -132,35 +132,37 @@ fn command_named(name: &str) -> CommandRow {
 
 // Reads the words by the row of a command and answers it; the exit status.
 fn answer_command(rt: &HostRuntime, command: CommandRow, words: &[Word<'_>]) -> io::Result<u8> {
-    let (form, none) = (OutputForm::Text, Reply::Nothing(Key::Date));
-    let words = match read_words(rt.alloc(), command.options, words)? {
-        Ok(words) => words,
+    match read_words(rt.alloc(), command.options, words)? {
+        Ok(words) if words.has("--help") => print_help(rt, &command),
+        Ok(words) => answer_words(rt, command, words),
         Err(wrong) => {
             let first = wrong_first(&command, words.first().copied());
-            return refuse(rt, &command, form, none, first.unwrap_or(fault_of(wrong)));
+            let (form, none) = (OutputForm::Text, Reply::Nothing(Key::Date));
+            refuse(rt, &command, form, none, first.unwrap_or(fault_of(wrong)))
         }
-    };
-    if words.has("--help") {
-        return print_help(rt, &command);
     }
+}
+
+// Answers a command by its words; the exit status.
+fn answer_words(rt: &HostRuntime, command: CommandRow, words: Arguments<'_>) -> io::Result<u8> {
     let form = if words.has("--json") {
         OutputForm::Json
     } else {
-        form
+        OutputForm::Text
     };
-    let mut asked = Asked {
+    let mut none = Reply::Nothing(Key::Date);
+    let asked = Asked {
         command,
         form,
-        none,
         words,
     };
     let answered = match wrong_count(&asked) {
         Some(fault) => Err(fault),
-        None => answer(rt, &mut asked),
+        None => answer(rt, &asked, &mut none),
     };
     match answered {
         Ok(status) => Ok(status),
-        Err(fault) => refuse(rt, &command, form, asked.none, fault),
+        Err(fault) => refuse(rt, &command, form, none, fault),
     }
 }
 

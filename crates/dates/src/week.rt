@@ -12,14 +12,14 @@ pub(crate) fn command() -> CommandRow {
 }
 
 // The Monday and the Sunday of the week; the exit status.
-pub(crate) fn answer<'a>(rt: &HostRuntime, asked: &mut Asked<'a>) -> Answered<'a> {
-    asked.none = Reply::NoWeek(None);
+pub(crate) fn answer<'a>(rt: &HostRuntime, asked: &Asked<'a>, none: &mut Reply) -> Answered<'a> {
+    *none = Reply::NoWeek(None);
     let first = value!(week_of(asked.word(0)));
     match first.moved_by_days(6) {
         Some(last) => asked.print(rt, Reply::Week(first, last)),
         None => {
             let (form, none, from) = (asked.form, Reply::NoWeek(Some(first)), Start::Day(first));
-            Ok(print_nowhere(rt, form, none, ALONE, &from, "6d", Cause::Past)?)
+            answered(print_nowhere(rt, form, none, ALONE, &from, "6d", Cause::Past))
         }
     }
 }

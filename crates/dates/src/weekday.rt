@@ -12,8 +12,8 @@ pub(crate) fn command() -> CommandRow {
 }
 
 // The weekday of the day; the exit status.
-pub(crate) fn answer<'a>(rt: &HostRuntime, asked: &mut Asked<'a>) -> Answered<'a> {
-    asked.none = Reply::Nothing(Key::Weekday);
+pub(crate) fn answer<'a>(rt: &HostRuntime, asked: &Asked<'a>, none: &mut Reply) -> Answered<'a> {
+    *none = Reply::Nothing(Key::Weekday);
     let date = value!(day_of(asked.word(0)));
     asked.print(rt, Reply::Weekday(date.weekday()))
 }

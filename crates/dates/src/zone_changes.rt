@@ -1,6 +1,7 @@
 //! When a time zone's clock is set.
 
 use crate::prelude::*;
+use dates_answer::TextLine;
 
 const OF_YEAR: Opt =
     option!("--year", "YEAR"; "of which year (default: all, and the rule behind them)");
@@ -17,68 +18,88 @@ pub(crate) fn command() -> CommandRow {
 }
 
 // What the clock shows whenever it is set, a line each, and its rule behind them; the exit status.
-pub(crate) fn answer<'a>(rt: &HostRuntime, asked: &mut Asked<'a>) -> Answered<'a> {
-    asked.none = Reply::Nothing(Key::Moment);
+pub(crate) fn answer<'a>(rt: &HostRuntime, asked: &Asked<'a>, none: &mut Reply) -> Answered<'a> {
+    *none = Reply::NoClock;
     let year = given!(asked.value("--year"), word, year_of(word));
     let zone = value!(zone_of(rt, asked.word(0)));
-    let mut status = NONE;
-    for row in zone.rows() {
-        status = status.min(value!(print_set(rt, asked, &zone, row.second, year)));
-    }
-    status = status.min(match year {
-        Some(year) => value!(print_by_rule(rt, asked, &zone, year)),
-        None => print_rule(rt, asked.form, zone.rule_text())?,
-    });
-    asked.finish(rt, status)
+    answered(print_changes(rt, asked.form, &zone, year))
 }
 
-// Prints the rule by which the clock is set in the years to come, if there is one; the exit status.
-fn print_rule(rt: &HostRuntime, form: OutputForm, rule: &str) -> io::Result<u8> {
-    if rule.is_empty() {
-        return Ok(NONE);
+// Prints what the clock shows whenever it is set, and its rule; the exit status.
+fn print_changes(
+    rt: &HostRuntime,
+    form: OutputForm,
+    zone: &OwnedZone,
+    year: Option<i32>,
+) -> io::Result<u8> {
+    let mut status = NONE;
+    for row in zone.rows() {
+        status = status.min(print_set(rt, form, zone, row.second, year)?);
     }
-    match form {
-        OutputForm::Text => println!(rt; "{rule}")?,
-        OutputForm::Json => println!(rt; "{{\"rule\":{}}}", Quoted { text: rule })?,
+    let by_rule = match year {
+        Some(year) => print_by_rule(rt, form, zone, year)?,
+        None => print_rule(rt, form, zone.rule_text())?,
+    };
+    if status.min(by_rule) == NONE {
+        return print_reply(rt, form, Reply::NoClock);
     }
     Ok(ANSWERED)
 }
 
+// Prints the rule by which the clock is set in the years to come, if there is one; the exit status.
+fn print_rule(rt: &HostRuntime, form: OutputForm, text: &str) -> io::Result<u8> {
+    if text.is_empty() {
+        return Ok(NONE);
+    }
+    let key = Key::Rule;
+    println!(rt; "{}", TextLine { form, key, text })?;
+    Ok(ANSWERED)
+}
+
 // Prints what the clock shows when it is set at that second, unless that lies in another year than is asked for; the exit status.
-fn print_set<'a>(
+fn print_set(
     rt: &HostRuntime,
-    asked: &Asked<'a>,
+    form: OutputForm,
     zone: &OwnedZone,
     second: i64,
     year: Option<i32>,
-) -> Answered<'a> {
+) -> io::Result<u8> {
     let Some(shown) = shown_in(zone, instant_at(second)) else {
         return Ok(NONE);
     };
     match year {
         Some(year) if shown.naive_local().date().year() != year => Ok(NONE),
-        _ => print_in(rt, asked, zone, shown),
+        _ => print_in(rt, form, zone, shown),
     }
 }
 
 // Prints what the clock shows when the rule sets it in a year, behind all rows; the exit status.
-fn print_by_rule<'a>(
+fn print_by_rule(
     rt: &HostRuntime,
-    asked: &Asked<'a>,
+    form: OutputForm,
     zone: &OwnedZone,
     year: i32,
-) -> Answered<'a> {
-    let mut status = NONE;
+) -> io::Result<u8> {
     let Some((begins, ends)) = rule_changes(zone, year) else {
-        return Ok(status);
+        return Ok(NONE);
     };
-    let last = zone.rows().last().map_or(i64::MIN, |row| row.second);
-    for second in [begins.min(ends), begins.max(ends)] {
-        if last < second {
-            status = status.min(value!(print_set(rt, asked, zone, second, Some(year))));
-        }
+    let first = print_behind(rt, form, zone, begins.min(ends), year)?;
+    let second = print_behind(rt, form, zone, begins.max(ends), year)?;
+    Ok(first.min(second))
+}
+
+// Prints what the clock shows when it is set at that second, if that lies behind all rows; the exit status.
+fn print_behind(
+    rt: &HostRuntime,
+    form: OutputForm,
+    zone: &OwnedZone,
+    second: i64,
+    year: i32,
+) -> io::Result<u8> {
+    match zone.rows().last() {
+        Some(row) if second <= row.second => Ok(NONE),
+        _ => print_set(rt, form, zone, second, Some(year)),
     }
-    Ok(status)
 }
 
 // When the rule sets the clock in a year, ahead and back.

@@ -1,6 +1,7 @@
 //! Time zones, and date-times as their clocks show them.
 
 use crate::prelude::*;
+use dates_answer::ClockLine;
 use zone_database::{ZoneError, local_zone, system_database};
 
 /// A time zone that the program read.
@@ -27,14 +28,25 @@ const LOCAL: &str = "local";
 
 // The zone that a word names.
 pub(crate) fn zone_of<'a>(rt: &HostRuntime, word: Word<'a>) -> Result<OwnedZone, Fault<'a>> {
-    Ok(value!(read_zone(rt, word.text), error => Fault::Word(word, Cause::Zone(error))))
+    if word.text == LOCAL {
+        return machine_zone(rt);
+    }
+    match read_zone(rt, word.text) {
+        Ok(zone) => Ok(zone),
+        Err(error) => Err(Fault::Word(word, Cause::Zone(error))),
+    }
+}
+
+// The machine's own zone.
+pub(crate) fn machine_zone<'a>(rt: &HostRuntime) -> Result<OwnedZone, Fault<'a>> {
+    match local_zone(rt) {
+        Ok(local) => Ok(local.zone),
+        Err(error) => Err(Fault::Machine(error)),
+    }
 }
 
 // The zone of a name.
 fn read_zone(rt: &HostRuntime, name: &str) -> Result<OwnedZone, ZoneError> {
-    if name == LOCAL {
-        return Ok(local_zone(rt)?.zone);
-    }
     system_database(rt)?.zone(rt, name)
 }
 
@@ -42,7 +54,7 @@ fn read_zone(rt: &HostRuntime, name: &str) -> Result<OwnedZone, ZoneError> {
 #[derive(Drop)]
 pub(crate) struct Instants {
     pub form: InstantForm,
-    zone: Option<OwnedZone>,
+    pub zone: Option<OwnedZone>,
 }
 
 // How a command takes instants, by its options.
@@ -136,26 +148,17 @@ pub(crate) fn shown_in(
 }
 
 // Prints what a zone's clock shows at an instant, and the name of its time there; the exit status.
-pub(crate) fn print_in<'a>(
+pub(crate) fn print_in(
     rt: &HostRuntime,
-    asked: &Asked<'a>,
+    form: OutputForm,
     zone: &OwnedZone,
     stamp: DateTime<FixedOffset>,
-) -> Answered<'a> {
-    let form = asked.form;
+) -> io::Result<u8> {
     let Some(shown) = shown_in(zone, Some(stamp)) else {
         let from = Start::Stamp(stamp);
-        return Ok(print_nowhere(rt, form, asked.none, ALONE, &from, "", Cause::Past)?);
+        return print_nowhere(rt, form, Reply::NoClock, ALONE, &from, "", Cause::Past);
     };
     let name = zone.abbreviation(stamp.timestamp()).unwrap_or("");
-    match form {
-        OutputForm::Text => println!(rt; "{shown:?} {name}")?,
-        OutputForm::Json => {
-            println!(rt;
-                "{{\"moment\":\"{shown:?}\",\"name\":{}}}",
-                Quoted { text: name }
-            )?;
-        }
-    }
+    println!(rt; "{}", ClockLine { form, shown, name })?;
     Ok(ANSWERED)
 }

@@ -6,6 +6,7 @@ use Rattle.std.specs.Str.{byte}
 use Rattle.chrono_units.specs.Names.{weekday_name}
 use Rattle.chrono_datetime.specs.DateText.{date_text}
 use Rattle.chrono_datetime.specs.Fields.{unix_epoch_day}
+use Rattle.chrono_datetime.specs.Moment.{Moment}
 use Rattle.chrono_datetime.specs.MomentText.{moment_text}
 use Rattle.chrono_datetime.specs.Text.{duration_text}
 use Rattle.chrono_datetime.specs.Weeks.{weekday_of}
@@ -14,6 +15,7 @@ use Rattle.chrono_zoned.specs.ZonedText.{zoned_debug_text}
 use Rattle.dates_answer.specs.declared.form.OutputForm.{OutputForm}
 use Rattle.dates_answer.specs.declared.form.OutputForm.TheVariants as forms
 use Rattle.dates_answer.specs.DayNames.{names_text, ordinal_name, week_name}
+use Rattle.dates_answer.specs.Quoted.{quoted}
 use Rattle.dates_answer.specs.declared.line.Reply.{Reply}
 use Rattle.dates_answer.specs.declared.line.Reply.TheVariants as replies
 use Rattle.dates_answer.specs.declared.line.Key.{Key}
@@ -34,6 +36,8 @@ key_text keys.Open = codes "open"
 key_text keys.Leap = codes "leap"
 key_text keys.Weekday = codes "weekday"
 key_text keys.Unix = codes "unix"
+key_text keys.Rule = codes "rule"
+key_text keys.Text = codes "text"
 
 -- months and days, as `2m 3d`: one that is 0 is left out, and both are `0d`
 unfoldable pub months_days_text : ℤ → ℤ → List ℕ
@@ -64,6 +68,7 @@ reply_text (replies.Week first last) = date_text first ++ (codes " " ++ date_tex
 reply_text (replies.Nothing key) = codes "none"
 reply_text replies.NoParts = codes "none"
 reply_text (replies.NoWeek first) = codes "none"
+reply_text replies.NoClock = codes "none"
 reply_text replies.Version = codes "dates 0.1.0"
 
 -- the weekday of the day n, its number and the number of days since 1970-01-01, as they stand in an object
@@ -94,6 +99,7 @@ reply_object (replies.Nothing key) = codes "{\"" ++ (key_text key ++ codes "\":n
 reply_object replies.NoParts = codes "{\"years\":null,\"months\":null,\"days\":null}"
 reply_object (replies.NoWeek None) = codes "{\"first\":null,\"last\":null}"
 reply_object (replies.NoWeek (Some first)) = codes "{\"first\":\"" ++ (date_text first ++ codes "\",\"last\":null}")
+reply_object replies.NoClock = codes "{\"moment\":null,\"name\":null}"
 reply_object replies.Version = codes "{\"version\":\"0.1.0\"}"
 
 -- the line of an answer in a form
@@ -104,3 +110,13 @@ line_text forms.Json reply = reply_object reply
 -- a day of a sheet as an object: its calendar and week date, its weekday, and whether it is open
 unfoldable pub day_object : ℤ → Bool → List ℕ
 day_object n is_open = codes "{\"date\":\"" ++ (date_text n ++ (codes "\",\"week\":\"" ++ (week_name n ++ (codes "\",\"weekday\":\"" ++ (weekday_name (weekday_of n) ++ (codes "\",\"open\":" ++ ((if is_open then codes "true" else codes "false") ++ codes "}")))))))
+
+-- a text under a key, in a form
+unfoldable pub text_line : OutputForm → Key → List ℕ → List ℕ
+text_line forms.Text key text = text
+text_line forms.Json key text = codes "{\"" ++ (key_text key ++ (codes "\":" ++ (quoted text ++ codes "}")))
+
+-- what a clock shows that is ahead of UTC by so many seconds, and the name of its time, in a form
+unfoldable pub clock_line : OutputForm → Moment → ℤ → List ℕ → List ℕ
+clock_line forms.Text utc ahead name = zoned_debug_text (moment_ahead utc ahead) ahead ++ (codes " " ++ name)
+clock_line forms.Json utc ahead name = codes "{\"moment\":\"" ++ (zoned_debug_text (moment_ahead utc ahead) ahead ++ (codes "\",\"name\":" ++ (quoted name ++ codes "}")))

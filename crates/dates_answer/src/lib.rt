@@ -13,6 +13,7 @@ mod row;
 mod sequence;
 mod sheet;
 mod span;
+mod text_line;
 mod wrong_line;
 
 pub use between::distance;
@@ -26,4 +27,5 @@ pub use row::{Cell, SheetRow};
 pub use sequence::sequence_day;
 pub use sheet::MonthSheet;
 pub use span::{Span, Unit};
+pub use text_line::{ClockLine, TextLine};
 pub use wrong_line::WrongLine;

@@ -37,6 +37,10 @@ pub enum Key {
     Weekday,
     /// An instant in seconds since 1970 in UTC.
     Unix,
+    /// The rule of a time zone.
+    Rule,
+    /// A text.
+    Text,
 }
 
 /// What a line says.
@@ -68,6 +72,8 @@ pub enum Reply {
     NoParts,
     /// That there is no such week, or its first day if its last is no date.
     NoWeek(Option<NaiveDate>),
+    /// That no clock shows such a time.
+    NoClock,
     /// The name of the program and its version.
     Version,
 }
@@ -158,7 +164,9 @@ fn write_text<W: fmt::Write>(reply: &Reply, f: &mut fmt::Formatter<W>) -> fmt::R
         Reply::Whether(_, false) => f.write_str("no"),
         Reply::Parts(parts) => write!(f, "{parts}"),
         Reply::Week(first, last) => write!(f, "{first} {last}"),
-        Reply::Nothing(_) | Reply::NoParts | Reply::NoWeek(_) => f.write_str("none"),
+        Reply::Nothing(_) | Reply::NoParts | Reply::NoWeek(_) | Reply::NoClock => {
+            f.write_str("none")
+        }
         Reply::Version => f.write_str("dates 0.1.0"),
     }
 }
@@ -192,6 +200,7 @@ fn write_object<W: fmt::Write>(reply: &Reply, f: &mut fmt::Formatter<W>) -> fmt:
         Reply::NoParts => f.write_str("{\"years\":null,\"months\":null,\"days\":null}"),
         Reply::NoWeek(None) => f.write_str("{\"first\":null,\"last\":null}"),
         Reply::NoWeek(Some(first)) => write!(f, "{{\"first\":\"{first}\",\"last\":null}}"),
+        Reply::NoClock => f.write_str("{\"moment\":null,\"name\":null}"),
         Reply::Version => f.write_str("{\"version\":\"0.1.0\"}"),
     }
 }
@@ -234,7 +243,7 @@ impl fmt::Display for DayNumbers {
 
 // The key's text.
 #[tactic(auto, unfolding(crate::specs::Lines::key_text))]
-fn key_name(key: Key) -> &'static str
+pub(crate) fn key_name(key: Key) -> &'static str
     ensures { result.now ≡ key_text key }
 {
     match key {
@@ -250,5 +259,7 @@ fn key_name(key: Key) -> &'static str
         Key::Leap => "leap",
         Key::Weekday => "weekday",
         Key::Unix => "unix",
+        Key::Rule => "rule",
+        Key::Text => "text",
     }
 }
