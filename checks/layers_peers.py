@@ -1,13 +1,12 @@
 #!/usr/bin/env python3
-"""Holds the schedules of libcalendar_layers to those of croniter, which is read here by Python.
+"""Holds the schedules of libcalendar_layers to those of croniter, and its open days to those of numpy.
 
     /usr/bin/python3 checks/layers_peers.py [CASES [SEED]]
 
-It needs crates/layers_c/out/liblayers_c.a, which `rt lib` leaves there, a C compiler and the Python package croniter. The static
-library becomes a shared one, which is called by ctypes. Each case is a generated schedule and a start: 20,000 cases, or so many.
-The next and the last moment have to be croniter's. Left out is what the two read otherwise: a field of days that begins with `*`
+It needs crates/layers_c/out/liblayers_c.a, which `rt lib` leaves there, a C compiler, croniter and numpy. The static library becomes
+a shared one, which is called by ctypes. Each case is a generated schedule and a start: 20,000 cases, or so many. The next and the last moment have to be croniter's. Left out is what the two read otherwise: a field of days that begins with `*`
 and has a step, or lists all its numbers. So is what croniter 1.3 does not find: 29 February backwards, and a day in more than 50
-years or in a month that is too short for the days listed.
+years or in a month that is too short for the days listed. As many cases count and move open days by generated weekends and holidays.
 """
 import ctypes
 import datetime
@@ -19,8 +18,9 @@ import tempfile
 
 try:
     import croniter
+    import numpy
 except ImportError:
-    print("not run: there is no croniter\n0 passed, 1 failed")
+    print("not run: there is no croniter or no numpy\n0 passed, 1 failed")
     sys.exit(1)
 
 TOP = os.path.dirname(os.path.dirname(os.path.abspath(__file__)))
@@ -98,6 +98,32 @@ def peer(text, start, name):
     return int((found - EPOCH).total_seconds())
 
 
+def test_open_days(library, numbers, cases):
+    """Counts and moves of open days beside numpy's; how many passed and failed."""
+    passed = failed = 0
+    library.calendar_open_days_between.restype = ctypes.c_int64
+    for _ in range(cases):
+        weekend = numbers.choice((96, 96, 64, 0, numbers.randrange(127)))
+        mask = [not weekend >> k & 1 for k in range(7)]
+        days = numpy.unique(numpy.array([numbers.randrange(10_000, 30_000) for _ in range(numbers.randrange(60))], "M8[D]"))
+        calendar = numpy.busdaycalendar(mask, days)
+        holidays = (calendar.holidays.astype("i8") + 719_163).astype("i4")
+        given = weekend, holidays.ctypes.data_as(ctypes.c_void_p), ctypes.c_size_t(len(holidays))
+        first, last = (numpy.datetime64(it, "D") for it in sorted(numbers.randrange(10_000, 30_000) for _ in range(2)))
+        moved, n = numpy.busday_offset(first, 0, "forward", busdaycal=calendar), numbers.randrange(-400, 400)
+        theirs = int(numpy.busday_offset(moved, n, busdaycal=calendar).astype("i8")) + 719_163
+        start = int(moved.astype("i8")) + 719_163
+        is_moved = library.calendar_add_open_days(*given, start, ctypes.c_int64(n)) == theirs
+        ends = (int(it.astype("i8")) + 719_163 for it in (first, last))
+        count = library.calendar_open_days_between(*given, *ends)
+        is_same = is_moved and count == numpy.busday_count(first, last, busdaycal=calendar)
+        passed, failed = passed + is_same, failed + (not is_same)
+        if not is_same and failed < 10:
+            print(f"weekend {weekend}, {len(holidays)} holidays: {start} and {n}, or {first} to {last}")
+    print(f"open days: {passed} passed, {failed} failed")
+    return passed, failed
+
+
 def main():
     cases = int(sys.argv[1]) if len(sys.argv) > 1 else 20_000
     numbers = random.Random(int(sys.argv[2]) if len(sys.argv) > 2 else 1)
@@ -120,7 +146,9 @@ def main():
                 passed, failed = passed + is_same, failed + (not is_same)
                 if not is_same and failed < 10:
                     print(f"{text}: {name} of {start} is {EPOCH + datetime.timedelta(seconds=ours.seconds)}, croniter has {theirs}")
-    print(f"{none} answers were left out")
+        print(f"schedules: {passed} passed, {failed} failed, {none} answers were left out")
+        more = test_open_days(library, numbers, cases)
+        passed, failed = passed + more[0], failed + more[1]
     print(f"{passed} passed, {failed} failed")
     return 1 if failed else 0
 

@@ -141,6 +141,57 @@ static void schedules(void)
     free(out);
 }
 
+/* A date of the calendar, or now and then any number. */
+static int32_t date(void)
+{
+    return any() % 8 ? (int32_t)(any() % 191491529) - 95746129 : (int32_t)any();
+}
+
+/* Holidays as they should be: some of the workdays from a date on, and now and then a wrong one. */
+static size_t holidays(uint8_t weekend, int32_t *days, size_t room)
+{
+    int64_t day = date();
+    size_t count = 0;
+    while (count < room && any() % 16) {
+        day += 1 + (int64_t)(any() % 40);
+        /* (day 1 is a Monday) */
+        int64_t place = (((day - 1) % 7) + 7) % 7;
+        if (!(weekend >> place & 1) || any() % 64 == 0) {
+            days[count++] = (int32_t)day;
+        }
+    }
+    return count;
+}
+
+static void open_days(void)
+{
+    uint8_t weekend = any() % 2 ? 96 : (uint8_t)any();
+    size_t room = any() % 40;
+    int32_t *days = (int32_t *)malloc((room ? room : 1) * sizeof *days);
+    size_t length = holidays(weekend, days, room);
+    int32_t near = length ? (int32_t)((int64_t)days[any() % length] + (int64_t)(any() % 9) - 4) : date();
+    int64_t n = any() % 8 ? (int64_t)(any() % 400) - 200 : (int64_t)any();
+    int32_t moved = calendar_add_open_days(weekend, days, length, near, n);
+    HOLDS(moved == CALENDAR_NONE || calendar_is_open_day(weekend, days, length, moved));
+    if (moved != CALENDAR_NONE && calendar_is_open_day(weekend, days, length, near)) {
+        HOLDS(calendar_open_days_between(weekend, days, length, near, moved) == n);
+    }
+    for (uint32_t roll = 0; roll < 9; roll++) {
+        int32_t rolled = calendar_roll(weekend, days, length, near, roll);
+        HOLDS(rolled == CALENDAR_NONE || roll == CALENDAR_ROLL_UNADJUSTED || calendar_is_open_day(weekend, days, length, rolled));
+    }
+    free(days);
+}
+
+static void day_counts(void)
+{
+    int32_t from = date(), to = date();
+    uint32_t kind = (uint32_t)(any() % 6);
+    calendar_fraction on = calendar_day_count(kind, from, to), back = calendar_day_count(kind, to, from);
+    HOLDS(on.denominator == back.denominator);
+    HOLDS(kind > CALENDAR_ACTUAL_365_FIXED || on.numerator == -back.numerator);
+}
+
 static void versions(void)
 {
     size_t room = any() % 9;
@@ -157,6 +208,8 @@ int main(int count_of_words, char **words)
         versions();
         schedule_texts();
         schedules();
+        open_days();
+        day_counts();
     }
     printf("%d passed, %d failed\n", passed, failed);
     return failed != 0;

@@ -5,6 +5,8 @@
 
 dateutil's `rrule` gives the local times of a rule, with no zone. Each stands for an instant by RFC 5545, 3.3.5: the first at which the clock
 shows it, or by the offset before the gap. Instants that are one count once, and those before the start's instant do not count.
+A rule by hours, minutes or seconds is FREQ=HOURLY, MINUTELY or SECONDLY with INTERVAL there, and steps of the clock here. dateutil refuses an
+interval that never meets a list of the rule, where the program finds no instance.
 COUNT and UNTIL are held to the instants here, not to the local times. Of some rules one instant is made an exception, and the instant ten
 minutes behind it is set beside the rule. The zones have gaps and folds of half an hour, of one hour and of two, four
 changes in a year, and a day that the clock skips. Some days around each change are gone through by `next_after` and by `prev_before`, and

@@ -1,4 +1,4 @@
-/* calendar_layers.h of proved_calendar: cron schedules and open days, by functions that are proved.
+/* calendar_layers.h of proved_calendar: cron schedules, open days and day counts, by functions that are proved.
  *
  * For example, calendar_schedule_read reads `30 4 1,15 * fri` into a calendar_schedule. calendar_schedule_next then finds the
  * next time at which it is due.
@@ -103,6 +103,63 @@ bool calendar_schedule_is_due(const calendar_schedule *schedule, calendar_date_t
  * at most room. The other elements stay as they were. Begin again from the last one if it wrote room of them. */
 size_t calendar_schedule_due(const calendar_schedule *schedule, calendar_date_time start, calendar_date_time until,
                              calendar_date_time *out, size_t room);
+
+/* ---- open days
+ *
+ * A calendar is a weekend, a set of weekdays, and holidays: a pointer to their day numbers and how many there are. The pointer must
+ * not be null, even for none. Holidays are dates that rise strictly, none of them on the weekend, and at most CALENDAR_MOST_HOLIDAYS.
+ * If they are not, a function returns what it returns for no date. It looks at each holiday once a call. */
+
+/* The most holidays of a calendar. */
+#define CALENDAR_MOST_HOLIDAYS 1000
+
+/* Where a closed date goes (ISDA 2006, section 4.12). */
+enum {
+    CALENDAR_ROLL_UNADJUSTED = 0,
+    CALENDAR_ROLL_FOLLOWING,
+    CALENDAR_ROLL_PRECEDING,
+    CALENDAR_ROLL_MODIFIED_FOLLOWING,
+    CALENDAR_ROLL_MODIFIED_PRECEDING,
+    /* the next open day from a Sunday or a Monday, and the last one from any other day */
+    CALENDAR_ROLL_NEAREST_ISDA,
+    /* the nearest open day, and of two the later, as QuantLib has it */
+    CALENDAR_ROLL_NEAREST_QUANTLIB
+};
+
+/* Returns whether a date is open: neither on the weekend nor a holiday. */
+bool calendar_is_open_day(uint8_t weekend, const int32_t *holidays, size_t count, int32_t date);
+
+/* Returns the n-th open day after a date, or the -n-th before it if n is negative. If n is 0, returns the first open day from the
+ * date on. Returns CALENDAR_NONE if the calendar has no such date. */
+int32_t calendar_add_open_days(uint8_t weekend, const int32_t *holidays, size_t count, int32_t date, int64_t n);
+
+/* Returns how many days are open from one date on and before another. If `to` is the earlier, the result is negative. Returns
+ * INT64_MIN if one of them is not a date. */
+int64_t calendar_open_days_between(uint8_t weekend, const int32_t *holidays, size_t count, int32_t from, int32_t to);
+
+/* Returns the date that a date goes to by a roll, such as CALENDAR_ROLL_FOLLOWING. An open date stays. Returns CALENDAR_NONE if there
+ * is no such open day, or no such roll. */
+int32_t calendar_roll(uint8_t weekend, const int32_t *holidays, size_t count, int32_t date, uint32_t roll);
+
+/* ---- day counts */
+
+/* An exact fraction, which is not reduced. Its denominator is 0 if there is none. */
+typedef struct {
+    int64_t numerator;
+    int64_t denominator;
+} calendar_fraction;
+
+/* The day counts of ISDA 2006, section 4.16. */
+enum {
+    CALENDAR_ACTUAL_ACTUAL_ISDA = 0,
+    CALENDAR_ACTUAL_360,
+    CALENDAR_ACTUAL_365_FIXED,
+    CALENDAR_THIRTY_360,
+    CALENDAR_THIRTY_E_360
+};
+
+/* Returns the part of a year from one date to another by a day count. It is negative if `to` is the earlier. */
+calendar_fraction calendar_day_count(uint32_t kind, int32_t from, int32_t to);
 
 #ifdef __cplusplus
 }

@@ -138,6 +138,82 @@ static void times_of_schedules(void)
     IS_MOMENT(calendar_schedule_next(&schedule, moment(MARCH, 0)), MARCH + 60, 0);
 }
 
+/* 29 February 2024 and some days around it. 1 January of year 1 is day 1. */
+#define FEB_29 738945
+#define FRIDAY_MARCH_1 738946
+#define WEEKEND 96
+
+static void open_days(void)
+{
+    /* Good Friday and Easter Monday of 2024 */
+    const int32_t easter[] = {738974, 738977};
+    const int32_t falling[] = {738977, 738974};
+    const int32_t saturday[] = {738975};
+    IS(calendar_is_open_day(WEEKEND, easter, 2, 738973), true);
+    IS(calendar_is_open_day(WEEKEND, easter, 2, 738974), false);
+    IS(calendar_is_open_day(WEEKEND, easter, 2, 738975), false);
+    IS(calendar_is_open_day(WEEKEND, easter, 2, CALENDAR_NONE), false);
+    IS(calendar_is_open_day(WEEKEND, falling, 2, 738973), false);
+    IS(calendar_is_open_day(WEEKEND, saturday, 1, 738973), false);
+    IS(calendar_add_open_days(WEEKEND, easter, 2, 738973, 1), 738978);
+    IS(calendar_add_open_days(WEEKEND, easter, 2, 738973, 2), 738979);
+    IS(calendar_add_open_days(WEEKEND, easter, 2, 738978, -1), 738973);
+    IS(calendar_add_open_days(WEEKEND, easter, 0, 738973, 1), 738974);
+    IS(calendar_add_open_days(WEEKEND, easter, 2, 738974, 0), 738978);
+    IS(calendar_add_open_days(127, easter, 0, 738974, 0), CALENDAR_NONE);
+    IS(calendar_add_open_days(WEEKEND, falling, 2, 738973, 1), CALENDAR_NONE);
+    IS(calendar_add_open_days(WEEKEND, easter, 2, CALENDAR_MAX, 2), CALENDAR_NONE);
+    IS(calendar_add_open_days(WEEKEND, easter, 2, CALENDAR_MAX, INT64_MIN), CALENDAR_NONE);
+    IS(calendar_open_days_between(WEEKEND, easter, 2, FRIDAY_MARCH_1, 738977), 20);
+    IS(calendar_open_days_between(WEEKEND, easter, 0, FRIDAY_MARCH_1, 738977), 21);
+    IS(calendar_open_days_between(WEEKEND, easter, 2, 738977, FRIDAY_MARCH_1), -20);
+    IS(calendar_open_days_between(WEEKEND, easter, 2, CALENDAR_NONE, 738977), INT64_MIN);
+    IS(calendar_open_days_between(WEEKEND, easter, 2, 738977, INT32_MAX), INT64_MIN);
+    IS(calendar_roll(WEEKEND, easter, 2, 738974, CALENDAR_ROLL_UNADJUSTED), 738974);
+    IS(calendar_roll(WEEKEND, easter, 2, 738974, CALENDAR_ROLL_FOLLOWING), 738978);
+    IS(calendar_roll(WEEKEND, easter, 2, 738974, CALENDAR_ROLL_PRECEDING), 738973);
+    IS(calendar_roll(WEEKEND, easter, 2, 738976, CALENDAR_ROLL_MODIFIED_FOLLOWING), 738973);
+    IS(calendar_roll(WEEKEND, easter, 2, 738977, CALENDAR_ROLL_MODIFIED_PRECEDING), 738978);
+    IS(calendar_roll(WEEKEND, easter, 2, 738976, CALENDAR_ROLL_NEAREST_ISDA), 738978);
+    IS(calendar_roll(WEEKEND, easter, 2, 738974, CALENDAR_ROLL_NEAREST_QUANTLIB), 738973);
+    IS(calendar_roll(WEEKEND, easter, 2, 738973, CALENDAR_ROLL_FOLLOWING), 738973);
+    IS(calendar_roll(WEEKEND, easter, 2, 738973, 7), CALENDAR_NONE);
+    IS(calendar_roll(WEEKEND, easter, 2, CALENDAR_NONE, 1), CALENDAR_NONE);
+}
+
+static void many_holidays(void)
+{
+    int32_t holidays[CALENDAR_MOST_HOLIDAYS + 1];
+    for (int k = 0; k <= CALENDAR_MOST_HOLIDAYS; k++) {
+        holidays[k] = FEB_29 + k;
+    }
+    IS(calendar_add_open_days(0, holidays, CALENDAR_MOST_HOLIDAYS, FEB_29, 0), FEB_29 + CALENDAR_MOST_HOLIDAYS);
+    IS(calendar_add_open_days(0, holidays, CALENDAR_MOST_HOLIDAYS + 1, FEB_29, 0), CALENDAR_NONE);
+}
+
+static bool counts(uint32_t kind, int32_t from, int32_t to, int64_t numerator, int64_t denominator)
+{
+    calendar_fraction found = calendar_day_count(kind, from, to);
+    return found.numerator == numerator && found.denominator == denominator;
+}
+
+static void day_counts(void)
+{
+    /* from 31 December 2023 to 2 January 2024: a day of either year */
+    IS(counts(CALENDAR_ACTUAL_ACTUAL_ISDA, 738885, 738887, 731, 133590), true);
+    IS(counts(CALENDAR_ACTUAL_360, 738885, 738887, 2, 360), true);
+    IS(counts(CALENDAR_ACTUAL_365_FIXED, 738887, 738885, -2, 365), true);
+    /* from 31 January to 29 February 2024 */
+    IS(counts(CALENDAR_THIRTY_360, 738916, FEB_29, 29, 360), true);
+    IS(counts(CALENDAR_THIRTY_E_360, 738916, FEB_29, 29, 360), true);
+    /* from 29 February to 31 March 2024 */
+    IS(counts(CALENDAR_THIRTY_360, FEB_29, 738976, 32, 360), true);
+    IS(counts(CALENDAR_THIRTY_E_360, FEB_29, 738976, 31, 360), true);
+    IS(counts(5, FEB_29, FEB_29, 0, 0), true);
+    IS(counts(CALENDAR_ACTUAL_360, CALENDAR_NONE, FEB_29, 0, 0), true);
+    IS(counts(CALENDAR_ACTUAL_360, FEB_29, INT32_MAX, 0, 0), true);
+}
+
 static void versions(void)
 {
     uint8_t text[16];
@@ -153,6 +229,9 @@ int main(void)
     texts_of_schedules();
     sentences_of_schedules();
     times_of_schedules();
+    open_days();
+    many_holidays();
+    day_counts();
     printf("%d passed, %d failed\n", passed, failed);
     return failed != 0;
 }

@@ -5,12 +5,11 @@ ghost use Rattle.chrono_datetime.specs.Moment.{moment_distance, reach};
 ghost use Rattle.numbers_c.specs.Answers.{count_or_none, or_none};
 ghost use Rattle.numbers_c.specs.DateTimes.{duration_from_c, duration_or_none, moment_at, moment_from_c, numbers_or_none};
 
-use numbers_c::NONE;
-use numbers_c::{
-    CalendarDateTime, CalendarDuration, date_time_at, date_time_of, duration_of, duration_or_none,
-    numbers_or_none,
-};
 use chrono_datetime::{Datelike, NaiveDateTime, TimeDelta, Timelike};
+use numbers_c::{
+    CalendarDateTime, CalendarDuration, NONE, date_time_at, date_time_of, duration_of,
+    duration_or_none, numbers_or_none,
+};
 
 /// Returns the date-time at a second of a date, from 0 to 86,399, and `nanos` nanoseconds after it.
 #[unsafe(no_mangle)]

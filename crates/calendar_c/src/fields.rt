@@ -8,10 +8,9 @@ ghost use Rattle.chrono_datetime.specs.Weeks.{iso_week_of, iso_year_of, weekday_
 ghost use Rattle.numbers_c.specs.Answers.{count_or_none, or_none};
 ghost use Rattle.numbers_c.specs.Arguments.{days_in_month};
 
-use numbers_c::NONE;
-use numbers_c::date_of;
 use chrono_datetime::{Datelike, Month};
 use chrono_units::year::is_leap_year;
+use numbers_c::{NONE, date_of};
 
 /// Returns the year of a date, from -262,143 to 262,142.
 #[unsafe(no_mangle)]

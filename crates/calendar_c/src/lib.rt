@@ -8,10 +8,7 @@
 //! A function of columns that takes several of them returns whether they have the same length. If not, it writes nothing.
 #![tactic(auto)]
 
-mod answers;
-mod arguments;
 mod columns;
-mod date_time_numbers;
 mod date_times;
 mod fields;
 mod moves;

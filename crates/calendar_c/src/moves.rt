@@ -7,8 +7,7 @@ ghost use Rattle.chrono_datetime.specs.Recurrence.{date_every};
 ghost use Rattle.chrono_datetime.specs.YearsBetween.{years_between};
 ghost use Rattle.numbers_c.specs.Answers.{count_or_none, or_none};
 
-use numbers_c::{NONE, number_or_none};
-use numbers_c::date_of;
+use numbers_c::{NONE, date_of, number_or_none};
 
 /// Returns the date `days` days later, or earlier if `days` is negative.
 #[unsafe(no_mangle)]

@@ -6,9 +6,8 @@ ghost use Rattle.chrono_datetime.specs.Weeks.{date_of_iso, date_of_nth_weekday};
 ghost use Rattle.numbers_c.specs.Answers.{or_none};
 ghost use Rattle.numbers_c.specs.Arguments.{weekday_numbered};
 
-use numbers_c::{NONE, number_or_none};
-use numbers_c::weekday_of;
 use chrono_datetime::NaiveDate;
+use numbers_c::{NONE, number_or_none, weekday_of};
 
 /// Returns the date of a year, a month from 1 to 12 and a day of the month from 1 (ISO 8601 calendar date).
 #[unsafe(no_mangle)]

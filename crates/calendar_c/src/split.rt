@@ -2,9 +2,8 @@
 ghost use Rattle.std.specs.Prelude.{◌≡◌};
 ghost use Rattle.chrono_columns.specs.Columns.{day_entry, month_entry, year_entry};
 
-use numbers_c::NONE;
-use numbers_c::date_of;
 use chrono_datetime::Datelike;
+use numbers_c::{NONE, date_of};
 
 /// A year, a month from 1 to 12 and a day of the month from 1. If there is no date: the least `i32` and twice 0.
 #[repr(C)]

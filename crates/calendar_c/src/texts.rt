@@ -12,11 +12,11 @@ ghost use Rattle.numbers_c.specs.Answers.{count_or_none, none_number};
 ghost use Rattle.numbers_c.specs.DateTimes.{moment_from_c, numbers_for_c, numbers_or_none};
 ghost use Rattle.numbers_c.specs.Texts.{length_of, overwritten, text_within};
 
-use numbers_c::{NONE, number_or_none};
-use numbers_c::date_of;
-use numbers_c::{CalendarDateTime, date_time_of, numbers_or_none};
 use chrono_reading::{read_date, read_date_time};
 use chrono_text::Text;
+use numbers_c::{
+    CalendarDateTime, NONE, date_of, date_time_of, number_or_none, numbers_or_none, write_over,
+};
 
 // How many bytes the longest date has.
 const LONGEST_DATE: usize = 13;

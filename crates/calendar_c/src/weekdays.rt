@@ -9,8 +9,7 @@ ghost use Rattle.chrono_datetime.specs.Recurrence.{date_on};
 ghost use Rattle.numbers_c.specs.Answers.{count_or_none, or_none};
 ghost use Rattle.numbers_c.specs.Arguments.{weekday_numbered};
 
-use numbers_c::{NONE, number_or_none};
-use numbers_c::{date_of, set_of, weekday_of};
+use numbers_c::{NONE, date_of, number_or_none, set_of, weekday_of};
 
 /// Returns the first day of the week that contains the date and begins on the weekday `start`.
 #[unsafe(no_mangle)]

@@ -1,7 +1,9 @@
 -- A folded text is unfolded again.
 use Rattle.std.proofs.Common.{◌≡◌, ℕ, ◌+◌, ◌<◌, ◌≤◌, ◌==◌, Bool, true, false, List, [], ◌∷◌, ◌++◌, length, drop, refl, sym, ap, ◌∙◌, append-nil}
 use Rattle.std.specs.Prelude.{not, ◌&&◌, ◌||◌, codes, slice_index, if◌then◌else◌}
+use Rattle.std.proofs.Math.Bool.{and-false, and-true}
 use Rattle.std.proofs.Math.ListN.{drop_of_length-le}
+use Rattle.std.proofs.Math.Bool.{and-false, and-true}
 use Rattle.std.proofs.lemmas.Bool.{and_from, and_parts, eqb-true, not-true}
 use Rattle.std.proofs.lemmas.List.{drop_more}
 use Rattle.chrono_text.specs.Lists.{is_blank}
@@ -20,10 +22,6 @@ fold_end text front at column end = ap (λ rest. front ++ folded_behind column r
 
 -- ---- and what is unfolded of it
 
-and_false : (x : Bool) → (x && false) ≡ false
-and_false true = refl
-and_false false = refl
-
 -- a byte that is no part of a line break or of a fold is kept
 kept_byte : (before b : ℕ) (rest : List ℕ) → (b == 13) ≡ false → (b == 10) ≡ false → (is_blank b && (before == 10)) ≡ false
     → unfolded_behind before (b ∷ rest) ≡ b ∷ unfolded_behind b rest
@@ -33,10 +31,6 @@ kept_byte before b rest cr lf blank =
     let left = ap (λ (t : Bool). (t && (behind == 10)) || (((b == 10) && is_blank behind) || (is_blank b && (before == 10)))) cr
     ∙ ap (λ (t : Bool). (t && is_blank behind) || (is_blank b && (before == 10))) lf ∙ blank in
     ap (λ (t : Bool). if t then unfolded_behind b rest else b ∷ unfolded_behind b rest) left
-
-and_true : (x : Bool) → (x && true) ≡ x
-and_true true = refl
-and_true false = refl
 
 -- the first byte of a folded line is no blank
 no_blank_byte : (c : ℕ) (rest : List ℕ) (t : Bool) → is_blank c ≡ false → is_blank (slice_index ((if t then codes "\r\n" else c ∷ []) ++ rest) 0) ≡ false
@@ -49,7 +43,7 @@ no_blank [] ok = refl
 no_blank (c ∷ cs) ok =
     let parts = and_parts (may_stand_behind 10 c) (may_fold_behind c cs) ok in
     let follow = and_parts (not (c == 13)) (not (is_blank c && (10 == 10))) parts.0 in
-    no_blank_byte c (folded_behind (column_behind 0 c) cs) (c == 10) (sym (and_true (is_blank c)) ∙ not-true (is_blank c && (10 == 10)) follow.1)
+    no_blank_byte c (folded_behind (column_behind 0 c) cs) (c == 10) (sym (and-true (is_blank c)) ∙ not-true (is_blank c && (10 == 10)) follow.1)
 
 -- a byte with its line break, with its fold, and as it is
 cases : (before column b : ℕ) (bs : List ℕ) (t : Bool) → (b == 10) ≡ t → (u : Bool) → (b == 13) ≡ false → (is_blank b && (before == 10)) ≡ false
@@ -63,7 +57,7 @@ cases before column b bs true line u cr blank ok rest =
     ap (λ (t : Bool). if (t || false) then unfolded_behind 10 tail else 10 ∷ unfolded_behind 10 tail) first
     ∙ ap (λ n. n ∷ unfolded_behind n tail) (sym is) ∙ ap (λ r. b ∷ r) (rest 0)
 cases before column b bs false line true cr blank ok rest =
-    kept_byte 32 b (folded_behind 2 bs) cr line (and_false (is_blank b)) ∙ ap (λ r. b ∷ r) (rest 2)
+    kept_byte 32 b (folded_behind 2 bs) cr line (and-false (is_blank b)) ∙ ap (λ r. b ∷ r) (rest 2)
 cases before column b bs false line false cr blank ok rest =
     kept_byte before b (folded_behind (column + 1) bs) cr line blank ∙ ap (λ r. b ∷ r) (rest (column + 1))
 
@@ -82,7 +76,7 @@ begins [] ok = refl
 begins (b ∷ bs) ok =
     let parts = and_parts (may_stand_behind 10 b) (may_fold_behind b bs) ok in
     let follow = and_parts (not (b == 13)) (not (is_blank b && (10 == 10))) parts.0 in
-    and_from (may_stand_behind 0 b) (may_fold_behind b bs) (and_from (not (b == 13)) (not (is_blank b && (0 == 10))) follow.0 (ap not (and_false (is_blank b)))) parts.1
+    and_from (may_stand_behind 0 b) (may_fold_behind b bs) (and_from (not (b == 13)) (not (is_blank b && (0 == 10))) follow.0 (ap not (and-false (is_blank b)))) parts.1
 
 pub folded_back : (text : List ℕ) → may_fold text ≡ true → unfolded (folded text) ≡ text
 unfolding may_fold

@@ -1,6 +1,5 @@
 mod FoldLemmas
 mod FoldBack
-mod TextLemmas
 mod TimesBack
 mod PieceLemmas
 mod PutLemmas

@@ -8,8 +8,8 @@ use Rattle.calendar_text.specs.CalendarTimes.{time_of}
 use Rattle.calendar_text.specs.Folds.{folded_place, unfolded}
 use Rattle.calendar_text.specs.Lines.{head_of, is_line_of, has_class, nothing_seen, parameters_read, property_key, property_of, time_read, line_value, with_line, with_property, with_rule, with_start, zone_of}
 use Rattle.calendar_text.specs.Reads.{calendar_error_at, placed_through, and_then_read}
-use Rattle.calendar_text.specs.declared.calendar_error.CalendarError.{CalendarError}
-use Rattle.calendar_text.specs.declared.calendar_error.CalendarFault.TheVariants.{NoStart, NotATime}
+use Rattle.calendar_text.specs.declared.calendar_error.CalendarTextError.{CalendarTextError}
+use Rattle.calendar_text.specs.declared.calendar_error.CalendarTextFault.TheVariants.{NoStart, NotATime}
 use Rattle.calendar_text.specs.declared.calendar_time.CalendarTime.{CalendarTime}
 use Rattle.calendar_text.specs.declared.property.Property.{Property}
 use Rattle.calendar_text.specs.declared.property.Property.TheVariants.{Start, Rule, Dates, Exceptions}
@@ -35,17 +35,17 @@ abbrev pub times_of : Property → List (List ℕ) → List CalendarTime
 times_of property ls = flat_map (line_times property) ls
 
 -- the time of DTSTART among what the lines have
-abbrev pub started : ℕ → Option CalendarTime → Result CalendarTime CalendarError
+abbrev pub started : ℕ → Option CalendarTime → Result CalendarTime CalendarTextError
 started end None = Err (calendar_error_at end NoStart)
 started end (Some t) = Ok t
 
 -- all lines are read, with that of DTSTART, which has to be there
-abbrev pub lines_read : List ℕ → Option (List ℕ) → Result CalendarTime CalendarError
+abbrev pub lines_read : List ℕ → Option (List ℕ) → Result CalendarTime CalendarTextError
 lines_read text None = Err (calendar_error_at (length text) NoStart)
 lines_read text (Some line) = and_then_read (placed_through (with_line line) nothing_seen 0 (content_lines text)) (λ s. started (length text) s.start)
 
 -- the time of DTSTART, if the text has one and each line can be read; else the first error
-unfoldable pub start_read : List ℕ → Result CalendarTime CalendarError
+unfoldable pub start_read : List ℕ → Result CalendarTime CalendarTextError
 start_read text = lines_read text (first_line Start text)
 
 -- what a text of a calendar has: the start, the zone of local times, the text of the rule, the times beside it, and those that are left out
@@ -69,8 +69,8 @@ abbrev pub IsCalendarText : List ℕ → CalendarParts → Type 0
 IsCalendarText text c = HasParts (unfolded text) c
 
 -- the error of a text that is none: it is told where its byte stands in the folded text
-abbrev pub IsCalendarError : List ℕ → CalendarError → Type 0
-IsCalendarError text e = (u : CalendarError) × (start_read (unfolded text) ≡ Err u) × (e ≡ calendar_error_at (folded_place text u.byte) u.fault)
+abbrev pub IsCalendarError : List ℕ → CalendarTextError → Type 0
+IsCalendarError text e = (u : CalendarTextError) × (start_read (unfolded text) ≡ Err u) × (e ≡ calendar_error_at (folded_place text u.byte) u.fault)
 
 -- known values: no DTSTART, and a date with no VALUE
 start_read-none : start_read (codes "RRULE:FREQ=DAILY\n") ≡ Err (calendar_error_at 17 NoStart)

@@ -11,9 +11,9 @@ use Rattle.calendar_text.specs.CalendarTimes.{time_of}
 use Rattle.calendar_text.specs.Reads.{behind, calendar_error_at, placed_through, and_then_read}
 use Rattle.calendar_text.specs.declared.byte_class.ByteClass.{ByteClass}
 use Rattle.calendar_text.specs.declared.byte_class.ByteClass.TheVariants.{Safe, Rule as OfRule}
-use Rattle.calendar_text.specs.declared.calendar_error.CalendarError.{CalendarError}
-use Rattle.calendar_text.specs.declared.calendar_error.CalendarFault.{CalendarFault}
-use Rattle.calendar_text.specs.declared.calendar_error.CalendarFault.TheVariants.{NoColon, UnknownProperty, PropertyTwice, UnknownParameter, ParameterTwice, NotAZoneName, UnknownValueType, ZoneOfDate, NotATime, OtherKind, OtherZone, NotARule}
+use Rattle.calendar_text.specs.declared.calendar_error.CalendarTextError.{CalendarTextError}
+use Rattle.calendar_text.specs.declared.calendar_error.CalendarTextFault.{CalendarTextFault}
+use Rattle.calendar_text.specs.declared.calendar_error.CalendarTextFault.TheVariants.{NoColon, UnknownProperty, PropertyTwice, UnknownParameter, ParameterTwice, NotAZoneName, UnknownValueType, ZoneOfDate, NotATime, OtherKind, OtherZone, NotARule}
 use Rattle.calendar_text.specs.declared.calendar_time.CalendarTime.{CalendarTime}
 use Rattle.calendar_text.specs.declared.calendar_time.CalendarTime.TheVariants.{Date, Local, Utc}
 use Rattle.calendar_text.specs.declared.content_line.Kinds.{Kinds}
@@ -57,7 +57,7 @@ no_parameters = record { has_zone = false; has_type = false; is_date = false }
 
 -- "tzidparam = "TZID" "=" [tzidprefix] paramtext", and "paramtext = *SAFE-CHAR". The name is not empty here. 3.2.19: TZID "MUST NOT be applied
 -- to DATE properties"
-unfoldable pub with_zone : Parameters → List ℕ → Result Parameters CalendarError
+unfoldable pub with_zone : Parameters → List ℕ → Result Parameters CalendarTextError
 with_zone p name =
     if p.has_zone then Err (calendar_error_at 0 ParameterTwice)
     else if p.is_date then Err (calendar_error_at 0 ZoneOfDate)
@@ -65,7 +65,7 @@ with_zone p name =
     else Err (calendar_error_at (5 + prefix_len (has_class Safe) name) NotAZoneName)
 
 -- "VALUE" "=" ("DATE-TIME" / "DATE"). RDATE may also have PERIOD, which is not read here
-unfoldable pub with_type : Parameters → List ℕ → Result Parameters CalendarError
+unfoldable pub with_type : Parameters → List ℕ → Result Parameters CalendarTextError
 with_type p word =
     if p.has_type then Err (calendar_error_at 0 ParameterTwice)
     else if str_eq_ignore_ascii_case word (codes "DATE") then (if p.has_zone then Err (calendar_error_at 0 ZoneOfDate) else Ok (record p { has_type = true; is_date = true }))
@@ -73,14 +73,14 @@ with_type p word =
     else Err (calendar_error_at 6 UnknownValueType)
 
 -- one more parameter. Each is "OPTIONAL, but MUST NOT occur more than once"
-unfoldable pub with_parameter : Parameters → List ℕ → Result Parameters CalendarError
+unfoldable pub with_parameter : Parameters → List ℕ → Result Parameters CalendarTextError
 with_parameter p text =
     if begins_alike (codes "TZID=") text then with_zone p (drop 5 text)
     else if begins_alike (codes "VALUE=") text then with_type p (drop 6 text)
     else Err (calendar_error_at 0 UnknownParameter)
 
 -- the parameters in front of a line's colon, with a semicolon in front of each
-unfoldable pub parameters_read : List ℕ → Result Parameters CalendarError
+unfoldable pub parameters_read : List ℕ → Result Parameters CalendarTextError
 parameters_read head =
     if stands_in (byte ";") head
     then behind (length (before_first (λ x. x == byte ";") head) + 1) (placed_through with_parameter no_parameters 0 (pieces (byte ";") (after_first (λ x. x == byte ";") head)))
@@ -127,26 +127,26 @@ abbrev pub kinds_of : Parameters → Bool → Kinds
 kinds_of p same_zone = record { dates = p.is_date; locals = not p.is_date; utcs = not p.is_date && not p.has_zone; same_zone = same_zone }
 
 -- what is wrong with a time in a line
-unfoldable pub time_fault : Kinds → CalendarTime → Option CalendarFault
+unfoldable pub time_fault : Kinds → CalendarTime → Option CalendarTextFault
 time_fault k (Date d) = if k.dates then None else Some OtherKind
 time_fault k (Local m) = if not k.locals then Some OtherKind else if k.same_zone then None else Some OtherZone
 time_fault k (Utc m) = if k.utcs then None else Some OtherKind
 
 -- a time, unless that is wrong with it
-abbrev pub unless_fault : CalendarTime → Option CalendarFault → Result CalendarTime CalendarError
+abbrev pub unless_fault : CalendarTime → Option CalendarTextFault → Result CalendarTime CalendarTextError
 unless_fault t None = Ok t
 unless_fault t (Some fault) = Err (calendar_error_at 0 fault)
 
-abbrev pub checked_time : Kinds → Option CalendarTime → Result CalendarTime CalendarError
+abbrev pub checked_time : Kinds → Option CalendarTime → Result CalendarTime CalendarTextError
 checked_time k None = Err (calendar_error_at 0 NotATime)
 checked_time k (Some t) = unless_fault t (time_fault k t)
 
 -- the time that a text writes in a line
-unfoldable pub time_read : Kinds → List ℕ → Result CalendarTime CalendarError
+unfoldable pub time_read : Kinds → List ℕ → Result CalendarTime CalendarTextError
 time_read k text = checked_time k (time_of text)
 
 -- one more time of a list. `true` says that all so far are times
-unfoldable pub with_time : Kinds → Bool → List ℕ → Result Bool CalendarError
+unfoldable pub with_time : Kinds → Bool → List ℕ → Result Bool CalendarTextError
 with_time k before text = and_then_read (time_read k text) (λ t. Ok true)
 
 -- two names of zones are one, in letters of either case; or there is none in both
@@ -174,13 +174,13 @@ abbrev pub nothing_seen : Seen
 nothing_seen = record { start = None; has_rule = false }
 
 -- DTSTART: parameters and one time. It "MUST NOT occur more than once"
-unfoldable pub with_start : Seen → List ℕ → List ℕ → Result Seen CalendarError
+unfoldable pub with_start : Seen → List ℕ → List ℕ → Result Seen CalendarTextError
 with_start s head value =
     if is_some s.start then Err (calendar_error_at 0 PropertyTwice)
     else and_then_read (parameters_read head) (λ p. and_then_read (behind (length head + 1) (time_read (kinds_of p true) value)) (λ t. Ok (record s { start = Some t })))
 
 -- RRULE: no parameter, and the bytes of a rule. The rule itself is not read. More than one is not read here
-unfoldable pub with_rule : Seen → List ℕ → List ℕ → Result Seen CalendarError
+unfoldable pub with_rule : Seen → List ℕ → List ℕ → Result Seen CalendarTextError
 with_rule s head value =
     if s.has_rule then Err (calendar_error_at 0 PropertyTwice)
     else if stands_in (byte ";") head then Err (calendar_error_at (length (before_first (λ x. x == byte ";") head) + 1) UnknownParameter)
@@ -188,13 +188,13 @@ with_rule s head value =
     else Err (calendar_error_at (length head + 1 + prefix_len (has_class OfRule) value) NotARule)
 
 -- RDATE and EXDATE: parameters, and times with a comma between each two. A local time is in the zone of DTSTART
-unfoldable pub with_list : List ℕ → Seen → List ℕ → List ℕ → Result Seen CalendarError
+unfoldable pub with_list : List ℕ → Seen → List ℕ → List ℕ → Result Seen CalendarTextError
 with_list start s head value =
     and_then_read (parameters_read head) (λ p.
     and_then_read (behind (length head + 1) (placed_through (with_time (kinds_of p (zones_agree start head))) false 0 (pieces (byte ",") value))) (λ t. Ok s))
 
 -- a property with its parameters and its value
-unfoldable pub with_property : List ℕ → Seen → List ℕ → List ℕ → Option Property → Result Seen CalendarError
+unfoldable pub with_property : List ℕ → Seen → List ℕ → List ℕ → Option Property → Result Seen CalendarTextError
 with_property start s head value None = Err (calendar_error_at 0 UnknownProperty)
 with_property start s head value (Some Start) = with_start s head value
 with_property start s head value (Some Rule) = with_rule s head value
@@ -202,7 +202,7 @@ with_property start s head value (Some Dates) = with_list start s head value
 with_property start s head value (Some Exceptions) = with_list start s head value
 
 -- one more line. A line with no byte counts for nothing
-unfoldable pub with_line : List ℕ → Seen → List ℕ → Result Seen CalendarError
+unfoldable pub with_line : List ℕ → Seen → List ℕ → Result Seen CalendarTextError
 with_line start s line =
     if length line == 0 then Ok s
     else if stands_in (byte ":") line then with_property start s (head_of line) (line_value line) (property_of (property_name line))

@@ -1,9 +1,9 @@
-//! `CalendarError`: what is wrong with a text of a calendar, and where.
+//! `CalendarTextError`: what is wrong with a text of a calendar, and where.
 ghost use Rattle.std.specs.Prelude.{◌≡◌, ◌+◌, ◌^◌, ◌<◌};
 
 /// What is wrong with a text of a calendar.
 #[derive(Clone, Copy, PartialEq, Eq, Debug)]
-pub enum CalendarFault {
+pub enum CalendarTextFault {
     /// The line has no colon.
     NoColon,
     /// The line begins with none of the names DTSTART, RRULE, RDATE and EXDATE.
@@ -34,20 +34,20 @@ pub enum CalendarFault {
 
 /// What is wrong with a text of a calendar, and where.
 #[derive(Clone, Copy, PartialEq, Eq, Debug)]
-pub struct CalendarError {
+pub struct CalendarTextError {
     /// The position in the text, in bytes from 0.
     pub byte: usize,
     /// What is wrong there.
-    pub fault: CalendarFault,
+    pub fault: CalendarTextFault,
 }
 
-impl CalendarError {
+impl CalendarTextError {
     // The error of a text that begins so many bytes behind the beginning of another.
-    pub(crate) fn behind(self, bytes: usize) -> CalendarError
+    pub(crate) fn behind(self, bytes: usize) -> CalendarTextError
         requires { bytes + self.byte < 2 ^ 64 }
         ensures { result ≡ record { byte = bytes + self.byte; fault = self.fault } }
     {
-        CalendarError {
+        CalendarTextError {
             byte: bytes + self.byte,
             fault: self.fault,
         }
@@ -55,8 +55,8 @@ impl CalendarError {
 }
 
 // The error at a byte.
-pub(crate) fn error_at(byte: usize, fault: CalendarFault) -> CalendarError
+pub(crate) fn error_at(byte: usize, fault: CalendarTextFault) -> CalendarTextError
     ensures { result ≡ record { byte = byte; fault = fault } }
 {
-    CalendarError { byte, fault }
+    CalendarTextError { byte, fault }
 }

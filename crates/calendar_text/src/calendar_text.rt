@@ -6,7 +6,7 @@ ghost use Rattle.calendar_text.specs.Lines.{head_of, text_in, line_value};
 ghost use Rattle.calendar_text.specs.declared.property.Property.TheVariants.{Rule};
 ghost use Rattle.calendar_text.specs.TextParts.{parts_read};
 
-use crate::calendar_error::{CalendarError, CalendarFault, error_at};
+use crate::calendar_error::{CalendarTextError, CalendarTextFault, error_at};
 use crate::calendar_time::CalendarTime;
 use crate::content_line::{LineReader, Seen};
 use crate::folds::{folded_place, unfold};
@@ -57,7 +57,7 @@ pub struct CalendarText<'a> {
 pub fn read_calendar_text<'a>(
     text: &[u8],
     buffer: &'a mut [u8],
-) -> Result<CalendarText<'a>, CalendarError>
+) -> Result<CalendarText<'a>, CalendarTextError>
     requires { length text.now ≤ length buffer.old }
     ensures read { IfOk result (λ c. IsCalendarText text.now (parts_read c)) }
     ensures every { (p : CalendarParts) → IsCalendarText text.now p → IsOk result }
@@ -72,12 +72,12 @@ pub fn read_calendar_text<'a>(
 
 // Reads the lines of an unfolded text.
 #[tactic(auto, unfolding(crate::specs::CalendarTexts::start_read))]
-fn read_lines(text: &[u8]) -> Result<CalendarText<'_>, CalendarError>
+fn read_lines(text: &[u8]) -> Result<CalendarText<'_>, CalendarTextError>
     ensures read { IfOk result (λ c. HasParts text.now (parts_read c)) }
     ensures error { IfErr result (λ e. start_read text.now ≡ Err e) }
 {
     let Some(line) = first_line(Property::Start, text) else {
-        return Err(error_at(text.len(), CalendarFault::NoStart));
+        return Err(error_at(text.len(), CalendarTextFault::NoStart));
     };
     let none = Seen {
         start: None,
@@ -92,7 +92,7 @@ fn read_lines(text: &[u8]) -> Result<CalendarText<'_>, CalendarError>
                 dates: TimeList::of(Property::Dates, text),
                 exceptions: TimeList::of(Property::Exceptions, text),
             }),
-            None => Err(error_at(text.len(), CalendarFault::NoStart)),
+            None => Err(error_at(text.len(), CalendarTextFault::NoStart)),
         },
         Err(error) => Err(error),
     }

@@ -5,7 +5,7 @@ ghost use Rattle.std.specs.Str.{byte};
 ghost use Rattle.calendar_text.specs.Lines.{kinds_of, property_of, same_zone, text_in, time_fault, time_read, with_line, with_list, with_property, with_rule, with_start, with_time, zones_agree};
 
 use crate::byte_class::{ByteClass, class_len};
-use crate::calendar_error::{CalendarError, CalendarFault, error_at};
+use crate::calendar_error::{CalendarTextError, CalendarTextFault, error_at};
 use crate::calendar_time::{CalendarTime, read_calendar_time};
 use crate::parameters::{Parameters, read_parameters, zone_of};
 use crate::pieces::{PieceReader, cut_at, read_pieces};
@@ -44,7 +44,7 @@ pub(crate) struct LineReader<'a> {
 impl<'a> PieceReader<Seen> for LineReader<'a> {
     ghost step = { λ r. with_line r.start.now };
 
-    fn with_piece(&self, read: Seen, piece: &[u8]) -> Result<Seen, CalendarError> {
+    fn with_piece(&self, read: Seen, piece: &[u8]) -> Result<Seen, CalendarTextError> {
         with_line(self.start, read, piece)
     }
 }
@@ -59,7 +59,7 @@ impl PieceReader<bool> for TimeReader {
     ghost step = { λ r. with_time r.kinds };
 
     #[tactic(auto, unfolding(crate::specs::Lines::with_time))]
-    fn with_piece(&self, _read: bool, piece: &[u8]) -> Result<bool, CalendarError> {
+    fn with_piece(&self, _read: bool, piece: &[u8]) -> Result<bool, CalendarTextError> {
         match read_time(self.kinds, piece) {
             Ok(_) => Ok(true),
             Err(error) => Err(error),
@@ -69,7 +69,7 @@ impl PieceReader<bool> for TimeReader {
 
 // What was seen, with one more line.
 #[tactic(auto, unfolding(crate::specs::Lines::with_line))]
-fn with_line(start: &[u8], seen: Seen, line: &[u8]) -> Result<Seen, CalendarError>
+fn with_line(start: &[u8], seen: Seen, line: &[u8]) -> Result<Seen, CalendarTextError>
     ensures read { result ≡ with_line start.now seen line.now }
     ensures byte { IfErr result (λ e. e.byte ≤ length line.now) }
 {
@@ -77,19 +77,24 @@ fn with_line(start: &[u8], seen: Seen, line: &[u8]) -> Result<Seen, CalendarErro
         return Ok(seen);
     }
     let Some((head, value)) = cut_at(line, b':') else {
-        return Err(error_at(line.len(), CalendarFault::NoColon));
+        return Err(error_at(line.len(), CalendarTextFault::NoColon));
     };
     with_property(start, seen, head, value)
 }
 
 // What was seen, with a property and its parameters in front of a colon, and its value behind it.
 #[tactic(auto, unfolding(crate::specs::Lines::with_property))]
-fn with_property(start: &[u8], seen: Seen, head: &[u8], value: &[u8]) -> Result<Seen, CalendarError>
+fn with_property(
+    start: &[u8],
+    seen: Seen,
+    head: &[u8],
+    value: &[u8],
+) -> Result<Seen, CalendarTextError>
     ensures read { result ≡ with_property start.now seen head.now value.now (property_of (before_first (λ x. x == byte ";") head.now)) }
     ensures byte { IfErr result (λ e. e.byte ≤ length head.now + 1 + length value.now) }
 {
     match property_of(name_of(head)) {
-        None => Err(error_at(0, CalendarFault::UnknownProperty)),
+        None => Err(error_at(0, CalendarTextFault::UnknownProperty)),
         Some(Property::Start) => with_start(seen, head, value),
         Some(Property::Rule) => with_rule(seen, head, value),
         Some(Property::Dates) => with_list(start, seen, head, value),
@@ -99,12 +104,12 @@ fn with_property(start: &[u8], seen: Seen, head: &[u8], value: &[u8]) -> Result<
 
 // What was seen, with DTSTART.
 #[tactic(auto, unfolding(crate::specs::Lines::with_start))]
-fn with_start(seen: Seen, head: &[u8], value: &[u8]) -> Result<Seen, CalendarError>
+fn with_start(seen: Seen, head: &[u8], value: &[u8]) -> Result<Seen, CalendarTextError>
     ensures read { result ≡ with_start seen head.now value.now }
     ensures byte { IfErr result (λ e. e.byte ≤ length head.now + 1 + length value.now) }
 {
     if seen.start.is_some() {
-        return Err(error_at(0, CalendarFault::PropertyTwice));
+        return Err(error_at(0, CalendarTextFault::PropertyTwice));
     }
     let parameters = match read_parameters(head) {
         Ok(parameters) => parameters,
@@ -121,19 +126,19 @@ fn with_start(seen: Seen, head: &[u8], value: &[u8]) -> Result<Seen, CalendarErr
 
 // What was seen, with RRULE.
 #[tactic(auto, unfolding(crate::specs::Lines::with_rule))]
-fn with_rule(seen: Seen, head: &[u8], value: &[u8]) -> Result<Seen, CalendarError>
+fn with_rule(seen: Seen, head: &[u8], value: &[u8]) -> Result<Seen, CalendarTextError>
     ensures read { result ≡ with_rule seen head.now value.now }
     ensures byte { IfErr result (λ e. e.byte ≤ length head.now + 1 + length value.now) }
 {
     if seen.has_rule {
-        return Err(error_at(0, CalendarFault::PropertyTwice));
+        return Err(error_at(0, CalendarTextFault::PropertyTwice));
     }
     if let Some((name, _)) = cut_at(head, b';') {
-        return Err(error_at(name.len() + 1, CalendarFault::UnknownParameter));
+        return Err(error_at(name.len() + 1, CalendarTextFault::UnknownParameter));
     }
     let len = class_len(ByteClass::Rule, value);
     if value.is_empty() || len < value.len() {
-        return Err(error_at(head.len() + 1 + len, CalendarFault::NotARule));
+        return Err(error_at(head.len() + 1 + len, CalendarTextFault::NotARule));
     }
     Ok(Seen {
         start: seen.start,
@@ -143,7 +148,7 @@ fn with_rule(seen: Seen, head: &[u8], value: &[u8]) -> Result<Seen, CalendarErro
 
 // What was seen, with RDATE or EXDATE. Their times change nothing.
 #[tactic(auto, unfolding(crate::specs::Lines::with_list))]
-fn with_list(start: &[u8], seen: Seen, head: &[u8], value: &[u8]) -> Result<Seen, CalendarError>
+fn with_list(start: &[u8], seen: Seen, head: &[u8], value: &[u8]) -> Result<Seen, CalendarTextError>
     ensures read { result ≡ with_list start.now seen head.now value.now }
     ensures byte { IfErr result (λ e. e.byte ≤ length head.now + 1 + length value.now) }
 {
@@ -174,12 +179,12 @@ fn kinds_of(parameters: Parameters, same_zone: bool) -> Kinds
 
 // The time that a text writes in a line.
 #[tactic(auto, unfolding(crate::specs::Lines::time_read))]
-fn read_time(kinds: Kinds, text: &[u8]) -> Result<CalendarTime, CalendarError>
+fn read_time(kinds: Kinds, text: &[u8]) -> Result<CalendarTime, CalendarTextError>
     ensures read { result ≡ time_read kinds text.now }
     ensures byte { IfErr result (λ e. e.byte ≡ 0) }
 {
     let Some(time) = read_calendar_time(text) else {
-        return Err(error_at(0, CalendarFault::NotATime));
+        return Err(error_at(0, CalendarTextFault::NotATime));
     };
     match time_fault(kinds, &time) {
         None => Ok(time),
@@ -189,7 +194,7 @@ fn read_time(kinds: Kinds, text: &[u8]) -> Result<CalendarTime, CalendarError>
 
 // What is wrong with a time in a line.
 #[tactic(auto, unfolding(crate::specs::Lines::time_fault))]
-fn time_fault(kinds: Kinds, time: &CalendarTime) -> Option<CalendarFault>
+fn time_fault(kinds: Kinds, time: &CalendarTime) -> Option<CalendarTextFault>
     ensures { result ≡ time_fault kinds time.now }
 {
     match time {
@@ -197,23 +202,23 @@ fn time_fault(kinds: Kinds, time: &CalendarTime) -> Option<CalendarFault>
             if kinds.dates {
                 None
             } else {
-                Some(CalendarFault::OtherKind)
+                Some(CalendarTextFault::OtherKind)
             }
         }
         CalendarTime::Local(_) => {
             if !kinds.locals {
-                Some(CalendarFault::OtherKind)
+                Some(CalendarTextFault::OtherKind)
             } else if kinds.same_zone {
                 None
             } else {
-                Some(CalendarFault::OtherZone)
+                Some(CalendarTextFault::OtherZone)
             }
         }
         CalendarTime::Utc(_) => {
             if kinds.utcs {
                 None
             } else {
-                Some(CalendarFault::OtherKind)
+                Some(CalendarTextFault::OtherKind)
             }
         }
     }

@@ -6,7 +6,7 @@ ghost use Rattle.calendar_text.specs.CalendarTexts.{IsCalendarText, start_read};
 ghost use Rattle.calendar_text.specs.CalendarTimes.{CanBeReadBack, time_of, calendar_time_text};
 ghost use Rattle.calendar_text.specs.Folds.{folded, may_fold, unfolded};
 ghost use Rattle.calendar_text.specs.Reads.{calendar_error_at};
-ghost use Rattle.calendar_text.specs.declared.calendar_error.CalendarFault.TheVariants.{OtherKind, OtherZone, PropertyTwice};
+ghost use Rattle.calendar_text.specs.declared.calendar_error.CalendarTextFault.TheVariants.{OtherKind, OtherZone, PropertyTwice};
 ghost use Rattle.calendar_text.specs.declared.calendar_time.CalendarTime.{CalendarTime};
 ghost use Rattle.calendar_text.specs.declared.calendar_time.CalendarTime.TheVariants.{Date, Local, Utc};
 

@@ -27,7 +27,7 @@ mod time_list;
 mod time_writer;
 mod writer;
 
-pub use calendar_error::{CalendarError, CalendarFault};
+pub use calendar_error::{CalendarTextError, CalendarTextFault};
 pub use calendar_lines::CalendarLines;
 pub use calendar_text::{CalendarText, read_calendar_text};
 pub use calendar_time::{CalendarTime, read_calendar_time};

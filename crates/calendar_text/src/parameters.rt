@@ -5,7 +5,7 @@ ghost use Rattle.chrono_text.specs.Lists.{pieces};
 ghost use Rattle.calendar_text.specs.Lines.{no_parameters, parameters_read, text_in, with_parameter, with_type, with_zone, zone_of, zone_of_parameters};
 
 use crate::byte_class::{ByteClass, class_len};
-use crate::calendar_error::{CalendarError, CalendarFault, error_at};
+use crate::calendar_error::{CalendarTextError, CalendarTextFault, error_at};
 use crate::pieces::{PieceReader, behind_name, cut_at, read_pieces};
 use chrono_text::{first_piece, same_but_for_case};
 
@@ -27,14 +27,14 @@ struct ParameterReader;
 impl PieceReader<Parameters> for ParameterReader {
     ghost step = { λ _. with_parameter };
 
-    fn with_piece(&self, read: Parameters, piece: &[u8]) -> Result<Parameters, CalendarError> {
+    fn with_piece(&self, read: Parameters, piece: &[u8]) -> Result<Parameters, CalendarTextError> {
         with_parameter(read, piece)
     }
 }
 
 // What the parameters in front of a line's colon say.
 #[tactic(auto, unfolding(crate::specs::Lines::parameters_read))]
-pub(crate) fn read_parameters(head: &[u8]) -> Result<Parameters, CalendarError>
+pub(crate) fn read_parameters(head: &[u8]) -> Result<Parameters, CalendarTextError>
     ensures read { result ≡ parameters_read head.now }
     ensures byte { IfErr result (λ e. e.byte ≤ length head.now) }
 {
@@ -54,7 +54,7 @@ pub(crate) fn read_parameters(head: &[u8]) -> Result<Parameters, CalendarError>
 
 // What was read, with one more parameter.
 #[tactic(auto, unfolding(crate::specs::Lines::with_parameter))]
-fn with_parameter(read: Parameters, text: &[u8]) -> Result<Parameters, CalendarError>
+fn with_parameter(read: Parameters, text: &[u8]) -> Result<Parameters, CalendarTextError>
     ensures read { result ≡ with_parameter read text.now }
     ensures byte { IfErr result (λ e. e.byte ≤ length text.now) }
 {
@@ -64,24 +64,24 @@ fn with_parameter(read: Parameters, text: &[u8]) -> Result<Parameters, CalendarE
     if let Some(word) = behind_name(text, b"VALUE=") {
         return with_type(read, word);
     }
-    Err(error_at(0, CalendarFault::UnknownParameter))
+    Err(error_at(0, CalendarTextFault::UnknownParameter))
 }
 
 // What was read, with the name of a zone. It stands behind five bytes.
 #[tactic(auto, unfolding(crate::specs::Lines::with_zone))]
-fn with_zone(read: Parameters, name: &[u8]) -> Result<Parameters, CalendarError>
+fn with_zone(read: Parameters, name: &[u8]) -> Result<Parameters, CalendarTextError>
     ensures read { result ≡ with_zone read name.now }
     ensures byte { IfErr result (λ e. e.byte ≤ 5 + length name.now) }
 {
     if read.has_zone {
-        return Err(error_at(0, CalendarFault::ParameterTwice));
+        return Err(error_at(0, CalendarTextFault::ParameterTwice));
     }
     if read.is_date {
-        return Err(error_at(0, CalendarFault::ZoneOfDate));
+        return Err(error_at(0, CalendarTextFault::ZoneOfDate));
     }
     let len = class_len(ByteClass::Safe, name);
     if name.is_empty() || len < name.len() {
-        return Err(error_at(5 + len, CalendarFault::NotAZoneName));
+        return Err(error_at(5 + len, CalendarTextFault::NotAZoneName));
     }
     Ok(Parameters {
         has_zone: true,
@@ -92,16 +92,16 @@ fn with_zone(read: Parameters, name: &[u8]) -> Result<Parameters, CalendarError>
 
 // What was read, with the type of the values. It stands behind six bytes.
 #[tactic(auto, unfolding(crate::specs::Lines::with_type))]
-fn with_type(read: Parameters, word: &[u8]) -> Result<Parameters, CalendarError>
+fn with_type(read: Parameters, word: &[u8]) -> Result<Parameters, CalendarTextError>
     ensures read { result ≡ with_type read word.now }
     ensures byte { IfErr result (λ e. e.byte ≤ 6 + length word.now) }
 {
     if read.has_type {
-        return Err(error_at(0, CalendarFault::ParameterTwice));
+        return Err(error_at(0, CalendarTextFault::ParameterTwice));
     }
     if same_but_for_case(word, b"DATE") {
         if read.has_zone {
-            return Err(error_at(0, CalendarFault::ZoneOfDate));
+            return Err(error_at(0, CalendarTextFault::ZoneOfDate));
         }
         return Ok(Parameters {
             has_zone: read.has_zone,
@@ -116,7 +116,7 @@ fn with_type(read: Parameters, word: &[u8]) -> Result<Parameters, CalendarError>
             is_date: read.is_date,
         });
     }
-    Err(error_at(6, CalendarFault::UnknownValueType))
+    Err(error_at(6, CalendarTextFault::UnknownValueType))
 }
 
 // The name of the zone in the parameters in front of a line's colon.

@@ -3,18 +3,18 @@ ghost use Rattle.std.specs.Prelude.{◌≡◌, ◌≤◌, ◌+◌, ◌==◌, ℕ
 ghost use Rattle.std.specs.List.{after_first, before_first};
 ghost use Rattle.chrono_text.specs.Lists.{begins_alike, pieces, stands_in};
 ghost use Rattle.calendar_text.specs.Reads.{placed_through};
-ghost use Rattle.calendar_text.specs.declared.calendar_error.CalendarError.{CalendarError};
+ghost use Rattle.calendar_text.specs.declared.calendar_error.CalendarTextError.{CalendarTextError};
 
-use crate::calendar_error::CalendarError;
+use crate::calendar_error::CalendarTextError;
 use chrono_text::{first_piece, same_but_for_case, split_at_byte};
 
 // A reader of pieces. It makes an `L` of them, one after another.
 pub(crate) trait PieceReader<L> {
     // What a piece makes of what was read before it, or what is wrong with it.
-    ghost step: { Self → L → List ℕ → Result L CalendarError };
+    ghost step: { Self → L → List ℕ → Result L CalendarTextError };
 
     // What was read, with a piece behind it.
-    fn with_piece(&self, read: L, piece: &[u8]) -> Result<L, CalendarError>
+    fn with_piece(&self, read: L, piece: &[u8]) -> Result<L, CalendarTextError>
         ensures read { result ≡ step self.now read piece.now }
         ensures byte { IfErr result (λ e. e.byte ≤ length piece.now) };
 }
@@ -25,7 +25,7 @@ pub(crate) fn read_pieces<L: Drop, R: PieceReader<L>>(
     before: L,
     text: &[u8],
     separator: u8,
-) -> Result<L, CalendarError>
+) -> Result<L, CalendarTextError>
     ensures read { result ≡ placed_through (R.step reader.now) before 0 (pieces separator text.now) }
     ensures byte { IfErr result (λ e. e.byte ≤ length text.now) }
 {

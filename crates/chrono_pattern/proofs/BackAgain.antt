@@ -1,11 +1,10 @@
 -- What a separable pattern loses it loses for good: a value that is read back writes the same text.
-use Rattle.std.proofs.Common.{◌≡◌, ℕ, ◌+◌, ◌*◌, ◌/◌, ◌%◌, ◌<◌, ◌≤◌, ◌==◌, Bool, true, false, ◌&&◌, if◌then◌else◌, nat_lt, List, [], ◌∷◌, ◌++◌, codes, length, take, Option, Some, None, Result, Ok, ℤ, pos, ◌-ℤ◌, refl, ap, sym, subst, ◌∙◌, arith}
+use Rattle.std.proofs.Common.{◌≡◌, ℕ, ◌+◌, ◌/◌, ◌%◌, ◌<◌, ◌≤◌, ◌==◌, Bool, true, false, if◌then◌else◌, nat_lt, List, [], ◌∷◌, ◌++◌, codes, length, take, Option, Some, None, Ok, ℤ, pos, ◌-ℤ◌, refl, ap, sym, subst, ◌∙◌, arith}
 use Rattle.std.proofs.lemmas.Bool.{and_parts, false≢true}
 use Rattle.std.proofs.lemmas.Bool.Decides.{Decides-int_eq, nat_tests}
 use Rattle.std.proofs.lemmas.Option.{same_Some}
 use Rattle.std.specs.Int.{int_div_euclid, int_rem_euclid}
 use Rattle.std.specs.Int.RustNames.{int_lt}
-use Rattle.std.specs.Ordering.{int_eq}
 use Rattle.std.specs.Prelude.{unsigned_abs}
 use Rattle.chrono_calendar.proofs.Signed.{signed}
 use Rattle.chrono_text.proofs.AnswerLemmas.{same_Ok}
@@ -15,20 +14,20 @@ use Rattle.chrono_datetime.specs.Fields.{quarter_of_month}
 use Rattle.chrono_datetime.specs.Moment.{Moment, moment}
 use Rattle.chrono_datetime.specs.Month.{month_from_number, month_name}
 use Rattle.chrono_datetime.specs.Names.{weekday_name}
-use Rattle.chrono_datetime.specs.Time.{IsTime, TimeOfDay, hour_of, minute_of, second_of}
+use Rattle.chrono_datetime.specs.Time.{TimeOfDay, hour_of, minute_of, second_of}
 use Rattle.chrono_datetime.specs.Weekday.{days_from_sunday, number_from_monday}
 use Rattle.chrono_datetime.specs.WeekdayText.{weekday_text}
 use Rattle.chrono_datetime.specs.Weeks.{iso_week_of, iso_year_of, weekday_of}
 use Rattle.chrono_datetime.specs.declared.Weekday.{Weekday}
 use Rattle.chrono_instant.specs.Instants.{epoch_second}
 use Rattle.chrono_pattern.specs.DateParts.{date_fits, day_fits, is_present, says, week_fits, weekday_at_number, year_fits, year_week_fits}
-use Rattle.chrono_pattern.specs.Groups.{clock_with, group_text, usual_text}
+use Rattle.chrono_pattern.specs.Groups.{clock_with, group_text}
 use Rattle.chrono_pattern.specs.Kept.{LosesNothing, given_parts}
-use Rattle.chrono_pattern.specs.NamedParts.{named_from, named_parts, with_clock, with_group, with_half, with_item, with_named, with_number_field, with_zoned, word_part}
+use Rattle.chrono_pattern.specs.NamedParts.{named_from, named_parts, with_clock, with_group, with_half, with_item, with_named, with_number_field, word_part}
 use Rattle.chrono_pattern.specs.NumberReads.{number_part}
 use Rattle.chrono_pattern.specs.Numbers.{field_text, least_digits, padded, padding_of, size_of, year_sign}
 use Rattle.chrono_pattern.specs.Parses.{IsDateBy, IsMomentBy, IsTimeBy, IsZonedBy}
-use Rattle.chrono_pattern.specs.Parts.{no_parts, with_part}
+use Rattle.chrono_pattern.specs.Parts.{no_parts}
 use Rattle.chrono_pattern.specs.Patterns.{pattern_text, text_at_offset, text_from, text_of_item}
 use Rattle.chrono_pattern.specs.PatternSteps.{pattern_step}
 use Rattle.chrono_pattern.specs.ReadBack.{if_named, parts_of}
@@ -36,7 +35,7 @@ use Rattle.chrono_pattern.specs.Reads.{text_read}
 use Rattle.chrono_pattern.specs.Separable.{bar_behind, is_separable, is_separable_from, takes_item}
 use Rattle.chrono_pattern.specs.Subseconds.{digit_count, fraction_with, subsecond_of}
 use Rattle.chrono_pattern.specs.TimeParts.{clock_fits, counts, second_fits, time_fits}
-use Rattle.chrono_pattern.specs.Words.{half_text, small_half_text, word_text}
+use Rattle.chrono_pattern.specs.Words.{word_text}
 use Rattle.chrono_pattern.specs.YearWeeks.{week_from_monday, week_from_sunday}
 use Rattle.chrono_pattern.specs.ZonedParts.{fits_by, moment_fits, zoned_fits}
 use Rattle.chrono_pattern.specs.ZonedPieces.{iso_piece, offset_piece}

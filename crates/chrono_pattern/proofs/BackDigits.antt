@@ -1,5 +1,5 @@
 -- A number is read back, if what is behind it does not go on as a number.
-use Rattle.std.proofs.Common.{◌≡◌, ℕ, zero, suc, ◌+◌, ◌-◌, ◌*◌, ◌<◌, ◌≤◌, ◌^◌, ◌==◌, min, Bool, true, false, ◌&&◌, ◌||◌, if◌then◌else◌, List, [], ◌∷◌, ◌++◌, append_assoc, codes, drop, length, length-append, take, ℤ, pos, Option, Some, None, Result, Ok, inl, inr, refl, ap, sym, ◌∙◌, arith}
+use Rattle.std.proofs.Common.{◌≡◌, ℕ, zero, suc, ◌+◌, ◌-◌, ◌*◌, ◌<◌, ◌≤◌, ◌^◌, ◌==◌, min, Bool, true, false, ◌&&◌, ◌||◌, if◌then◌else◌, List, [], ◌∷◌, ◌++◌, append_assoc, codes, drop, length, length-append, take, pos, Option, Some, None, Result, Ok, inl, inr, refl, ap, sym, ◌∙◌, arith}
 use Rattle.std.proofs.lemmas.Bool.{and_from, and_parts, cases_lt, false≢true}
 use Rattle.std.proofs.lemmas.Bool.Decides.{nat_tests}
 use Rattle.std.proofs.lemmas.Fmt.{decimal_nonempty, digits_decimal, digits_value-decimal}
@@ -9,7 +9,6 @@ use Rattle.std.specs.Char.{is_ascii_digit}
 use Rattle.std.specs.Fmt.{decimal}
 use Rattle.std.specs.List.{list_all, prefix_len}
 use Rattle.std.specs.Str.{all_ascii_digits}
-use Rattle.chrono_text.proofs.Decimals.{at_most}
 use Rattle.chrono_text.proofs.DigitLemmas.{value_append}
 use Rattle.chrono_text.proofs.NaturalLemmas.{digits_read as within_most}
 use Rattle.chrono_text.proofs.TextLemmas.{front_is}

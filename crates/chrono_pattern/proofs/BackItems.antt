@@ -1,17 +1,14 @@
 -- Numbers, bytes and groups are read back.
-use Rattle.std.proofs.Common.{◌≡◌, ℕ, ◌+◌, ◌/◌, ◌<◌, ◌≤◌, ◌^◌, ◌==◌, Bool, true, false, ◌&&◌, if◌then◌else◌, List, [], ◌∷◌, ◌++◌, append_assoc, codes, length, ℤ, pos, Result, Ok, Err, refl, ap, sym, ◌∙◌, arith}
-use Rattle.std.proofs.lemmas.Bool.{and_parts, false≢true}
+use Rattle.std.proofs.Common.{◌≡◌, ℕ, ◌<◌, ◌^◌, ◌==◌, Bool, true, false, ◌&&◌, if◌then◌else◌, List, [], ◌∷◌, ◌++◌, append_assoc, codes, length, ℤ, pos, Result, Ok, Err, refl, ap, sym, ◌∙◌, arith}
 use Rattle.std.proofs.lemmas.Bool.Decides.{nat_tests}
 use Rattle.std.specs.Char.{is_ascii_digit}
-use Rattle.std.specs.Fmt.{decimal}
 use Rattle.std.specs.Int.RustNames.{int_lt}
-use Rattle.std.specs.Prelude.{unsigned_abs}
 use Rattle.chrono_text.proofs.Decimals.{at_most}
 use Rattle.chrono_datetime.specs.Days.{year_of}
 use Rattle.chrono_datetime.specs.Moment.{Moment}
 use Rattle.chrono_datetime.specs.Time.{IsTime}
 use Rattle.chrono_datetime.specs.Weeks.{iso_year_of}
-use Rattle.chrono_pattern.specs.Groups.{clock_with, group_text, usual_text}
+use Rattle.chrono_pattern.specs.Groups.{group_text, usual_text}
 use Rattle.chrono_pattern.specs.ItemReads.{behind_read, clock_year_read, day_read, group_read, half_clock_read, short_date_read, three_read, two_read, word_behind_read}
 use Rattle.chrono_pattern.specs.Kept.{keeps_group, keeps_number, keeps_year}
 use Rattle.chrono_pattern.specs.NamedParts.{with_clock, with_group, with_named, with_number_field, word_part}
@@ -24,7 +21,6 @@ use Rattle.chrono_pattern.specs.Separable.{bar_of_group, bar_of_number, is_fille
 use Rattle.chrono_pattern.specs.WordReads.{word_read}
 use Rattle.chrono_pattern.specs.Words.{word_text}
 use Rattle.chrono_pattern.specs.declared.error.ReadFault.TheVariants.{Invalid}
-use Rattle.chrono_pattern.specs.declared.item.Bar.{Bar}
 use Rattle.chrono_pattern.specs.declared.item.Bar.TheVariants.{Free, NoDigit}
 use Rattle.chrono_pattern.specs.declared.item.GroupField.{GroupField}
 use Rattle.chrono_pattern.specs.declared.item.GroupField.TheVariants.{YearMonthDay, MonthDayYear, HourMinute, HourMinuteSecond, HalfClock, DayMonthYear, DateAndTime}
@@ -38,8 +34,8 @@ use Rattle.chrono_pattern.specs.declared.parsed.Parsed.{Parsed}
 use Rattle.chrono_pattern.specs.declared.stop.Stop.{Stop}
 use Rattle.chrono_pattern.proofs.BackDigits.{Ends, digits_within, skip, unsigned_back}
 use Rattle.chrono_pattern.proofs.BackNumbers.{blank_goes, front_stays, nothing_stays}
-use Rattle.chrono_pattern.proofs.BackParts.{few_centuries, number_given, size_small, value_by}
-use Rattle.chrono_pattern.proofs.BackWords.{no_digits, opens, opens_skips, word_back, word_opens}
+use Rattle.chrono_pattern.proofs.BackParts.{few_centuries, number_given, size_small}
+use Rattle.chrono_pattern.proofs.BackWords.{no_digits, opens_skips, word_back, word_opens}
 use Rattle.chrono_pattern.proofs.BackYears.{signed_back}
 
 -- ---- numbers

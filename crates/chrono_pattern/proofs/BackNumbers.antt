@@ -1,6 +1,5 @@
 -- Numbers of two digits and of four are read, whatever is behind them, and blanks in front are skipped.
-use Rattle.std.proofs.Common.{◌≡◌, ℕ, suc, ◌+◌, ◌/◌, ◌%◌, ◌<◌, ◌≤◌, ◌==◌, min, Bool, true, false, if◌then◌else◌, List, [], ◌∷◌, ◌++◌, drop, take, ℤ, pos, Option, Result, Ok, refl, ap, sym, ◌∙◌, arith}
-use Rattle.std.specs.Prelude.{unsigned_abs}
+use Rattle.std.proofs.Common.{◌≡◌, ℕ, suc, ◌+◌, ◌/◌, ◌%◌, ◌<◌, ◌≤◌, ◌==◌, min, Bool, true, false, if◌then◌else◌, List, [], ◌∷◌, ◌++◌, drop, take, pos, Option, refl, ap, sym, ◌∙◌, arith}
 use Rattle.std.proofs.lemmas.Bool.Decides.{nat_tests}
 use Rattle.std.proofs.lemmas.Int.{ints}
 use Rattle.std.specs.Char.{is_ascii_digit}
@@ -11,15 +10,10 @@ use Rattle.chrono_text.proofs.NaturalLemmas.{four_digits-read, two_digits-read}
 use Rattle.chrono_text.specs.Numbers.{digits_of}
 use Rattle.chrono_text.specs.Text.{all_digits, two_digits}
 use Rattle.chrono_pattern.specs.NumberReads.{digits_in, digits_read, has_sign, most_digits, number_put, number_read, signed_read, value_read}
-use Rattle.chrono_pattern.specs.Numbers.{padded, year_sign}
 use Rattle.chrono_pattern.specs.Progress.{behind_blanks, class_len, is_of, is_pattern_blank, progress}
 use Rattle.chrono_pattern.specs.declared.class.Class.TheVariants.{Blank, Digit}
-use Rattle.chrono_pattern.specs.declared.error.ReadFault.{ReadFault}
 use Rattle.chrono_pattern.specs.declared.item.NumberField.{NumberField}
-use Rattle.chrono_pattern.specs.declared.item.NumberField.TheVariants.{Year}
-use Rattle.chrono_pattern.specs.declared.item.Padding.TheVariants.{Zeros}
 use Rattle.chrono_pattern.specs.declared.parsed.Parsed.{Parsed}
-use Rattle.chrono_pattern.proofs.WriteLemmas.{four_padded, two_padded}
 
 -- ---- bytes
 

@@ -1,32 +1,24 @@
 -- A separable pattern reads back what it writes.
-use Rattle.std.proofs.Common.{◌≡◌, ℕ, ◌+◌, ◌/◌, ◌%◌, ◌<◌, ◌==◌, Bool, true, false, ◌&&◌, if◌then◌else◌, List, [], ◌∷◌, ◌++◌, Option, Some, None, Result, Ok, ℤ, pos, ◌-ℤ◌, unsigned_abs, refl, ap, sym, subst, ◌∙◌, arith}
-use Rattle.std.proofs.lemmas.Bool.{and_from, and_parts, false≢true}
-use Rattle.std.proofs.lemmas.Bool.Decides.{Decides-int_eq, nat_tests}
-use Rattle.std.specs.Ordering.{int_eq}
-use Rattle.std.specs.Int.{int_rem_euclid}
-use Rattle.chrono_datetime.specs.Days.{year_of}
-use Rattle.chrono_datetime.specs.Duration.{nanos_per_second}
+use Rattle.std.proofs.Common.{◌≡◌, ℕ, ◌==◌, Bool, true, false, ◌&&◌, if◌then◌else◌, List, [], ◌∷◌, ◌++◌, Option, Some, None, Result, Ok, ℤ, ◌-ℤ◌, refl, ap, sym, subst, ◌∙◌, arith}
+use Rattle.std.proofs.lemmas.Bool.{and_parts, false≢true}
+use Rattle.std.proofs.lemmas.Bool.Decides.{nat_tests}
 use Rattle.chrono_datetime.specs.Moment.{Moment}
-use Rattle.chrono_datetime.specs.Time.{IsTime, TimeOfDay, is_leap, second_of}
+use Rattle.chrono_datetime.specs.Time.{IsTime, TimeOfDay}
 use Rattle.chrono_instant.specs.Instants.{epoch_second}
 use Rattle.chrono_instant.specs.Offsets.{IsOffset}
-use Rattle.chrono_pattern.specs.DateParts.{date_fits, day_fits, in_window, is_present, names_date, says, week_fits, year_fits, year_week_fits}
 use Rattle.chrono_pattern.specs.ItemReads.{item_read}
-use Rattle.chrono_pattern.specs.Kept.{LosesNothing, given_from, given_parts, is_told, keeps_from, keeps_item, keeps_subsecond, tells_date, tells_fraction, tells_moment, tells_time, tells_zoned, with_few, with_given}
-use Rattle.chrono_pattern.specs.NamedParts.{named_from, named_parts, with_item, with_named}
+use Rattle.chrono_pattern.specs.Kept.{LosesNothing, given_from, given_parts, keeps_from, keeps_item, keeps_subsecond, with_few, with_given}
+use Rattle.chrono_pattern.specs.NamedParts.{with_named}
 use Rattle.chrono_pattern.specs.OffsetReads.{at_rest}
-use Rattle.chrono_pattern.specs.Parses.{IsDateBy, IsMomentBy, IsTimeBy, IsZonedBy}
 use Rattle.chrono_pattern.specs.Parts.{no_parts}
-use Rattle.chrono_pattern.specs.Patterns.{pattern_text, text_at_offset, text_from, text_of_item}
+use Rattle.chrono_pattern.specs.Patterns.{text_at_offset, text_from, text_of_item}
 use Rattle.chrono_pattern.specs.PatternSteps.{pattern_step}
 use Rattle.chrono_pattern.specs.Progress.{Progress, class_len, is_pattern_blank}
-use Rattle.chrono_pattern.specs.ReadBack.{if_named, parts_of}
+use Rattle.chrono_pattern.specs.ReadBack.{parts_of}
 use Rattle.chrono_pattern.specs.Reads.{end_read, read_from, text_read}
-use Rattle.chrono_pattern.specs.Separable.{bar_behind, bar_of_subsecond, is_separable, is_separable_from, takes_few, takes_item, takes_subsecond, takes_digit, takes_point}
+use Rattle.chrono_pattern.specs.Separable.{bar_behind, bar_of_subsecond, is_separable, is_separable_from, takes_item, takes_subsecond, takes_digit}
 use Rattle.chrono_pattern.specs.SubsecondReads.{subsecond_read}
 use Rattle.chrono_pattern.specs.Subseconds.{subsecond_of}
-use Rattle.chrono_pattern.specs.TimeParts.{clock_fits, counts, names_second, names_time, second_fits, time_fits}
-use Rattle.chrono_pattern.specs.ZonedParts.{fits_by, is_stamp_of, moment_fits, names_moment, names_zoned, shows_second, stamped_time_fits, zoned_fits}
 use Rattle.chrono_pattern.specs.declared.item.Bar.{Bar}
 use Rattle.chrono_pattern.specs.declared.item.Bar.TheVariants.{Free, NoDigit, NoFraction, NoPoint, NoMinutes}
 use Rattle.chrono_pattern.specs.declared.item.Item.{Item}
@@ -34,11 +26,10 @@ use Rattle.chrono_pattern.specs.declared.item.Item.TheVariants.{Empty, Byte, Num
 use Rattle.chrono_pattern.specs.declared.item.State.{State}
 use Rattle.chrono_pattern.specs.declared.item.State.TheVariants.{Outside}
 use Rattle.chrono_pattern.specs.declared.item.ZonedField.TheVariants.{Offset, ZoneName, Stamp, Iso8601}
-use Rattle.chrono_pattern.specs.declared.error.ReadFault.{ReadFault}
 use Rattle.chrono_pattern.specs.declared.parsed.Parsed.{Parsed}
 use Rattle.chrono_pattern.specs.declared.parsed.Part.TheVariants.{NanosecondOfSecond}
 use Rattle.chrono_pattern.specs.declared.stop.Stop.{Stop}
-use Rattle.chrono_pattern.proofs.BackDigits.{Ends, begins_point, skip}
+use Rattle.chrono_pattern.proofs.BackDigits.{Ends, skip}
 use Rattle.chrono_pattern.proofs.BackItems.{byte_back, group_back, number_back}
 use Rattle.chrono_pattern.proofs.BackNumbers.{nothing_stays}
 use Rattle.chrono_pattern.proofs.BackOffsets.{offset_back, offset_opens, stamp_back}
@@ -46,12 +37,10 @@ use Rattle.chrono_pattern.proofs.BackParts.{put_offset, stamp_put}
 use Rattle.chrono_pattern.proofs.BackStamps.{iso_back}
 use Rattle.chrono_pattern.proofs.BackStarts.{item_starts, some_count}
 use Rattle.chrono_pattern.proofs.BackSubseconds.{asked_back, few_back, fixed_text_back, fraction_of}
-use Rattle.chrono_pattern.proofs.BackWords.{no_digits, opens_skips, word_back, word_opens}
-use Rattle.chrono_pattern.proofs.FieldLemmas.{named_from-more, named_from-nothing, named_from-none}
+use Rattle.chrono_pattern.proofs.BackWords.{opens_skips, word_back, word_opens}
 use Rattle.chrono_pattern.proofs.PatternLemmas.{text_from-more, text_from-nothing}
 use Rattle.chrono_pattern.proofs.ReadLemmas.{behind_item, read_from-more, read_from-nothing}
 use Rattle.chrono_pattern.proofs.SeparableLemmas.{separable-more, separable-none}
-use Rattle.chrono_pattern.proofs.ShapeLemmas.{Like, date_is_named, mark, read_like, shape, stamp_of_like, time_of_like}
 
 -- ---- the definitions, byte by byte
 

@@ -1,10 +1,9 @@
 -- What an item begins with, where a bar says what may not stand there.
-use Rattle.std.proofs.Common.{◌≡◌, ◌≢◌, ℕ, suc, ◌+◌, ◌%◌, ◌^◌, ◌<◌, ◌≤◌, ◌==◌, min, Bool, true, false, ◌&&◌, ◌||◌, if◌then◌else◌, List, [], ◌∷◌, ◌++◌, append_assoc, codes, drop, length, ℤ, pos, negsuc, refl, ap, sym, subst, ◌∙◌, arith}
+use Rattle.std.proofs.Common.{◌≡◌, ◌≢◌, ℕ, suc, ◌+◌, ◌^◌, ◌<◌, ◌==◌, min, Bool, true, false, if◌then◌else◌, List, [], ◌∷◌, ◌++◌, append_assoc, codes, drop, length, ℤ, pos, negsuc, refl, ap, sym, subst, ◌∙◌, arith}
 use Rattle.std.proofs.lemmas.Bool.{and_parts, false≢true}
 use Rattle.std.proofs.lemmas.Bool.Decides.{nat_tests}
 use Rattle.std.specs.Char.{is_ascii_digit}
 use Rattle.std.specs.Fmt.{decimal}
-use Rattle.std.specs.Int.{is_negative}
 use Rattle.std.specs.List.{prefix_len}
 use Rattle.std.specs.Int.RustNames.{int_lt}
 use Rattle.std.specs.Prelude.{unsigned_abs, ◌-ℤ◌}
@@ -16,7 +15,7 @@ use Rattle.chrono_datetime.specs.Weeks.{iso_year_of}
 use Rattle.chrono_instant.specs.Instants.{epoch_second}
 use Rattle.chrono_pattern.specs.Groups.{group_text, usual_text}
 use Rattle.chrono_pattern.specs.Kept.{keeps_group, keeps_item, keeps_number, keeps_stamp, keeps_subsecond, keeps_year}
-use Rattle.chrono_pattern.specs.Numbers.{field_text, least_digits, padded, padding_of, sign_of, size_of, year_sign}
+use Rattle.chrono_pattern.specs.Numbers.{field_text, least_digits, padded, padding_of, sign_of, size_of}
 use Rattle.chrono_pattern.specs.OffsetReads.{behind_colons}
 use Rattle.chrono_pattern.specs.Patterns.{text_of_item}
 use Rattle.chrono_pattern.specs.Progress.{behind_blanks, class_len, is_of, is_pattern_blank}
@@ -39,7 +38,7 @@ use Rattle.chrono_pattern.specs.declared.item.WordField.TheVariants.{MonthLetter
 use Rattle.chrono_pattern.specs.declared.item.ZonedField.TheVariants.{Offset, ZoneName, Stamp, Iso8601}
 use Rattle.chrono_pattern.specs.Words.{word_text}
 use Rattle.chrono_pattern.proofs.BackItems.{four_joined, three_joined}
-use Rattle.chrono_pattern.proofs.BackDigits.{Ends, IsDigits, begins_point, blanks_go, decimal_digits, digits_no_point, digits_stay, number_digits, number_digits-are, padded_parts, spaces_blank, spaces_of}
+use Rattle.chrono_pattern.proofs.BackDigits.{Ends, begins_point, blanks_go, decimal_digits, digits_no_point, digits_stay, number_digits, number_digits-are, padded_parts, spaces_blank, spaces_of}
 use Rattle.chrono_pattern.proofs.BackNumbers.{blank_goes, front_stays}
 use Rattle.chrono_pattern.proofs.BackOffsets.{offset_opens, small_stamp}
 use Rattle.chrono_pattern.proofs.BackParts.{size_small, year_range}

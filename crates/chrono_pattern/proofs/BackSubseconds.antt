@@ -1,5 +1,5 @@
 -- The fraction of a second is read back where it has no more digits than are written.
-use Rattle.std.proofs.Common.{◌≡◌, ◌≢◌, ℕ, zero, suc, ◌+◌, ◌-◌, ◌*◌, ◌/◌, ◌%◌, ◌^◌, ◌<◌, ◌≤◌, ◌==◌, min, Bool, true, false, ◌&&◌, if◌then◌else◌, nat_le, nat_lt, List, [], ◌∷◌, ◌++◌, codes, drop, length, length-append, length-drop, length-take, take, take-append-drop, ℤ, pos, Option, Some, Result, Ok, Err, refl, ap, sym, subst, ◌∙◌, arith}
+use Rattle.std.proofs.Common.{◌≡◌, ◌≢◌, ℕ, zero, suc, ◌+◌, ◌-◌, ◌*◌, ◌%◌, ◌^◌, ◌<◌, ◌≤◌, ◌==◌, min, Bool, true, false, ◌&&◌, if◌then◌else◌, nat_le, nat_lt, List, [], ◌∷◌, ◌++◌, codes, drop, length, length-append, length-drop, length-take, take, take-append-drop, ℤ, pos, Option, Result, Ok, Err, refl, ap, sym, subst, ◌∙◌, arith}
 use Rattle.std.proofs.lemmas.Bool.{and_from, and_parts, false≢true}
 use Rattle.std.proofs.lemmas.Bool.Decides.{nat_tests}
 use Rattle.std.proofs.lemmas.Nat.{mod-mul-add}
@@ -18,7 +18,7 @@ use Rattle.chrono_pattern.specs.Kept.{keeps_subsecond, with_few}
 use Rattle.chrono_pattern.specs.NamedParts.{with_named}
 use Rattle.chrono_pattern.specs.OffsetReads.{at_rest}
 use Rattle.chrono_pattern.specs.Parts.{put}
-use Rattle.chrono_pattern.specs.Progress.{Progress, behind_blanks, class_len, is_pattern_blank, progress, put_behind, stopped}
+use Rattle.chrono_pattern.specs.Progress.{behind_blanks, class_len, is_pattern_blank, progress, put_behind, stopped}
 use Rattle.chrono_pattern.specs.ReadBack.{parts_of}
 use Rattle.chrono_pattern.specs.SubsecondReads.{fixed_read, places_read, places_value, point_behind, subsecond_read}
 use Rattle.chrono_pattern.specs.Subseconds.{digit_count, fraction_with, nine_digits, subsecond_of}
@@ -28,7 +28,6 @@ use Rattle.chrono_pattern.specs.declared.error.ReadFault.TheVariants.{TooShort}
 use Rattle.chrono_pattern.specs.declared.item.Bar.TheVariants.{NoFraction}
 use Rattle.chrono_pattern.specs.declared.parsed.Parsed.{Parsed}
 use Rattle.chrono_pattern.specs.declared.parsed.Part.TheVariants.{NanosecondOfSecond}
-use Rattle.chrono_pattern.specs.declared.stop.Stop.{Stop}
 use Rattle.chrono_pattern.proofs.BackDigits.{Ends, IsDigits, begins_point, digits_are, digits_counted, digits_stay, own, skip}
 use Rattle.chrono_pattern.proofs.BackNumbers.{front_stays}
 use Rattle.chrono_pattern.proofs.BackParts.{put_nanosecond}

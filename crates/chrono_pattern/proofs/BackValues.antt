@@ -1,10 +1,9 @@
 -- The values of a text that a separable pattern writes.
-use Rattle.std.proofs.Common.{◌≡◌, ℕ, ◌+◌, ◌-◌, ◌*◌, ◌/◌, ◌%◌, ◌^◌, ◌<◌, ◌==◌, min, Bool, true, false, ◌&&◌, ◌||◌, if◌then◌else◌, List, [], ◌∷◌, Option, Some, None, Result, Ok, ℤ, pos, ◌-ℤ◌, unsigned_abs, refl, ap, sym, ◌∙◌, arith}
+use Rattle.std.proofs.Common.{◌≡◌, ℕ, ◌+◌, ◌-◌, ◌*◌, ◌/◌, ◌%◌, ◌^◌, ◌==◌, min, Bool, true, false, ◌&&◌, ◌||◌, if◌then◌else◌, List, [], ◌∷◌, Option, Some, None, ℤ, pos, ◌-ℤ◌, unsigned_abs, refl, ap, sym, ◌∙◌, arith}
 use Rattle.std.proofs.lemmas.Bool.{and_from, and_parts, false≢true, le-leb}
 use Rattle.std.proofs.lemmas.Bool.Decides.{Decides-int_eq, nat_tests}
 use Rattle.std.proofs.lemmas.Nat.{mod-mul-add}
 use Rattle.chrono_text.proofs.DigitLemmas.{pow_pos}
-use Rattle.std.specs.Int.{int_div_euclid, int_rem_euclid}
 use Rattle.std.specs.Ordering.{int_eq}
 use Rattle.chrono_datetime.specs.Days.{year_of}
 use Rattle.chrono_datetime.specs.Duration.{nanos_per_second}
@@ -21,7 +20,6 @@ use Rattle.chrono_pattern.specs.Parts.{no_parts}
 use Rattle.chrono_pattern.specs.Patterns.{pattern_text, text_at_offset}
 use Rattle.chrono_pattern.specs.PatternSteps.{pattern_step}
 use Rattle.chrono_pattern.specs.ReadBack.{if_named, parts_of}
-use Rattle.chrono_pattern.specs.Reads.{text_read}
 use Rattle.chrono_pattern.specs.Separable.{bar_behind, is_separable, is_separable_from, takes_item, takes_number}
 use Rattle.chrono_pattern.specs.TimeParts.{clock_fits, counts, names_second, names_time, second_fits, time_fits}
 use Rattle.chrono_pattern.specs.ZonedParts.{fits_by, is_next_to, is_stamp_of, moment_fits, names_moment, names_zoned, shows_second, stamped_time_fits, zoned_fits}
@@ -45,7 +43,7 @@ use Rattle.chrono_pattern.proofs.BackPatterns.{given-more, given-none, given-not
 use Rattle.chrono_pattern.proofs.BackSubseconds.{fraction_of}
 use Rattle.chrono_pattern.proofs.FieldLemmas.{named_from-more, named_from-none, named_from-nothing}
 use Rattle.chrono_pattern.proofs.SeparableLemmas.{separable-more, separable-none}
-use Rattle.chrono_pattern.proofs.ShapeLemmas.{Like, date_is_named, mark, offset_of_like, read_like, shape, stamp_of_like, time_of_like}
+use Rattle.chrono_pattern.proofs.ShapeLemmas.{Like, date_is_named, mark, offset_of_like, read_like, stamp_of_like, time_of_like}
 
 -- ---- the parts are the date-time's own
 

@@ -1,5 +1,5 @@
 -- Words are read back, whatever is behind them.
-use Rattle.std.proofs.Common.{◌≡◌, ℕ, ◌+◌, ◌-◌, ◌≤◌, ◌<◌, ◌/◌, ◌==◌, Bool, true, false, ◌&&◌, if◌then◌else◌, nat_lt, nat_le, List, [], ◌∷◌, ◌++◌, codes, drop, length, length-append, take, ℤ, pos, Option, Some, Result, Ok, Err, refl, ap, sym, ◌∙◌, arith}
+use Rattle.std.proofs.Common.{◌≡◌, ℕ, ◌+◌, ◌-◌, ◌≤◌, ◌<◌, ◌/◌, ◌==◌, Bool, true, false, ◌&&◌, if◌then◌else◌, nat_lt, List, [], ◌∷◌, ◌++◌, codes, drop, length, length-append, take, ℤ, pos, Option, Some, Result, Ok, Err, refl, ap, sym, ◌∙◌, arith}
 use Rattle.std.proofs.lemmas.Bool.{agree_below_at, eqb-true, false≢true, le-leb}
 use Rattle.std.proofs.lemmas.Bool.Decides.{nat_tests}
 use Rattle.std.specs.Char.{is_ascii_digit}
@@ -24,10 +24,10 @@ use Rattle.chrono_datetime.proofs.DayNames.{length-weekday_text}
 use Rattle.chrono_pattern.specs.NamedParts.{with_named, word_part}
 use Rattle.chrono_pattern.specs.OffsetReads.{at_rest, behind_colons}
 use Rattle.chrono_pattern.specs.Parts.{put}
-use Rattle.chrono_pattern.specs.Progress.{Progress, behind_blanks, class_len, is_of, is_pattern_blank, progress, put_behind, stopped}
+use Rattle.chrono_pattern.specs.Progress.{behind_blanks, class_len, is_of, is_pattern_blank, progress, put_behind, stopped}
 use Rattle.chrono_pattern.specs.ReadBack.{parts_of}
-use Rattle.chrono_pattern.specs.WordReads.{half_behind, half_of, half_read, least_letters, letters_read, month_behind, month_read, name_len, weekday_behind, weekday_read, word_read}
-use Rattle.chrono_pattern.specs.Words.{half_text, small_half_text, word_text}
+use Rattle.chrono_pattern.specs.WordReads.{half_read, least_letters, letters_read, month_behind, month_read, name_len, weekday_behind, weekday_read, word_read}
+use Rattle.chrono_pattern.specs.Words.{word_text}
 use Rattle.chrono_pattern.specs.declared.class.Class.TheVariants.{Digit, Gap}
 use Rattle.chrono_pattern.specs.declared.error.ReadFault.{ReadFault}
 use Rattle.chrono_pattern.specs.declared.error.ReadFault.TheVariants.{TooShort}
@@ -38,7 +38,6 @@ use Rattle.chrono_pattern.specs.declared.item.WordField.TheVariants.{MonthName, 
 use Rattle.chrono_pattern.specs.declared.parsed.Parsed.{Parsed}
 use Rattle.chrono_pattern.specs.declared.parsed.Part.{Part}
 use Rattle.chrono_pattern.specs.declared.parsed.Part.TheVariants.{MonthOfYear, DayOfWeek, HourDiv12}
-use Rattle.chrono_pattern.specs.declared.stop.Stop.{Stop}
 use Rattle.chrono_pattern.proofs.BackDigits.{Ends, begins_point, skip}
 use Rattle.chrono_pattern.proofs.BackNumbers.{front_stays}
 use Rattle.chrono_pattern.proofs.BackParts.{put_half, put_month, put_weekday}

@@ -1,9 +1,8 @@
 -- A year is read back with its sign or with none.
-use Rattle.std.proofs.Common.{◌≡◌, ℕ, suc, ◌+◌, ◌<◌, ◌≤◌, ◌^◌, Bool, true, false, ◌&&◌, if◌then◌else◌, List, [], ◌∷◌, ◌++◌, length, ℤ, pos, negsuc, neg_ℤ, unsigned_abs, Result, Ok, inl, inr, refl, ap, sym, ◌∙◌, arith}
+use Rattle.std.proofs.Common.{◌≡◌, ℕ, suc, ◌<◌, ◌≤◌, ◌^◌, Bool, true, false, ◌&&◌, if◌then◌else◌, List, [], ◌∷◌, ◌++◌, length, ℤ, pos, negsuc, neg_ℤ, unsigned_abs, Ok, inl, inr, refl, ap, sym, ◌∙◌, arith}
 use Rattle.std.proofs.lemmas.Bool.{cases_lt, false≢true}
 use Rattle.std.proofs.lemmas.Bool.Decides.{nat_tests}
 use Rattle.std.proofs.lemmas.Int.{ints}
-use Rattle.std.specs.Fmt.{decimal}
 use Rattle.std.specs.Int.RustNames.{int_lt}
 use Rattle.std.specs.Prelude.{nat_le}
 use Rattle.chrono_text.proofs.Decimals.{at_most}
@@ -11,7 +10,7 @@ use Rattle.chrono_pattern.specs.Kept.{keeps_year}
 use Rattle.chrono_pattern.specs.NumberReads.{digits_read, has_sign, most_digits, number_put, number_read, signed_read}
 use Rattle.chrono_pattern.specs.Numbers.{padded, padding_of, year_sign}
 use Rattle.chrono_pattern.specs.OffsetReads.{at_rest}
-use Rattle.chrono_pattern.specs.Progress.{Progress, behind_blanks, class_len}
+use Rattle.chrono_pattern.specs.Progress.{behind_blanks, class_len}
 use Rattle.chrono_pattern.specs.Separable.{bar_of_number, is_filled}
 use Rattle.chrono_pattern.specs.declared.class.Class.TheVariants.{Digit}
 use Rattle.chrono_pattern.specs.declared.item.Bar.{Bar}
@@ -19,7 +18,6 @@ use Rattle.chrono_pattern.specs.declared.item.Bar.TheVariants.{Free, NoDigit}
 use Rattle.chrono_pattern.specs.declared.item.NumberField.{NumberField}
 use Rattle.chrono_pattern.specs.declared.item.Padding.{Padding}
 use Rattle.chrono_pattern.specs.declared.parsed.Parsed.{Parsed}
-use Rattle.chrono_pattern.specs.declared.stop.Stop.{Stop}
 use Rattle.chrono_pattern.proofs.BackDigits.{Closed, Ends, digits_back, digits_stay, few_digits, number_closed, number_digits, number_digits-are, padded_parts, skip, skipped, spaces_blank, spaces_of, unsigned_digits}
 use Rattle.chrono_pattern.proofs.BackNumbers.{front_stays, not_below}
 

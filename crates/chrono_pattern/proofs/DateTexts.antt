@@ -1,15 +1,15 @@
 -- The texts of years, months and days by patterns are those of other dates, for crates that write dates without a pattern.
-use Rattle.std.proofs.Common.{◌≡◌, ℕ, ◌<◌, ◌==◌, Bool, true, false, if◌then◌else◌, List, [], ◌∷◌, ◌++◌, Option, Some, None, ℤ, pos, negsuc, refl, ap, sym, ◌∙◌, arith}
+use Rattle.std.proofs.Common.{◌≡◌, ℕ, ◌<◌, ◌==◌, Bool, false, if◌then◌else◌, List, [], ◌∷◌, ◌++◌, Option, Some, ℤ, pos, refl, ap, sym, ◌∙◌, arith}
 use Rattle.std.specs.Int.RustNames.{int_lt}
 use Rattle.std.specs.Prelude.{unsigned_abs, ◌≤ℤ◌}
 use Rattle.chrono_calendar.proofs.NamedDates.{calendar_name-exists, day_of-small}
 use Rattle.chrono_calendar.proofs.Signed.{signed}
 use Rattle.chrono_text.proofs.TextLemmas.{year_text-four}
-use Rattle.chrono_text.specs.Text.{all_digits, two_digits, year_text}
+use Rattle.chrono_text.specs.Text.{two_digits, year_text}
 use Rattle.chrono_datetime.specs.Days.{day_of, month_of, year_of}
 use Rattle.chrono_datetime.specs.Moment.{Moment}
 use Rattle.chrono_pattern.specs.Numbers.{field_text, padded, year_sign}
-use Rattle.chrono_pattern.specs.Patterns.{text_from, text_of_item}
+use Rattle.chrono_pattern.specs.Patterns.{text_from}
 use Rattle.chrono_pattern.specs.PatternSteps.{date_number_at, group_at, opened_step, pattern_step, time_number_at, unpadded_step, word_at}
 use Rattle.chrono_pattern.specs.declared.item.Item.{Item}
 use Rattle.chrono_pattern.specs.declared.item.Item.TheVariants.{Byte, Empty}
@@ -18,6 +18,7 @@ use Rattle.chrono_pattern.specs.declared.item.Padding.TheVariants.{Usual, Zeros}
 use Rattle.chrono_pattern.specs.declared.item.State.{State}
 use Rattle.chrono_pattern.specs.declared.item.State.TheVariants.{Opened, Outside}
 use Rattle.chrono_pattern.proofs.BackNumbers.{not_below}
+use Rattle.chrono_pattern.proofs.PatternLemmas.{text_from-more}
 use Rattle.chrono_pattern.proofs.WriteLemmas.{four_padded, two_padded}
 
 -- ---- the numbers
@@ -63,10 +64,14 @@ pub day_front : (rest : List ℕ) (m : Moment) (x : ℤ) → text_from Outside (
 day_front rest m x = (number_front rest m x).2 ∙ ap (λ (l : List ℕ). l ++ text_from Outside rest m x) (day_is m)
 
 -- another byte than `%`
+abbrev byte_step : Bool → ℕ → Option (State × Item)
+byte_step b c = if b then Some (Opened Usual, Empty) else Some (Outside, Byte c)
+
+step_of_byte : (c : ℕ) → (c == 37) ≡ false → pattern_step Outside c ≡ Some (Outside, Byte c)
+step_of_byte c not = ap (λ (b : Bool). byte_step b c) not
+
 pub byte_front : (c : ℕ) (rest : List ℕ) (m : Moment) (x : ℤ) → (c == 37) ≡ false → text_from Outside (c ∷ rest) m x ≡ c ∷ text_from Outside rest m x
-unfolding text_from
-byte_front c rest m x not =
-    ap (λ (b : Bool). elim (if b then Some (Opened Usual, Empty) else Some (Outside, Byte c)) as (λ _. List ℕ) [ None ↦ [] | Some n ↦ text_of_item n.1 m x ++ text_from n.0 rest m x ]) not
+byte_front c rest m x not = text_from-more Outside c rest m x (Outside, Byte c) (step_of_byte c not)
 
 -- no bytes
 pub no_front : (m : Moment) (x : ℤ) → text_from Outside [] m x ≡ []

@@ -1,5 +1,5 @@
 -- Offsets of hours and minutes are read, whatever colons and blanks are between them.
-use Rattle.std.proofs.Common.{◌≡◌, ℕ, zero, suc, ◌+◌, ◌*◌, ◌<◌, ◌≤◌, Bool, true, false, if◌then◌else◌, List, [], ◌∷◌, ◌++◌, codes, Some, ℤ, pos, neg_ℤ, unsigned_abs, Result, Ok, refl, ap, ◌∙◌, arith}
+use Rattle.std.proofs.Common.{◌≡◌, ℕ, zero, suc, ◌+◌, ◌*◌, ◌<◌, Bool, true, false, List, [], ◌∷◌, ◌++◌, codes, Some, pos, Result, Ok, refl, ap, ◌∙◌, arith}
 use Rattle.std.proofs.lemmas.Bool.{and_parts}
 use Rattle.std.specs.List.{list_all}
 use Rattle.chrono_datetime.specs.Moment.{Moment, moment}
@@ -7,23 +7,19 @@ use Rattle.chrono_datetime.specs.Time.{time_at}
 use Rattle.chrono_instant.specs.Offsets.{IsOffset}
 use Rattle.chrono_text.specs.Numbers.{signed}
 use Rattle.chrono_text.specs.Text.{two_digits}
-use Rattle.chrono_pattern.specs.NamedParts.{with_named}
-use Rattle.chrono_pattern.specs.OffsetReads.{Taken, at_rest, behind_colons, offset_read, signed_offset_read, size_put, size_taken, with_hours, with_minutes, with_seconds}
+use Rattle.chrono_pattern.specs.OffsetReads.{Taken, at_rest, behind_colons, offset_read, signed_offset_read, size_taken, with_hours, with_minutes, with_seconds}
 use Rattle.chrono_pattern.specs.OffsetTexts.{offset_written}
-use Rattle.chrono_pattern.specs.Parts.{no_parts, put}
-use Rattle.chrono_pattern.specs.Progress.{Progress, behind_blanks, is_of, progress}
+use Rattle.chrono_pattern.specs.Parts.{no_parts}
+use Rattle.chrono_pattern.specs.Progress.{Progress, is_of}
 use Rattle.chrono_pattern.specs.PatternSteps.{date_number_at, group_at, opened_step, pattern_step, time_number_at, unpadded_step, word_at}
-use Rattle.chrono_pattern.specs.ReadBack.{parts_of}
-use Rattle.chrono_pattern.specs.Reads.{end_read, read_from, text_read}
+use Rattle.chrono_pattern.specs.Reads.{end_read, text_read}
 use Rattle.chrono_pattern.specs.declared.class.Class.TheVariants.{Gap}
-use Rattle.chrono_pattern.specs.declared.error.ReadFault.{ReadFault}
 use Rattle.chrono_pattern.specs.declared.item.Item.TheVariants.{Empty, Zoned}
 use Rattle.chrono_pattern.specs.declared.item.OffsetForm.TheVariants.{Plain}
 use Rattle.chrono_pattern.specs.declared.item.Padding.TheVariants.{Usual}
 use Rattle.chrono_pattern.specs.declared.item.State.TheVariants.{Opened, Outside}
 use Rattle.chrono_pattern.specs.declared.item.ZonedField.TheVariants.{Offset}
 use Rattle.chrono_pattern.specs.declared.parsed.Parsed.{Parsed}
-use Rattle.chrono_pattern.specs.declared.parsed.Part.TheVariants.{OffsetFromUtc}
 use Rattle.chrono_pattern.specs.declared.stop.Stop.{Stop}
 use Rattle.chrono_pattern.proofs.BackNumbers.{front_stays}
 use Rattle.chrono_pattern.proofs.BackOffsets.{digits_stay, given, minutes_back, no_seconds, two_back}

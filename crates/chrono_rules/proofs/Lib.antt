@@ -1,4 +1,7 @@
--- These serve this crate's own proofs alone.
+-- Lemmas that other crates cite stand in these modules.
+pub mod DayTexts
+pub mod Intervals
+-- The rest serve this crate's own proofs alone.
 mod BareTexts
 mod Counts
 mod Cycles

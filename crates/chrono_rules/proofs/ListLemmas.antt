@@ -100,9 +100,5 @@ texts_on old new end xs ys first second =
 pub part_on : (old new : List ℕ) (lacks : Bool) (name value : List ℕ) → new ≡ old ++ text_unless lacks ((59 ∷ name) ++ value) → new ≡ old ++ each_behind 59 (part_unless lacks name value)
 part_on old new lacks name value put = put ∙ ap (λ text. old ++ text) (sym (part_behind lacks name value))
 
-pub three_put : (old a b c one two three : List ℕ) → one ≡ old ++ a → two ≡ one ++ b → three ≡ two ++ c → three ≡ old ++ ((a ++ b) ++ c)
-three_put old a b c one two three first second third =
-    third ∙ ap (λ text. text ++ c) (second ∙ ap (λ text. text ++ b) first ∙ append_assoc old a b) ∙ append_assoc old (a ++ b) c
-
 pub two_put : (old a b one two : List ℕ) → one ≡ old ++ a → two ≡ one ++ b → two ≡ old ++ (a ++ b)
 two_put old a b one two first second = second ∙ ap (λ text. text ++ b) first ∙ append_assoc old a b

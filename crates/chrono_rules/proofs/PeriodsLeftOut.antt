@@ -1,8 +1,6 @@
 -- Periods that INTERVAL leaves out.
-use Rattle.std.proofs.Common.{◌≡◌, ◌==◌, ℕ, zero, suc, ◌+◌, ◌-◌, ◌*◌, ◌/◌, ◌%◌, ◌<◌, ◌≤◌, false, cond, refl, sym, subst, ap, ◌∙◌, arith, ℤ, pos, ◌+ℤ◌, ◌-ℤ◌, ◌*ℤ◌, ◌≤ℤ◌, ◌<ℤ◌, int_le, unsigned_abs}
+use Rattle.std.proofs.Common.{◌≡◌, ◌==◌, ℕ, ◌+◌, ◌-◌, ◌*◌, ◌<◌, ◌≤◌, false, cond, refl, sym, subst, ap, ◌∙◌, arith, ℤ, pos, ◌+ℤ◌, ◌-ℤ◌, ◌*ℤ◌, ◌≤ℤ◌, ◌<ℤ◌, int_le, unsigned_abs}
 use Rattle.std.specs.Int.{int_div_euclid, int_rem_euclid}
-use Rattle.std.proofs.lemmas.Int.{int_rem_euclid_is}
-use Rattle.std.proofs.lemmas.Nat.{div-add-mod', mod-mul-add}
 use Rattle.std.proofs.lemmas.Bool.{and_right, ne_eqb}
 use Rattle.chrono_datetime.specs.Days.{month_of, year_of}
 use Rattle.chrono_datetime.specs.MonthMoves.{month_index_of}
@@ -14,30 +12,12 @@ use Rattle.chrono_datetime.proofs.IsoWeeks.{days_from_monday-of}
 use Rattle.chrono_datetime.proofs.MonthOrder.{month_of-range}
 use Rattle.chrono_datetime.proofs.Rising.{month_index_of-rises, year_of-rises}
 use Rattle.chrono_datetime.proofs.Signed.{signed}
+use Rattle.chrono_rules.proofs.Intervals.{rem-ahead}
 use Rattle.chrono_rules.specs.Instances.{in_interval, is_member, not_after}
 use Rattle.chrono_rules.specs.Periods.{period_of}
 use Rattle.chrono_rules.specs.declared.rule.Frequency.{Frequency}
 use Rattle.chrono_rules.specs.declared.rule.Frequency.TheVariants.{Daily, Monthly, Weekly, Yearly}
 use Rattle.chrono_rules.specs.declared.rule.Rule.{Rule}
-
-pub many : (k n : ℕ) → 0 < n → k ≤ k * n
-many zero n some = omega arith
-many (suc k) n some = omega (arith, many k n some)
-
--- what is left of a number behind multiples grows with it up to the next multiple
-mod-ahead : (m n j : ℕ) → m % n + j < n → (m + j) % n ≡ m % n + j
-mod-ahead m n j less =
-    let parts : m + j ≡ m / n * n + (m % n + j) = omega (arith, div-add-mod' m n) in
-    ap (λ x. x % n) parts ∙ mod-mul-add (m / n) n (m % n + j) less
-
-pub rem-ahead : (a : ℤ) (n j : ℕ) → 0 < n → unsigned_abs (int_rem_euclid a (pos n)) + j < n → unsigned_abs (int_rem_euclid (a +ℤ pos j) (pos n)) ≡ unsigned_abs (int_rem_euclid a (pos n)) + j
-rem-ahead a n j some less =
-    let k : ℕ = unsigned_abs a in
-    let m : ℕ = unsigned_abs (a +ℤ pos (k * n)) in
-    let up : a +ℤ pos (k * n) ≡ pos m = omega (arith, signed, many k n some) in
-    let here : unsigned_abs (int_rem_euclid a (pos n)) ≡ m % n = ap unsigned_abs (int_rem_euclid_is a (pos n) n k m some refl up) in
-    let there : unsigned_abs (int_rem_euclid (a +ℤ pos j) (pos n)) ≡ (m + j) % n = ap unsigned_abs (int_rem_euclid_is (a +ℤ pos j) (pos n) n k (m + j) some refl (omega (arith, signed, up))) in
-    there ∙ mod-ahead m n j (omega (arith, here, less)) ∙ ap (λ x. x + j) (sym here)
 
 -- a period so many behind one that is left out, before the next that counts
 pub off_interval : (r : Rule) (start n d step : ℤ) (j behind : ℕ) → step ≡ pos (cond (r.interval == 0) 1 r.interval) → behind ≡ unsigned_abs (int_rem_euclid (period_of r.frequency r.week_start n -ℤ period_of r.frequency r.week_start start) step) → 0 < behind → pos (behind + j) <ℤ step → period_of r.frequency r.week_start d ≡ period_of r.frequency r.week_start n +ℤ pos j → is_member r start d ≡ false

@@ -30,7 +30,7 @@ use Rattle.chrono_rules.specs.declared.rule.End.TheVariants.{Count, Never, Until
 use Rattle.chrono_rules.specs.declared.rule.Frequency.{Frequency}
 use Rattle.chrono_rules.specs.declared.rule.Frequency.TheVariants.{Daily, Monthly, Weekly, Yearly}
 use Rattle.chrono_rules.specs.declared.rule.Rule.{Rule}
-use Rattle.chrono_rules.proofs.PeriodsLeftOut.{many}
+use Rattle.chrono_rules.proofs.Intervals.{many}
 use Rattle.chrono_rules.proofs.PlacesInPeriods.{date_passes-is, from_period, to_period}
 use Rattle.chrono_datetime.proofs.MonthPlaces.{not_longer}
 use Rattle.chrono_datetime.proofs.Names.{ordinal_name_of-number, year_length_bounds}

@@ -9,7 +9,7 @@ use Rattle.std.proofs.lemmas.Fmt.{IsAscii-decimal, IsAscii-signed}
 use Rattle.std.proofs.lemmas.Str.{IsAscii-append}
 use Rattle.std.proofs.lemmas.Str.Ascii.{IsAscii-nil, IsAscii-cons}
 use Rattle.chrono_text.specs.Lists.{each_behind, list_text}
-use Rattle.chrono_text.specs.Text.{all_digits, two_digits}
+use Rattle.chrono_text.specs.Text.{all_digits}
 use Rattle.chrono_datetime.specs.Names.{weekday_letters}
 use Rattle.chrono_datetime.specs.Weekday.{days_from_monday, weekday_from_monday}
 use Rattle.chrono_datetime.specs.declared.Weekday.{Weekday}
@@ -36,11 +36,6 @@ year_ascii (pos n) fits =
     IsAscii-all_digits 4 n (omega (arith, few)))
     (λ _. IsAscii-decimal n (omega (arith, fits)))
 year_ascii (negsuc n) fits = IsAscii-signed (negsuc n) (omega (arith, fits))
-
-pub day_same : (y z : ℤ) (m n d e : ℕ) → y ≡ z → m ≡ n → d ≡ e → ((four_digits y ++ two_digits m) ++ two_digits d) ≡ ((four_digits z ++ two_digits n) ++ two_digits e)
-day_same y z m n d e years months days =
-    ap (λ x. (four_digits x ++ two_digits m) ++ two_digits d) years ∙ ap (λ x. (four_digits z ++ two_digits x) ++ two_digits d) months
-    ∙ ap (λ x. (four_digits z ++ two_digits n) ++ two_digits x) days
 
 pub day_ascii : (year month day : List ℕ) → IsAscii year → IsAscii month → IsAscii day → IsAscii ((year ++ month) ++ day)
 day_ascii year month day h k l = IsAscii-append (year ++ month) day (IsAscii-append year month h k) l

@@ -1,6 +1,6 @@
 -- A day that was found, by the number that stands for it.
-use Rattle.std.proofs.Common.{◌≡◌, ◌∙◌, ◌↔◌, Option, Some, None, IfSome, IfNone, ℤ, sym, subst, arith}
-use Rattle.chrono_calendar.specs.Days.{IsDate, date_of_day}
+use Rattle.std.proofs.Common.{◌≡◌, Option, Some, None, IfSome, IfNone, ℤ, sym, subst, arith}
+use Rattle.chrono_calendar.specs.Days.{IsDate}
 use Rattle.chrono_calendar.proofs.Signed.{signed}
 use Rattle.numbers_c.specs.Answers.{none_number, or_none}
 

@@ -1,3 +1,4 @@
+pub mod DayCounts
 pub mod Faults
 pub mod NumberSets
 pub mod OpenDays

@@ -1,5 +1,5 @@
 -- Calendars by the numbers of C.
-use Rattle.std.specs.Prelude.{◌≡◌, ℕ, ◌≤◌, List, [], ◌∷◌, length, slice_get, ℤ, Option}
+use Rattle.std.specs.Prelude.{ℕ, ◌≤◌, List, [], ◌∷◌, length, slice_get, ℤ, Option}
 use Rattle.chrono_units.specs.SetDigits.{set_at}
 use Rattle.chrono_business.specs.OpenDays.{AreHolidays, Closed, closed}
 use Rattle.chrono_business.specs.declared.roll.Roll.{Roll}

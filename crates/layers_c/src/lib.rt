@@ -5,6 +5,7 @@
 //! crates below. `languages/c/calendar_layers.h` declares it.
 #![tactic(auto)]
 
+mod day_counts;
 mod faults;
 mod number_sets;
 mod open_days;

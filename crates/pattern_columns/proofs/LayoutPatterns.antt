@@ -6,8 +6,7 @@ use Rattle.chrono_datetime.specs.Days.{day_of, month_of, year_of}
 use Rattle.chrono_datetime.specs.Moment.{Moment, moment}
 use Rattle.chrono_datetime.specs.Time.{TimeOfDay}
 use Rattle.chrono_pattern.proofs.DateTexts.{byte_front, day_front, month_front, no_front, year_front}
-use Rattle.chrono_pattern.specs.Patterns.{pattern_text, text_from}
-use Rattle.chrono_pattern.specs.declared.item.State.TheVariants.{Outside}
+use Rattle.chrono_pattern.specs.Patterns.{pattern_text, text_at_offset}
 use Rattle.chrono_text.specs.Text.{two_digits, year_text}
 use Rattle.pattern_columns.specs.Layouts.{compact_text, layout_pattern, layout_text, ordered_text}
 use Rattle.pattern_columns.specs.declared.layout.DateLayout.{DateLayout}
@@ -16,7 +15,7 @@ use Rattle.pattern_columns.specs.declared.layout.DateOrder.TheVariants.{YearMont
 
 -- the bytes of a pattern from a place on, and their text
 abbrev text_of : List ℕ → Moment → List ℕ
-text_of bytes m = text_from Outside bytes m (pos 0)
+text_of bytes m = text_at_offset bytes m (pos 0)
 
 -- a piece is the last
 last : (piece : List ℕ) (m : Moment) → piece ++ text_of [] m ≡ piece

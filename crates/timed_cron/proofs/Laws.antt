@@ -1,6 +1,7 @@
 -- Laws of schedules with seconds.
 use Rattle.std.proofs.Common.{◌≡◌, ℕ, ◌+◌, ◌*◌, ◌/◌, ◌%◌, ◌<◌, ◌==◌, Bool, true, false, ◌&&◌, [], ◌∷◌, refl, ap, ap₂, ◌∙◌, arith}
 use Rattle.std.proofs.Math.Bool.{or-false}
+use Rattle.std.proofs.Math.Bool.{and-true}
 use Rattle.std.proofs.lemmas.Bool.{and_right, ne_eqb}
 use Rattle.chrono_datetime.specs.Moment.{Moment}
 use Rattle.chrono_sets.specs.FiniteSets.{has, numbers}
@@ -31,16 +32,12 @@ zero_alone s m zero =
     ap₂ (λ a b. a && (b && m.time.fraction == 0)) (begun_due s m) listed
     ∙ joined (is_day s.schedule.sets m.date) (is_minute s.schedule.sets (m.time.second / 60)) (begins_minute m)
 
-and_true : (b : Bool) → (b && true) ≡ b
-and_true true = refl
-and_true false = refl
-
 pub listed_alone : (s : TimedSchedule) (m : Moment) (k : ℕ) → k < 60 → is_due s.schedule.sets m ≡ true → is_due_at_second s (second_in_minute m k) ≡ has s.seconds k
 unfolding is_due_at_second
 listed_alone s m k small due =
     let begins = ap (is_due s.schedule.sets) (second_in_its_minute m k small ∙ due_begins m s due) ∙ due in
     let place : (0 * 3_600 + m.time.second / 60 * 60 + k) % 60 ≡ k = omega (arith, small) in
-    ap₂ (λ a b. a && (has s.seconds b && true)) begins place ∙ and_true (has s.seconds k)
+    ap₂ (λ a b. a && (has s.seconds b && true)) begins place ∙ and-true (has s.seconds k)
 
 pub idle_minute : (s : TimedSchedule) (m : Moment) → is_due s.schedule.sets (begun m) ≡ false → is_due_at_second s m ≡ false
 unfolding is_due_at_second

@@ -55,10 +55,10 @@ pub fn one_gap_fires_once()
         → (j : ℤ) → l ≤ℤ j → j <ℤ k → IsGap ahead j }
 {}
 
-/// On any local day a schedule with fixed times has as many firings as planned minutes, less one for each planned minute from which on the
-/// clock shows no second up to the next planned minute.
+/// On any local day a schedule with fixed times fires for each planned minute. Minutes fire together if the clock shows no second from the
+/// one up to the other, and at instants of their own if it does.
 ///
-/// So the planned minutes of one gap count as one, together with a planned minute that begins where the gap ends.
+/// So the planned minutes of one gap count as one firing. A planned minute that begins where the gap ends shares it.
 pub fn minutes_of_a_gap_fire_together()
     ensures { (s : FieldSets) (ahead : ℤ → ℤ) → ((u : ℤ) → IsOffset (ahead u)) → ((k : ℤ) → (found : MappedLocalTime ℤ) × IsMapped ahead k found)
         → (n : ℤ) → (fired : List ℤ) × FireTogether ahead n (planned_minutes s n) fired × AreDifferent fired }

@@ -5,7 +5,7 @@ use Rattle.std.proofs.lemmas.Int.{by_lt_z, ints}
 use Rattle.chrono_datetime.specs.Moment.{Moment}
 use Rattle.chrono_datetime.specs.PassedOver.{PassedNumbers}
 use Rattle.zoned_rules.specs.LocalTimes.{LocalParts, is_counted_time, unit_number, units_behind}
-use Rattle.zoned_rules.specs.Private.{IsListed, interval_of, units_of_day}
+use Rattle.zoned_rules.specs.Private.{IsListed, interval_units, units_of_day}
 use Rattle.zoned_rules.proofs.CountedUnits.{behind-back, behind-beyond, common_units, earlier-day-unit, later-day-unit}
 use Rattle.zoned_rules.proofs.ListedTimes.{counted_and_listed, counted_parts, counted_there}
 
@@ -14,7 +14,7 @@ none_there None h off = h
 none_there (Some x) h off = absurd cc
 
 -- none of the times of a day is in a unit of the common divisor
-pub never : (r : LocalParts) (g : ℕ) (d : ℤ) (q : Moment) → 0 < interval_of r.steps → 0 < g → interval_of r.steps % g ≡ 0 → units_of_day r.steps.unit % g ≡ 0 → PassedNumbers (is_counted_time (record r { steps = record { unit = r.steps.unit; interval = g } }) d) 0 86_400 → ¬ IsListed r q
+pub never : (r : LocalParts) (g : ℕ) (d : ℤ) (q : Moment) → 0 < interval_units r.steps → 0 < g → interval_units r.steps % g ≡ 0 → units_of_day r.steps.unit % g ≡ 0 → PassedNumbers (is_counted_time (record r { steps = record { unit = r.steps.unit; interval = g } }) d) 0 86_400 → ¬ IsListed r q
 never r g d q some some-g whole whole-day passed h =
     let k = q.time.second in
     let s : LocalParts = record r { steps = record { unit = r.steps.unit; interval = g } } in
@@ -27,7 +27,7 @@ unit_counts : (r : LocalParts) (q : Moment) → IsListed r q → units_behind r 
 unit_counts r q h = (counted_parts r q.date q.time.second (counted_there r q h)).0
 
 -- behind a day, and up to the next unit that counts
-pub beyond : (r : LocalParts) (day w units : ℤ) (q : Moment) → 0 < interval_of r.steps → units ≡ (pos (interval_of r.steps) -ℤ pos (units_behind r day 86_399)) -ℤ pos 1 → ((n d : ℤ) (k : ℕ) → d ≤ℤ (n +ℤ w) → k < 86_400 → unit_number r.steps.unit d k ≤ℤ (unit_number r.steps.unit n 86_399 +ℤ units)) → IsListed r q → day <ℤ q.date → (day +ℤ w) <ℤ q.date
+pub beyond : (r : LocalParts) (day w units : ℤ) (q : Moment) → 0 < interval_units r.steps → units ≡ (pos (interval_units r.steps) -ℤ pos (units_behind r day 86_399)) -ℤ pos 1 → ((n d : ℤ) (k : ℕ) → d ≤ℤ (n +ℤ w) → k < 86_400 → unit_number r.steps.unit d k ≤ℤ (unit_number r.steps.unit n 86_399 +ℤ units)) → IsListed r q → day <ℤ q.date → (day +ℤ w) <ℤ q.date
 beyond r day w units q some is ahead h lt =
     by_lt_z (day +ℤ w) q.date (λ less. less)
     (λ ge.
@@ -38,7 +38,7 @@ beyond r day w units q some is ahead h lt =
     absurd (omega (arith, left, unit_counts r q h)))
 
 -- before a day, and back to the last unit that counts
-pub in_front : (r : LocalParts) (day w units : ℤ) (q : Moment) → 0 < interval_of r.steps → units ≡ pos (units_behind r day 0) -ℤ pos 1 → ((n d : ℤ) (k : ℕ) → (n -ℤ w) ≤ℤ d → (unit_number r.steps.unit n 0 -ℤ units) ≤ℤ unit_number r.steps.unit d k) → IsListed r q → q.date <ℤ day → q.date <ℤ (day -ℤ w)
+pub in_front : (r : LocalParts) (day w units : ℤ) (q : Moment) → 0 < interval_units r.steps → units ≡ pos (units_behind r day 0) -ℤ pos 1 → ((n d : ℤ) (k : ℕ) → (n -ℤ w) ≤ℤ d → (unit_number r.steps.unit n 0 -ℤ units) ≤ℤ unit_number r.steps.unit d k) → IsListed r q → q.date <ℤ day → q.date <ℤ (day -ℤ w)
 in_front r day w units q some is back h lt =
     by_lt_z q.date (day -ℤ w) (λ less. less)
     (λ ge.

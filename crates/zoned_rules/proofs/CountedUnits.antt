@@ -2,14 +2,14 @@
 use Rattle.std.proofs.Common.{◌≡◌, ◌==◌, ℕ, zero, suc, ◌%◌, ◌<◌, ◌≤◌, cond, ap, ◌∙◌, refl, arith, ℤ, pos, ◌+ℤ◌, ◌-ℤ◌, ◌*ℤ◌, ◌≤ℤ◌, ◌<ℤ◌, unsigned_abs}
 use Rattle.std.specs.Int.{int_rem_euclid}
 use Rattle.std.proofs.lemmas.Bool.{ne_eqb}
-use Rattle.std.proofs.lemmas.Int.{ints}
+use Rattle.std.proofs.lemmas.Int.{by_lt_z, ints}
 use Rattle.chrono_datetime.proofs.Signed.{casts}
 use Rattle.zoned_rules.specs.declared.clock_steps.ClockSteps.{ClockSteps}
 use Rattle.zoned_rules.specs.declared.clock_steps.ClockUnit.{ClockUnit}
 use Rattle.zoned_rules.specs.declared.clock_steps.ClockUnit.TheVariants.{Day, Hour, Minute, Second}
 use Rattle.zoned_rules.specs.LocalTimes.{LocalParts, unit_number, units_behind}
-use Rattle.zoned_rules.specs.Private.{interval_of, units_of_day}
-use Rattle.zoned_rules.proofs.Intervals.{by_zero, none-left, off-ahead, off-back, off-behind-whole, rem-less}
+use Rattle.zoned_rules.specs.Private.{interval_units, units_of_day}
+use Rattle.zoned_rules.proofs.Intervals.{none-left, off-ahead, off-back, off-behind-whole, rem-less}
 
 pub unit_number-rises : (u : ClockUnit) (n : ℤ) (j k : ℕ) → j ≤ k → unit_number u n j ≤ℤ unit_number u n k
 unfolding unit_number
@@ -27,25 +27,25 @@ unit_number-moved Minute n d k = omega (arith, casts)
 unit_number-moved Second n d k = omega (arith, casts)
 
 -- in front of the next unit that counts
-pub behind-ahead : (r : LocalParts) (n d : ℤ) (j k : ℕ) → 0 < interval_of r.steps → 0 < units_behind r n j → unit_number r.steps.unit n j ≤ℤ unit_number r.steps.unit d k → unit_number r.steps.unit d k <ℤ (unit_number r.steps.unit n j +ℤ (pos (interval_of r.steps) -ℤ pos (units_behind r n j))) → 0 < units_behind r d k
+pub behind-ahead : (r : LocalParts) (n d : ℤ) (j k : ℕ) → 0 < interval_units r.steps → 0 < units_behind r n j → unit_number r.steps.unit n j ≤ℤ unit_number r.steps.unit d k → unit_number r.steps.unit d k <ℤ (unit_number r.steps.unit n j +ℤ (pos (interval_units r.steps) -ℤ pos (units_behind r n j))) → 0 < units_behind r d k
 unfolding units_behind
 behind-ahead r n d j k some left low high =
     let own = unit_number r.steps.unit r.start.date r.start.time.second in
-    off-ahead (unit_number r.steps.unit n j -ℤ own) (unit_number r.steps.unit d k -ℤ own) (interval_of r.steps) some left (omega (arith, ints, low)) (omega (arith, ints, high))
+    off-ahead (unit_number r.steps.unit n j -ℤ own) (unit_number r.steps.unit d k -ℤ own) (interval_units r.steps) some left (omega (arith, ints, low)) (omega (arith, ints, high))
 
 -- behind the last unit that counts
-pub behind-back : (r : LocalParts) (n d : ℤ) (j k : ℕ) → 0 < interval_of r.steps → unit_number r.steps.unit d k ≤ℤ unit_number r.steps.unit n j → (unit_number r.steps.unit n j -ℤ pos (units_behind r n j)) <ℤ unit_number r.steps.unit d k → 0 < units_behind r d k
+pub behind-back : (r : LocalParts) (n d : ℤ) (j k : ℕ) → 0 < interval_units r.steps → unit_number r.steps.unit d k ≤ℤ unit_number r.steps.unit n j → (unit_number r.steps.unit n j -ℤ pos (units_behind r n j)) <ℤ unit_number r.steps.unit d k → 0 < units_behind r d k
 unfolding units_behind
 behind-back r n d j k some high low =
     let own = unit_number r.steps.unit r.start.date r.start.time.second in
-    off-back (unit_number r.steps.unit n j -ℤ own) (unit_number r.steps.unit d k -ℤ own) (interval_of r.steps) some (omega (arith, ints, high)) (omega (arith, ints, low))
+    off-back (unit_number r.steps.unit n j -ℤ own) (unit_number r.steps.unit d k -ℤ own) (interval_units r.steps) some (omega (arith, ints, high)) (omega (arith, ints, low))
 
 -- behind a unit, and in front of the next that counts
-pub behind-beyond : (r : LocalParts) (n d : ℤ) (j k : ℕ) → 0 < interval_of r.steps → unit_number r.steps.unit n j <ℤ unit_number r.steps.unit d k → unit_number r.steps.unit d k <ℤ (unit_number r.steps.unit n j +ℤ (pos (interval_of r.steps) -ℤ pos (units_behind r n j))) → 0 < units_behind r d k
+pub behind-beyond : (r : LocalParts) (n d : ℤ) (j k : ℕ) → 0 < interval_units r.steps → unit_number r.steps.unit n j <ℤ unit_number r.steps.unit d k → unit_number r.steps.unit d k <ℤ (unit_number r.steps.unit n j +ℤ (pos (interval_units r.steps) -ℤ pos (units_behind r n j))) → 0 < units_behind r d k
 unfolding units_behind
 behind-beyond r n d j k some low high =
     let own = unit_number r.steps.unit r.start.date r.start.time.second in
-    off-behind-whole (unit_number r.steps.unit n j -ℤ own) (unit_number r.steps.unit d k -ℤ own) (interval_of r.steps) some (omega (arith, ints, low)) (omega (arith, ints, high))
+    off-behind-whole (unit_number r.steps.unit n j -ℤ own) (unit_number r.steps.unit d k -ℤ own) (interval_units r.steps) some (omega (arith, ints, low)) (omega (arith, ints, high))
 
 -- the units of a later day are later
 pub later-day-unit : (u : ClockUnit) (n d : ℤ) (j k : ℕ) → n <ℤ d → j < 86_400 → unit_number u n j <ℤ unit_number u d k
@@ -66,11 +66,14 @@ earlier-day-unit Second n d k lt few = omega (arith, casts, lt, few)
 some_interval : (g : ℕ) → 0 < g → cond (g == 0) 1 g ≡ g
 some_interval g some = rw (ne_eqb g 0 (λ e. omega (arith, e, some))) refl
 
-pub interval_of-some : (s : ClockSteps) → 0 < interval_of s
-interval_of-some s = by_zero s.interval (λ e. rw e (omega arith)) (λ some. rw (some_interval s.interval some) some)
+pub interval_units-some : (s : ClockSteps) → 0 < interval_units s
+interval_units-some s =
+    by_lt_z (pos 0) (pos s.interval)
+    (λ lt. let some : 0 < s.interval = omega (arith, ints, lt) in rw (some_interval s.interval some) some)
+    (λ ge. let none : s.interval ≡ 0 = omega (arith, ints, ge) in rw none (omega arith))
 
 -- where the interval counts a unit, a divisor of the interval and of a day counts the units of that second of each day
-pub common_units : (r : LocalParts) (n d : ℤ) (k g : ℕ) → 0 < interval_of r.steps → 0 < g → interval_of r.steps % g ≡ 0 → units_of_day r.steps.unit % g ≡ 0 → units_behind r n k ≡ 0 → units_behind (record r { steps = record { unit = r.steps.unit; interval = g } }) d k ≡ 0
+pub common_units : (r : LocalParts) (n d : ℤ) (k g : ℕ) → 0 < interval_units r.steps → 0 < g → interval_units r.steps % g ≡ 0 → units_of_day r.steps.unit % g ≡ 0 → units_behind r n k ≡ 0 → units_behind (record r { steps = record { unit = r.steps.unit; interval = g } }) d k ≡ 0
 unfolding units_behind
 common_units r n d k g some some-g whole-s whole-day none =
     let u = r.steps.unit in
@@ -78,7 +81,7 @@ common_units r n d k g some some-g whole-s whole-day none =
     let apart : unit_number u d k -ℤ own ≡ (unit_number u n k -ℤ own) +ℤ (d -ℤ n) *ℤ pos (units_of_day u) = omega (arith, ints, unit_number-moved u n d k) in
     ap (λ x. unsigned_abs (int_rem_euclid (unit_number u d k -ℤ own) (pos x))) (some_interval g some-g)
     ∙ ap (λ (z : ℤ). unsigned_abs (int_rem_euclid z (pos g))) apart
-    ∙ none-left (unit_number u n k -ℤ own) (d -ℤ n) (interval_of r.steps) (units_of_day u) g some some-g whole-s whole-day none
+    ∙ none-left (unit_number u n k -ℤ own) (d -ℤ n) (interval_units r.steps) (units_of_day u) g some some-g whole-s whole-day none
 
 one_interval : (i : ℕ) → i ≤ 1 → cond (i == 0) 1 i ≡ 1
 one_interval zero few = refl

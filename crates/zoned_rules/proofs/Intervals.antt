@@ -1,12 +1,9 @@
 -- Numbers that lie whole intervals apart.
-use Rattle.std.proofs.Common.{◌≡◌, ℕ, zero, suc, ◌+◌, ◌*◌, ◌/◌, ◌%◌, ◌<◌, ◌≤◌, refl, sym, ap, ◌∙◌, arith, ℤ, pos, negsuc, ◌+ℤ◌, ◌-ℤ◌, ◌*ℤ◌, ◌≤ℤ◌, ◌<ℤ◌, unsigned_abs}
+use Rattle.std.proofs.Common.{◌≡◌, ℕ, suc, ◌+◌, ◌*◌, ◌/◌, ◌%◌, ◌<◌, ◌≤◌, refl, sym, ap, ◌∙◌, arith, ℤ, pos, negsuc, ◌+ℤ◌, ◌-ℤ◌, ◌*ℤ◌, ◌≤ℤ◌, ◌<ℤ◌, unsigned_abs}
 use Rattle.std.specs.Int.{int_rem_euclid}
-use Rattle.std.proofs.lemmas.Int.{int_rem_euclid_is, ints}
+use Rattle.std.proofs.lemmas.Int.{by_lt_z, int_rem_euclid_is, ints}
 use Rattle.std.proofs.lemmas.Nat.{div-add-mod', mod-mul-add}
-
-many : (k n : ℕ) → 0 < n → k ≤ k * n
-many zero n some = omega arith
-many (suc k) n some = omega (arith, many k n some)
+use Rattle.chrono_rules.proofs.Intervals.{many, rem-ahead}
 
 -- what is left of a number behind whole intervals, as what is left of a natural number
 record IsLifted (a : ℤ) (n : ℕ) : Type 0 where
@@ -20,18 +17,6 @@ lift a n some =
     let m : ℕ = unsigned_abs (a +ℤ pos (k * n)) in
     let up : a +ℤ pos (k * n) ≡ pos m = omega (arith, ints, many k n some) in
     record { lifted = m; is = up; left = ap unsigned_abs (int_rem_euclid_is a (pos n) n k m some refl up) }
-
-mod-ahead : (m n j : ℕ) → m % n + j < n → (m + j) % n ≡ m % n + j
-mod-ahead m n j less =
-    let parts : m + j ≡ m / n * n + (m % n + j) = omega (arith, div-add-mod' m n) in
-    ap (λ x. x % n) parts ∙ mod-mul-add (m / n) n (m % n + j) less
-
--- up to the next interval what is left grows with the number
-pub rem-ahead : (a : ℤ) (n j : ℕ) → 0 < n → unsigned_abs (int_rem_euclid a (pos n)) + j < n → unsigned_abs (int_rem_euclid (a +ℤ pos j) (pos n)) ≡ unsigned_abs (int_rem_euclid a (pos n)) + j
-rem-ahead a n j some less =
-    let l = lift a n some in
-    let there : unsigned_abs (int_rem_euclid (a +ℤ pos j) (pos n)) ≡ (l.lifted + j) % n = ap unsigned_abs (int_rem_euclid_is (a +ℤ pos j) (pos n) n (unsigned_abs a) (l.lifted + j) some refl (omega (arith, ints, l.is))) in
-    there ∙ mod-ahead l.lifted n j (omega (arith, l.left, less)) ∙ ap (λ x. x + j) (sym l.left)
 
 pub rem-less : (a : ℤ) (n : ℕ) → 0 < n → unsigned_abs (int_rem_euclid a (pos n)) < n
 rem-less a n some = let l = lift a n some in omega (arith, l.left, some)
@@ -54,22 +39,18 @@ off-behind-whole a b n some low high =
     ap (λ (z : ℤ). unsigned_abs (int_rem_euclid z (pos n))) (sym at) ∙ rem-ahead a n j some (omega (arith, ints, low, high, at)) in
     omega (arith, ints, is, low, at)
 
-pub by_zero : {A : Type 0} (k : ℕ) → (k ≡ 0 → A) → (0 < k → A) → A
-by_zero zero f g = f refl
-by_zero (suc k) f g = g (omega arith)
-
 -- back to the last that counts
 pub off-back : (a b : ℤ) (n : ℕ) → 0 < n → b ≤ℤ a → (a -ℤ pos (unsigned_abs (int_rem_euclid a (pos n)))) <ℤ b → 0 < unsigned_abs (int_rem_euclid b (pos n))
 off-back a b n some high low =
     let j : ℕ = unsigned_abs (a -ℤ b) in
     let at : b +ℤ pos j ≡ a = omega (arith, ints, high) in
     let less = rem-less a n some in
-    by_zero (unsigned_abs (int_rem_euclid b (pos n)))
-    (λ e.
+    by_lt_z (pos 0) (pos (unsigned_abs (int_rem_euclid b (pos n)))) (λ some. omega (arith, ints, some))
+    (λ none.
+    let e : unsigned_abs (int_rem_euclid b (pos n)) ≡ 0 = omega (arith, ints, none) in
     let is : unsigned_abs (int_rem_euclid a (pos n)) ≡ unsigned_abs (int_rem_euclid b (pos n)) + j =
     ap (λ (z : ℤ). unsigned_abs (int_rem_euclid z (pos n))) (sym at) ∙ rem-ahead b n j some (omega (arith, ints, e, less, low, at)) in
     absurd (omega (arith, ints, is, e, low, at)))
-    (λ some. some)
 
 -- ---- a common measure of the interval and of a day
 

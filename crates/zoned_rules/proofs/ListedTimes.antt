@@ -1,5 +1,6 @@
 -- Which seconds of a day are times of a rule, and which seconds of local time are its local times.
 use Rattle.std.proofs.Common.{◌≡◌, ◌⊎◌, ⊎_elim, ℕ, ◌+◌, ◌/◌, ◌%◌, ◌<◌, ◌≤◌, ◌==◌, ◌&&◌, Bool, true, false, inl, inr, ℤ, pos, ◌≤ℤ◌, ◌<ℤ◌, arith, ap, refl, subst, ◌∙◌}
+use Rattle.std.proofs.Math.Bool.{and-false}
 use Rattle.std.proofs.lemmas.Bool.{and_parts, both_ways, eqb-true, ne_eqb}
 use Rattle.std.proofs.lemmas.Int.{by_lt_z, ints}
 use Rattle.chrono_datetime.specs.Moment.{IsMoment, Moment, moment}
@@ -12,10 +13,6 @@ use Rattle.zoned_rules.specs.declared.clock_steps.ClockUnit.{ClockUnit}
 use Rattle.zoned_rules.specs.declared.day_times.DayTimes.{DayTimes}
 use Rattle.zoned_rules.specs.LocalTimes.{LocalParts, is_above_hours, is_above_minutes, is_above_seconds, is_counted_time, is_planned, is_planned_on, is_time, names_number, units_behind}
 use Rattle.zoned_rules.specs.Private.{IsListed, second_on}
-
-and_false : (b : Bool) → (b && false) ≡ false
-and_false true = refl
-and_false false = refl
 
 -- ---- a part that does not name its number
 
@@ -30,15 +27,15 @@ unfolding is_time
 no_minute u t own n k off same =
     ap (λ b. names_number (is_above_hours u) t.hours (own / 3_600) (k / 3_600) && (b && names_number (is_above_seconds u) t.seconds (own % 60) (k % 60)))
     (ap (λ m. names_number (is_above_minutes u) t.minutes (own / 60 % 60) (m % 60)) same ∙ off)
-    ∙ and_false (names_number (is_above_hours u) t.hours (own / 3_600) (k / 3_600))
+    ∙ and-false (names_number (is_above_hours u) t.hours (own / 3_600) (k / 3_600))
 
 pub no_second : (u : ClockUnit) (t : DayTimes) (own n k : ℕ) → names_number (is_above_seconds u) t.seconds (own % 60) (n % 60) ≡ false → k ≡ n → is_time u t own k ≡ false
 unfolding is_time
 no_second u t own n k off same =
     ap (λ b. names_number (is_above_hours u) t.hours (own / 3_600) (k / 3_600) && (names_number (is_above_minutes u) t.minutes (own / 60 % 60) (k / 60 % 60) && b))
     (ap (λ m. names_number (is_above_seconds u) t.seconds (own % 60) (m % 60)) same ∙ off)
-    ∙ ap (λ b. names_number (is_above_hours u) t.hours (own / 3_600) (k / 3_600) && b) (and_false (names_number (is_above_minutes u) t.minutes (own / 60 % 60) (k / 60 % 60)))
-    ∙ and_false (names_number (is_above_hours u) t.hours (own / 3_600) (k / 3_600))
+    ∙ ap (λ b. names_number (is_above_hours u) t.hours (own / 3_600) (k / 3_600) && b) (and-false (names_number (is_above_minutes u) t.minutes (own / 60 % 60) (k / 60 % 60)))
+    ∙ and-false (names_number (is_above_hours u) t.hours (own / 3_600) (k / 3_600))
 
 pub all_three : (u : ClockUnit) (t : DayTimes) (own n : ℕ) → names_number (is_above_hours u) t.hours (own / 3_600) (n / 3_600) ≡ true → names_number (is_above_minutes u) t.minutes (own / 60 % 60) (n / 60 % 60) ≡ true → names_number (is_above_seconds u) t.seconds (own % 60) (n % 60) ≡ true → is_time u t own n ≡ true
 unfolding is_time
@@ -54,7 +51,7 @@ not_counted r n k some = rw (ne_eqb (units_behind r n k) 0 (λ e. omega (arith, 
 
 pub not_listed : (r : LocalParts) (n : ℤ) (k : ℕ) → is_time r.steps.unit r.times r.start.time.second k ≡ false → is_counted_time r n k ≡ false
 unfolding is_counted_time
-not_listed r n k off = ap (λ b. (units_behind r n k == 0) && b) off ∙ and_false (units_behind r n k == 0)
+not_listed r n k off = ap (λ b. (units_behind r n k == 0) && b) off ∙ and-false (units_behind r n k == 0)
 
 pub counted_and_listed : (r : LocalParts) (n : ℤ) (k : ℕ) → units_behind r n k ≡ 0 → is_time r.steps.unit r.times r.start.time.second k ≡ true → is_counted_time r n k ≡ true
 unfolding is_counted_time

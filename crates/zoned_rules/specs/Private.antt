@@ -15,8 +15,8 @@ abbrev pub second_on : ℤ → ℕ → ℤ
 second_on n k = (n -ℤ unix_epoch_day) *ℤ pos 86_400 +ℤ pos k
 
 -- how many units lie from one that counts to the next
-abbrev pub interval_of : ClockSteps → ℕ
-interval_of steps = if steps.interval == 0 then 1 else steps.interval
+abbrev pub interval_units : ClockSteps → ℕ
+interval_units steps = if steps.interval == 0 then 1 else steps.interval
 
 -- how many units a day has
 unfoldable pub units_of_day : ClockUnit → ℕ

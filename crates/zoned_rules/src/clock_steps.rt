@@ -2,7 +2,7 @@
 ghost use Rattle.std.specs.Prelude.{◌≡◌, ℤ, ℕ, pos, neg_ℤ, ◌+ℤ◌, ◌-ℤ◌, ◌≤ℤ◌, ◌<ℤ◌, ◌<◌, ◌≤◌, ◌%◌, ◌^◌, ◌-◌};
 ghost use Rattle.std.specs.Int.{IsGcd};
 ghost use Rattle.zoned_rules.specs.LocalTimes.{each_day, is_above_hours, is_above_minutes, is_above_seconds, unit_number};
-ghost use Rattle.zoned_rules.specs.Private.{interval_of, units_of_day};
+ghost use Rattle.zoned_rules.specs.Private.{interval_units, units_of_day};
 
 use chrono_datetime::{Datelike, NaiveDate};
 
@@ -56,7 +56,7 @@ impl ClockSteps {
     // How many units lie from one that counts to the next.
     #[inline]
     pub(crate) fn step(&self) -> u32
-        ensures value { result ≡ interval_of self.now }
+        ensures value { result ≡ interval_units self.now }
         ensures positive { 0 < result }
     {
         if self.interval == 0 { 1 } else { self.interval }
@@ -65,7 +65,7 @@ impl ClockSteps {
     // A number of units that divides both the interval and a day. On each day the units that lie so many apart are the same.
     pub(crate) fn common_interval(&self) -> u32
         ensures positive { 0 < result }
-        ensures interval { interval_of self.now % result ≡ 0 }
+        ensures interval { interval_units self.now % result ≡ 0 }
         ensures day { units_of_day self.now.unit % result ≡ 0 }
     {
         common_divisor(self.step(), self.unit.units_of_day())

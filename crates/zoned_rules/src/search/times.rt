@@ -3,7 +3,7 @@ ghost use Rattle.std.specs.Prelude.{◌≡◌, ◌≤◌, ◌<◌, ◌-◌, ◌+
 ghost use Rattle.std.specs.Int.{int_rem_euclid};
 ghost use Rattle.chrono_datetime.specs.PassedOver.{PassedNumbers};
 ghost use Rattle.zoned_rules.specs.LocalTimes.{is_counted_time, is_time, names_number, unit_number, units_behind};
-ghost use Rattle.zoned_rules.specs.Private.{interval_of};
+ghost use Rattle.zoned_rules.specs.Private.{interval_units};
 
 use crate::clock_steps::{DAY, HOUR, MINUTE};
 use crate::local_rule::LocalRule;
@@ -12,7 +12,7 @@ use chrono_sets::NumberSet;
 
 impl LocalRule {
     // How many units the one of a second of a day lies behind the start's, negative before it.
-    fn units_apart(&self, date: NaiveDate, second: u32) -> i64
+    fn interval_units(&self, date: NaiveDate, second: u32) -> i64
         requires { second < 86_400 }
         ensures value { result ≡ unit_number self.now.steps.unit date second -ℤ unit_number self.now.steps.unit self.now.start.date self.now.start.time.second }
         ensures low { neg_ℤ (pos 20_000_000_000_000) ≤ℤ result }
@@ -27,19 +27,22 @@ impl LocalRule {
     pub(crate) fn units_behind(&self, date: NaiveDate, second: u32) -> u64
         requires { second < 86_400 }
         ensures value { result ≡ units_behind self.now date second }
-        ensures less { result < interval_of self.now.steps }
+        ensures less { result < interval_units self.now.steps }
         ensures few { result < 4_294_967_296 }
     {
         if self.steps.interval <= 1 {
             return 0;
         }
-        remainder(self.units_apart(date, second), i64::from(self.steps.step()))
+        remainder(
+            self.interval_units(date, second),
+            i64::from(self.steps.step()),
+        )
     }
 
     // How many units it lies before the next that INTERVAL counts.
     pub(crate) fn units_to_next(&self, date: NaiveDate, second: u32) -> i64
         requires { second < 86_400 }
-        ensures value { result ≡ pos (interval_of self.now.steps) -ℤ pos (units_behind self.now date second) }
+        ensures value { result ≡ pos (interval_units self.now.steps) -ℤ pos (units_behind self.now date second) }
         ensures some { pos 0 <ℤ result }
         ensures few { result ≤ℤ pos 4_294_967_296 }
     {

@@ -2,7 +2,7 @@ use Rattle.std.proofs.Common.{◌++◌, ap, ◌∙◌, w32, SFits}
 use Rattle.std.proofs.lemmas.Int.{to_z-of_z}
 use Rattle.chrono_text.specs.Text.{two_digits}
 use Rattle.chrono_rules.specs.WrittenRules.{four_digits}
-use Rattle.calendar_text.proofs.TextLemmas.{day_same, three_put}
+use Rattle.chrono_rules.proofs.DayTexts.{day_same, three_put}
 use Rattle.calendar_text.proofs.time_writer.put_date.Goals as goal
 
 pub returns-clause-text : goal.returns-clause-text

@@ -1,4 +1,4 @@
-use Rattle.std.proofs.Common.{◌≡◌, ◌∙◌, sym, ℤ, FitsSigned, rules, w32, w64}
+use Rattle.std.proofs.Common.{◌∙◌, sym, ℤ, FitsSigned, rules, w32, w64}
 use Rattle.std.proofs.lemmas.Int.{to_z-of_z}
 use Rattle.chrono_calendar.proofs.NamedDates.{date_of_day-number, none-date_of_day}
 use Rattle.chrono_calendar.specs.Days.{IsDate}
@@ -12,7 +12,7 @@ returns-in-Some-date_of-clause-moved c =
     let fits : FitsSigned w32 c.number_or_none.result = search rules in
     let number = to_z-of_z w32 c.number_or_none.result fits in
     let day = (date_of_day-number c.in-Some-date_of.date c.args.date (sym (rw (to_z-of_z w32 c.args.date c.ranges.date) at c.in-Some-date_of.ensures.date))).1 in
-    let moved = rw (c.in-Some.ensures.calendar, ← day) at c.add_open_days.ensures.moved in
+    let moved = rw (c.in-Some.ensures.calendar, ← day, to_z-of_z w64 c.args.n c.ranges.n) at c.add_open_days.ensures.moved in
     found-holds c.add_open_days.result (IsMovedByOpenDays (closed_from_c c.args.weekend c.args.holidays.now) c.args.date c.args.n) _ (number ∙ c.number_or_none.ensures.number) moved
 
 pub returns-in-Some-date_of-clause-none : goal.returns-in-Some-date_of-clause-none
@@ -20,7 +20,7 @@ returns-in-Some-date_of-clause-none c =
     let fits : FitsSigned w32 c.number_or_none.result = search rules in
     let number = to_z-of_z w32 c.number_or_none.result fits in
     let day = (date_of_day-number c.in-Some-date_of.date c.args.date (sym (rw (to_z-of_z w32 c.args.date c.ranges.date) at c.in-Some-date_of.ensures.date))).1 in
-    let unmoved = rw (c.in-Some.ensures.calendar, ← day) at c.add_open_days.ensures.none in
+    let unmoved = rw (c.in-Some.ensures.calendar, ← day, to_z-of_z w64 c.args.n c.ranges.n) at c.add_open_days.ensures.none in
     λ none _ _. none-holds c.add_open_days.result ((e : ℤ) → IsDate e → IsMovedByOpenDays (closed_from_c c.args.weekend c.args.holidays.now) c.args.date c.args.n e → ⊥) _
     (number ∙ c.number_or_none.ensures.number) c.add_open_days.ensures.exists unmoved none
 

@@ -1,4 +1,4 @@
-use Rattle.std.proofs.Common.{◌≡◌, ◌∙◌, sym, subst, ℤ, Option, Some, IfSome, FitsSigned, rules, w32, to_z, of_z}
+use Rattle.std.proofs.Common.{◌∙◌, sym, subst, ℤ, Option, IfSome, FitsSigned, rules, w32, to_z, of_z}
 use Rattle.std.proofs.lemmas.Int.{to_z-of_z}
 use Rattle.chrono_calendar.proofs.NamedDates.{date_of_day-number, none-date_of_day}
 use Rattle.chrono_calendar.specs.Days.{IsDate}

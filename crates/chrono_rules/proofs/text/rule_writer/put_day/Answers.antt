@@ -4,9 +4,8 @@ use Rattle.std.proofs.lemmas.Int.{to_z-of_z}
 use Rattle.chrono_text.specs.Text.{two_digits}
 use Rattle.chrono_text.proofs.AsciiTexts.{IsAscii-two_digits}
 use Rattle.chrono_rules.specs.WrittenRules.{four_digits}
-use Rattle.chrono_rules.proofs.EndsBack.{name_small}
-use Rattle.chrono_rules.proofs.ListLemmas.{three_put}
-use Rattle.chrono_rules.proofs.RuleAscii.{day_ascii, day_same, year_ascii}
+use Rattle.chrono_rules.proofs.DayTexts.{day_same, name_small, three_put}
+use Rattle.chrono_rules.proofs.RuleAscii.{day_ascii, year_ascii}
 use Rattle.chrono_rules.proofs.text.rule_writer.put_day.Goals as goal
 
 pub returns-clause-text : goal.returns-clause-text

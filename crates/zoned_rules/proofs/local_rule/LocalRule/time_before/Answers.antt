@@ -1,6 +1,6 @@
 use Rattle.std.proofs.Common.{◌≡◌, rules, ◌-◌, arith}
 use Rattle.chrono_datetime.proofs.Signed.{casts}
-use Rattle.zoned_rules.proofs.CountedUnits.{behind-back, interval_of-some, unit_number-rises}
+use Rattle.zoned_rules.proofs.CountedUnits.{behind-back, interval_units-some, unit_number-rises}
 use Rattle.zoned_rules.proofs.ListedTimes.{counted_and_listed, not_counted, not_listed}
 use Rattle.zoned_rules.proofs.local_rule.LocalRule.time_before.Goals as goal
 
@@ -11,7 +11,7 @@ returns-then-behind-gt0-clause-passed c = λ k low high.
     let j = c.args.end - 1 in
     let is_unit : c.self.inside.steps.unit ≡ r.steps.unit = search rules in
     not_counted r n k
-    (behind-back r n n j k (interval_of-some r.steps) (unit_number-rises r.steps.unit n k j (omega (arith, high)))
+    (behind-back r n n j k (interval_units-some r.steps) (unit_number-rises r.steps.unit n k j (omega (arith, high)))
     (omega (arith, casts, rw is_unit at (c.earlier_unit.ensures.passed n k low), c.units_behind-behind.ensures.value, c.units_behind-behind.ensures.few)))
 
 pub returns-clause-time : goal.returns-clause-time
