@@ -33,7 +33,8 @@ static void answer_days(const Cursor *cursor, sqlite3_context *context)
 }
 
 static const Table DAYS_OF = {
-    "days_of", "CREATE TABLE days_of(day TEXT, start HIDDEN, until HIDDEN, step HIDDEN)", 2, start_days, next_of_days, answer_days,
+    "days_of", "CREATE TABLE days_of(day TEXT, given_from HIDDEN, given_until HIDDEN, given_step HIDDEN)", 2,
+    start_days, next_of_days, answer_days,
 };
 
 int add_days_of(sqlite3 *db)

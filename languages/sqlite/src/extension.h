@@ -85,7 +85,7 @@ typedef struct {
 /* A function whose answer is a table of one column. */
 typedef struct {
     const char *name;
-    /* how SQLite declares it, with a hidden column for each argument */
+    /* how SQLite declares it, with a hidden column for each argument, whose name is seldom one of another table */
     const char *declaration;
     /* how many arguments it needs */
     int needed;

@@ -106,7 +106,8 @@ static void answer_due(const Cursor *cursor, sqlite3_context *context)
 }
 
 static const Table DUE_BETWEEN = {
-    "due_between", "CREATE TABLE due_between(due TEXT, schedule HIDDEN, start HIDDEN, until HIDDEN)", 3, start_due, next_of_due, answer_due,
+    "due_between", "CREATE TABLE due_between(due TEXT, given_schedule HIDDEN, given_from HIDDEN, given_until HIDDEN)", 3,
+    start_due, next_of_due, answer_due,
 };
 
 int add_due_between(sqlite3 *db)
