@@ -57,7 +57,7 @@ def make_package(room):
     os.makedirs(built)
     library = find_library(room)
     if not library:
-        raise packages.Missing("there is no libcalendar_c.a, and `rt lib` does not build it")
+        raise RuntimeError("there is no libcalendar_c.a, and `rt lib` does not build it")
     packages.build(library, built)
     return sqlite.make(TOP, built, dist)[0], f"{built}/libcalendar.a"
 
@@ -200,7 +200,9 @@ def main():
         with tempfile.TemporaryDirectory(prefix="sqlite-") as room:
             test(results, room, count, seed)
     except packages.Missing as it:
-        print(f"not run: the SQLite extension, since {it}")
+        print(f"not run: the SQLite extension, since there is {it}")
+    except RuntimeError as it:
+        results.count(False, f"the SQLite extension is not made: {it}")
     print(f"{results.passed} passed, {results.failed} failed")
     return 1 if results.failed else 0
 

@@ -34,7 +34,7 @@ def layers():
     from layers_c import find_library
     found = find_library()
     if not found:
-        raise Missing("there is no liblayers_c.a, and `rt lib` does not build it")
+        raise RuntimeError("there is no liblayers_c.a, and `rt lib` does not build it")
     return found
 
 
