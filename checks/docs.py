@@ -46,28 +46,27 @@ COMMENTS = {".rt": r"//[^\n]*", ".rs": r"//[^\n]*", ".antt": r"--[^\n]*", ".c": 
             ".py": r'""".*?"""|#[^\n]*', ".pyi": r"#[^\n]*", ".toml": r"#[^\n]*", ".js": r"//[^\n]*|/\*.*?\*/", ".ts": r"//[^\n]*|/\*.*?\*/"}
 # Names that no source declares, by the reason.
 ABSENT = {
-    "of Rust and its std": """From Display DoubleEndedIterator String Drop Eq FromIterator FromPrimitive FromStr Hash
-        to_string IntoIterator Ok Option Result Some Sum TryFrom collect fmt::Write if match mod requires self str u8 unsafe unwrap""",
+    "of Rust and its std": """From Display DoubleEndedIterator String Drop Eq const std FromIterator FromPrimitive FromStr Hash
+        to_string IntoIterator Ok Option Result Some Sum TryFrom collect fmt::Write if match requires self str u8 unsafe unwrap""",
     "of the kit: its words, its tactics and its std": """IfSome_then SomeIff agree_below agree_below_at jiff_tz num_traits omega refl subst
         unfoldable view_is ensures """,
-    "of Python": "OverflowError True TypeError ValueError datetime operator timedelta __slots__ __getstate__",
-    "of JavaScript": "calendarName PlainTime iso8601 RangeError Temporal overflow round toLocaleString",
+    "of Python": "OverflowError True TypeError ValueError datetime timedelta __slots__ __getstate__",
+    "of JavaScript": "BigInt calendarName PlainTime iso8601 RangeError Temporal overflow wasm-opt",
     "of earlier versions": "check_rule check_schedule Nearest Roll::Nearest",
     "of C": "int32_t memcpy",
     "of Rust's compiler and of the kit's options": "ConversionError serde",
     "read from the environment": "CALENDAR_FOLDER CMAKE_PREFIX_PATH PKG_CONFIG_PATH TZ TZDIR",
     "of chrono, and left out here": """timestamp_nanos parse_and_remainder ParseMonthError ParseWeekdayError format_with_items
         format_localized format_localized_with_items and_utc and_local_timezone
-        DateTime::format DateTime::parse_from_str BEFORE_MIN AFTER_MAX UNIX_EPOCH MIN_UTC MAX_UTC timestamp_millis_opt from_timestamp_secs as_seconds_f64 as_seconds_f32 from_std to_std OutOfRangeError
+        BEFORE_MIN AFTER_MAX UNIX_EPOCH MIN_UTC MAX_UTC timestamp_millis_opt from_timestamp_secs as_seconds_f64 as_seconds_f32 from_std to_std OutOfRangeError
         from_isoywd from_num_days_from_ce from_hms
-        from_num_seconds_from_midnight and_hms NaiveDate::succ NaiveDate::pred""",
+        from_num_seconds_from_midnight and_hms proved_calendar::chrono""",
     "files and modules of chrono": "naive internals ",
-    "words of CMake, of the shell and of a line": "find_package cc move pkg-config",
+    "words of CMake, of the shell and of a line": "find_package cc pkg-config",
     "words of the program dates": "MONTH mo us-federal modified-following modified-preceding",
-    "digits of a number": "_294_967_297",
     "texts and digits of a text": "CEST P0D PT59M59 PT90S PT007S PT1H30M PT5400S PT0S",
     "made by tools/dist": "SHA256SUMS",
-    "in the place of a name, or a part of names": "LAW ARGS condition with_ _opt _milli _micro _nano",
+    "in the place of a name, or a part of names": "LAW ARGS condition with_ _milli _micro _nano",
 }
 # Files and folders that are rightly not there, by the reason.
 NO_FILES = {

@@ -71,6 +71,7 @@ pub record IsWritableMoment (m : Moment) : Type 0 where
   pub second : m.time.second < seconds_per_day
   pub whole : m.time.fraction ≡ 0
 
+-- a time that is written so that it can be read: its year has four digits, and a date-time has no fraction of a second
 unfoldable pub CanBeReadBack : CalendarTime → Type 0
 CanBeReadBack (Date d) = HasFourDigits d
 CanBeReadBack (Local m) = IsWritableMoment m

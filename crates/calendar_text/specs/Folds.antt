@@ -26,6 +26,7 @@ place_behind before [] k = 0
 place_behind before (b ∷ bs) k =
     if is_left_out before b (slice_index bs 0) then place_behind b bs k + 1 else (if k == 0 then 0 else place_behind b bs (k - 1) + 1)
 
+-- where the byte at a place of the unfolded text stands in the folded one
 abbrev pub folded_place : List ℕ → ℕ → ℕ
 folded_place text k = place_behind 0 text k
 
@@ -45,6 +46,7 @@ unfoldable pub folded_behind : ℕ → List ℕ → List ℕ
 folded_behind column [] = []
 folded_behind column (b ∷ bs) = folded_byte column b ++ folded_behind (column_behind column b) bs
 
+-- the text with its lines folded
 abbrev pub folded : List ℕ → List ℕ
 folded text = folded_behind 0 text
 

@@ -1,5 +1,5 @@
 -- The text of a date in a layout is what the pattern of the layout writes.
-use Rattle.std.proofs.Common.{◌≡◌, ◌≢◌, ℕ, ◌==◌, false, List, [], ◌∷◌, ◌++◌, append-nil, codes, ℤ, pos, refl, ap, ◌∙◌, arith}
+use Rattle.std.proofs.Common.{◌≡◌, ◌≢◌, ℕ, ◌==◌, false, List, [], ◌∷◌, ◌++◌, append-nil, codes, ℤ, pos, ap, ◌∙◌}
 use Rattle.std.proofs.lemmas.Bool.{ne_eqb}
 use Rattle.std.specs.Prelude.{◌≤ℤ◌}
 use Rattle.chrono_datetime.specs.Days.{day_of, month_of, year_of}
