@@ -1,0 +1,103 @@
+/* extension.h: what the parts of the SQLite extension share.
+ *
+ * A function that can refuse its arguments returns whether it took them. If not, *message is what is wrong, in memory of SQLite, or
+ * null if there is no memory.
+ */
+#ifndef EXTENSION_H
+#define EXTENSION_H
+
+#include "calendar.h"
+#include "calendar_layers.h"
+
+#include "sqlite3ext.h"
+
+/* The longest text of a date, and of a date-time. */
+enum { DATE_ROOM = 13, MOMENT_ROOM = 32 };
+
+/* ---- arguments.c: arguments that are read */
+
+/* Reads the text of a date. */
+bool read_day(const char *function, sqlite3_value *value, int32_t *day, char **message);
+
+/* Reads the text of a date-time. A date stands for its midnight. */
+bool read_moment(const char *function, sqlite3_value *value, calendar_date_time *moment, char **message);
+
+/* Reads a schedule as cron writes it. */
+bool read_schedule(const char *function, sqlite3_value *value, calendar_schedule *schedule, char **message);
+
+/* Reads a whole number. */
+bool read_number(const char *function, sqlite3_value *value, sqlite3_int64 *number, char **message);
+
+/* Whether a value is the text of a date. */
+bool is_day(sqlite3_value *value);
+
+/* ---- answers.c: answers that are written */
+
+/* Fails with a message, which it frees. */
+void answer_refusal(sqlite3_context *context, char *message);
+
+/* Answers a date as a text. */
+void answer_day(sqlite3_context *context, int32_t day);
+
+/* Answers a date-time as a text with a space before the time, as SQLite's datetime() writes it, or NULL if there is none. */
+void answer_moment(sqlite3_context *context, calendar_date_time moment);
+
+/* ---- functions that SQL calls, which each part adds to a connection; the result is SQLite's */
+
+/* A function by its name, with the number of its arguments. */
+typedef struct {
+    const char *name;
+    int count;
+    void (*call)(sqlite3_context *context, int count, sqlite3_value **values);
+} Scalar;
+
+/* Adds functions that answer NULL if an argument is NULL. */
+int add_scalars(sqlite3 *db, const Scalar *scalars, size_t count);
+
+/* The name of the function that runs. */
+const char *name_of(sqlite3_context *context);
+
+int add_dates(sqlite3 *db);
+int add_schedules(sqlite3 *db);
+int add_days_of(sqlite3 *db);
+int add_due_between(sqlite3 *db);
+
+/* ---- tables.c: functions whose answer is a table */
+
+enum { MOST_ARGUMENTS = 3, CHUNK = 64 };
+
+/* A row that is read, and what leads to the next one. */
+typedef struct {
+    sqlite3_vtab_cursor base;
+    sqlite3_int64 row;
+    bool is_over;
+    /* the arguments, of which one that is not given is null */
+    sqlite3_value *given[MOST_ARGUMENTS];
+    /* days_of */
+    int32_t day, last;
+    sqlite3_int64 step;
+    /* due_between: the moments that are found, and the place of the present one */
+    calendar_schedule schedule;
+    calendar_date_time until, found[CHUNK];
+    size_t count, at;
+} Cursor;
+
+/* A function whose answer is a table of one column. */
+typedef struct {
+    const char *name;
+    /* how SQLite declares it, with a hidden column for each argument, whose name is seldom one of another table */
+    const char *declaration;
+    /* how many arguments it needs */
+    int needed;
+    /* Goes to the first row. No argument is NULL. */
+    bool (*start)(Cursor *cursor, char **message);
+    /* Goes to the next row. */
+    void (*next)(Cursor *cursor);
+    /* Answers the present row. */
+    void (*answer)(const Cursor *cursor, sqlite3_context *context);
+} Table;
+
+/* Adds it to a connection. */
+int add_table(sqlite3 *db, const Table *table);
+
+#endif

@@ -1,0 +1,235 @@
+"""Calls every function of the extension with answers that are known from outside, with NULL, wrong types, wrong texts, and at the
+ends of the calendar.
+
+    test_functions.py PATH    the path of the extension, without its `.so`
+
+The last line is `N passed, M failed`.
+"""
+import sqlite3
+import sys
+
+ANSWERS = {
+    "is_date('2024-02-29')": 1, "is_date('2023-02-29')": 0, "is_date('')": 0, "is_date(20240229)": 0, "is_date(x'32')": 0,
+    "is_date('2024-02-29 12:00:00')": 0, "is_date('2024-02-29' || char(0))": 0, "is_date(1.5)": 0,
+    "add_days('2024-02-28', 2)": "2024-03-01", "add_days('2024-03-01', -2)": "2024-02-28", "add_days('2024-03-01', 0)": "2024-03-01",
+    "add_months('2024-01-31', 1)": "2024-02-29", "add_months('2024-02-29', -12)": "2023-02-28",
+    "days_between('2024-01-01', '2025-01-01')": 366, "days_between('2025-01-01', '2024-01-01')": -366,
+    "years_between('2000-02-29', '2024-02-28')": 23, "years_between('2000-02-29', '2024-02-29')": 24,
+    "years_between('2024-01-02', '2024-01-01')": None,
+    "weekday('2024-02-26')": 1, "weekday('2024-03-03')": 7, "iso_week('2024-02-29')": 9, "iso_week('2020-12-31')": 53,
+    "iso_year('2021-01-01')": 2020, "iso_year('2024-12-30')": 2025, "day_of_year('2024-12-31')": 366, "day_of_year('2023-12-31')": 365,
+    "days_in_month('2024-02-01')": 29, "days_in_month('2023-02-01')": 28, "days_in_month('2023-12-31')": 31,
+    # years with a sign, and the ends of the calendar
+    "add_days('9999-12-31', 1)": "+10000-01-01", "add_days('0000-01-01', -1)": "-0001-12-31", "add_days('+10000-01-01', -1)": "9999-12-31",
+    "add_days('-262143-01-01', 191491528)": "+262142-12-31", "weekday('+262142-12-31')": 1, "weekday('-262143-01-01')": 4,
+    "days_between('-262143-01-01', '+262142-12-31')": 191491528, "iso_week('-262143-01-01')": 1, "day_of_year('-262143-01-01')": 1,
+    # schedules
+    "next_due('0 9 * * mon-fri', '2024-03-01')": "2024-03-01 09:00:00", "next_due('0 9 * * mon-fri', '2024-03-01T09:00:00')": "2024-03-04 09:00:00",
+    "next_due('@daily', '2024-02-28 23:59:59.999')": "2024-02-29 00:00:00", "next_due('@daily', '9999-12-31')": "+10000-01-01 00:00:00",
+    "next_due('@daily', '2016-12-31 23:59:60')": "2017-01-01 00:00:00", "next_due('0 0 30 2 *', '2024-01-01')": None,
+    "next_due('@daily', '+262142-12-31')": None, "last_due('@daily', '-262143-01-01')": None,
+    "last_due('@daily', '2024-02-29')": "2024-02-28 00:00:00", "last_due('@daily', '2024-02-29 00:00:01')": "2024-02-29 00:00:00",
+    "last_due('@daily', '0000-01-01')": "-0001-12-31 00:00:00",
+    "is_due('30 4 * * *', '2024-02-29 04:30:00')": 1, "is_due('30 4 * * *', '2024-02-29 04:30:01')": 0, "is_due('@daily', '2024-02-29')": 1,
+}
+REFUSALS = {
+    "weekday('2024-02-30')": "weekday: '2024-02-30' is no date: byte 8: the month has 29 days",
+    "weekday('2024-00-01')": "weekday: '2024-00-01' is no date: byte 5: the month is 0",
+    "weekday('2024-13-01')": "weekday: '2024-13-01' is no date: byte 5: the month is above 12",
+    "weekday('-2024-01-00')": "weekday: '-2024-01-00' is no date: byte 9: the day is 0",
+    "weekday('2024-1-01')": "weekday: '2024-1-01' is no date: byte 6: not of this form",
+    "weekday('')": "weekday: '' is no date: byte 0: not of this form", "weekday('-')": "weekday: '-' is no date: byte 1: not of this form",
+    "weekday('-204-01-01')": "weekday: '-204-01-01' is no date: byte 4: not of this form",
+    "weekday('+9999-01-01')": "weekday: '+9999-01-01' is no date: byte 5: not of this form",
+    "weekday('12024-01-01')": "weekday: '12024-01-01' is no date: byte 4: not of this form",
+    "weekday('-0000-01-01')": "weekday: '-0000-01-01' is no date: byte 0: the year is not of this form",
+    "weekday('+262143-01-01')": "weekday: '+262143-01-01' is no date: byte 0: the year is not from -262143 to 262142",
+    "weekday('+999999-99-99')": "weekday: '+999999-99-99' is no date: byte 0: the year is not from -262143 to 262142",
+    "weekday('2024-02-29 12:00:00')": "weekday: '2024-02-29 12:00:00' is no date: byte 10: not of this form",
+    "weekday('2024-02-29' || char(0))": "weekday: '2024-02-29' is no date: byte 10: not of this form",
+    "weekday('it''s')": "weekday: 'it''s' is no date: byte 0: not of this form",
+    "weekday(printf('%.900c', 'é'))": f"weekday: '{80 * 'é'}' is no date: byte 0: not of this form",
+    "weekday(cast(x'ff32' AS TEXT))": "",
+    "add_days('2024-02-29', 191491529)": "add_days: the answer is not from -262143-01-01 to +262142-12-31",
+    "add_days('2024-02-29', -9223372036854775807 - 1)": "add_days: the answer is not from -262143-01-01 to +262142-12-31",
+    "add_months('2024-02-29', 9223372036854775807)": "add_months: the answer is not from -262143-01-01 to +262142-12-31",
+    "add_days('-262143-01-01', -1)": "add_days: the answer is not from -262143-01-01 to +262142-12-31",
+    "add_days('2024-02-29', 1.5)": "add_days: a whole number is wanted, and not '1.5'",
+    "add_months('2024-02-29', '1')": "add_months: a whole number is wanted, and not '1'",
+    "add_months('2024-02-29', x'31')": "add_months: a whole number is wanted, and not '1'",
+    "days_between('2024-02-29', '2024-02-31')": "days_between: '2024-02-31' is no date: byte 8: the month has 29 days",
+    "years_between('2024-02-31', '2024-02-29')": "years_between: '2024-02-31' is no date: byte 8: the month has 29 days",
+    "next_due('0 25 * * *', '2024-03-01')": "next_due: '0 25 * * *' is no schedule: hour, byte 2: a number that is out of range",
+    "next_due('', '2024-03-01')": "next_due: '' is no schedule: byte 0: nothing stands there",
+    "next_due(5, '2024-03-01')": "next_due: a schedule is a text, and not a number",
+    "next_due('@daily', '2024-03-01 24:00:00')": "next_due: '2024-03-01 24:00:00' is no date-time: byte 11: the hour is above 23",
+    "next_due('@daily', '2024-03-01 23:60:00')": "next_due: '2024-03-01 23:60:00' is no date-time: byte 14: the minute is above 59",
+    "next_due('@daily', '2024-03-01 23:59:61')": "next_due: '2024-03-01 23:59:61' is no date-time: byte 17: the second is above 60",
+    "last_due('@daily', '2024-03-01 23:59')": "last_due: '2024-03-01 23:59' is no date-time: byte 16: not of this form",
+    "is_due('@daily', '2024-03-01 23:59:00.')": "is_due: '2024-03-01 23:59:00.' is no date-time: byte 20: not of this form",
+    "is_due('@daily', '2024-03-01 23:59:00Z')": "is_due: '2024-03-01 23:59:00Z' is no date-time: byte 19: not of this form",
+    "is_due('@daily', '2024-03-01 23:59:00.1234567890')": "is_due: '2024-03-01 23:59:00.1234567890' is no date-time: byte 29: not of this form",
+    "is_due('@daily', '2024-03-32T00:00:00')": "is_due: '2024-03-32T00:00:00' is no date-time: byte 8: the month has 31 days",
+    "is_due('@daily', 0)": "is_due: a date-time is a text, and not a number",
+}
+# Functions by the number of their arguments.
+SCALARS = {
+    "is_date": 1, "add_days": 2, "add_months": 2, "days_between": 2, "years_between": 2, "weekday": 1, "iso_week": 1, "iso_year": 1,
+    "day_of_year": 1, "days_in_month": 1, "next_due": 2, "last_due": 2, "is_due": 2,
+}
+TABLES = {
+    "SELECT day FROM days_of('2024-02-28', '2024-03-01')": ["2024-02-28", "2024-02-29", "2024-03-01"],
+    "SELECT day FROM days_of('2024-02-28', '2024-03-01', 2)": ["2024-02-28", "2024-03-01"],
+    "SELECT day FROM days_of('2024-03-01', '2024-02-26', -3)": ["2024-03-01", "2024-02-27"],
+    "SELECT day FROM days_of('2024-03-01', '2024-03-01')": ["2024-03-01"],
+    "SELECT day FROM days_of('2024-03-02', '2024-03-01')": [], "SELECT day FROM days_of('2024-03-01', '2024-03-02', -1)": [],
+    "SELECT day FROM days_of('2024-03-01', '2024-03-02', 9223372036854775807)": ["2024-03-01"],
+    "SELECT day FROM days_of('2024-03-02', '2024-03-01', -9223372036854775807 - 1)": ["2024-03-02"],
+    "SELECT day FROM days_of('+262142-12-30', '+262142-12-31')": ["+262142-12-30", "+262142-12-31"],
+    "SELECT day FROM days_of('-262143-01-02', '-262143-01-01', -1)": ["-262143-01-02", "-262143-01-01"],
+    "SELECT count(*) FROM days_of('0000-01-01', '9999-12-31')": [3652425],
+    "SELECT max(rowid) FROM days_of('2024-01-01', '2024-12-31')": [366],
+    "SELECT given_step || given_until FROM days_of('2024-03-01', '2024-03-02', 1) LIMIT 1": ["12024-03-02"],
+    "SELECT given_step FROM days_of('2024-03-01', '2024-03-01')": [None],
+    "SELECT day FROM days_of WHERE given_from = '2024-03-01' AND given_until = '2024-03-01'": ["2024-03-01"],
+    "SELECT day FROM days_of WHERE given_from = '2024-03-01' AND given_until = '2024-03-01' AND given_until = '2024-03-02'": [],
+    "SELECT due FROM due_between('@daily', '2024-02-28', '2024-03-01')": ["2024-02-29 00:00:00", "2024-03-01 00:00:00"],
+    "SELECT due FROM due_between('@daily', '2024-02-28 00:00:00', '2024-02-28 23:59:59')": [],
+    "SELECT due FROM due_between('@daily', '2024-03-01', '2024-02-28')": [],
+    "SELECT due FROM due_between('0 0 30 2 *', '2024-03-01', '+262142-12-31')": [],
+    "SELECT count(*) FROM due_between('* * * * *', '2024-03-01', '2024-03-02')": [1440],
+    "SELECT count(*) FROM due_between('*/15 * * * *', '2024-03-01', '2024-03-01 16:00:00')": [64],
+    "SELECT count(DISTINCT due) FROM due_between('* * * * *', '2024-03-01', '2024-03-01 02:08:00')": [128],
+    "SELECT due FROM due_between('* * * * *', '2024-03-01', '+262142-12-31') LIMIT 1 OFFSET 9999": ["2024-03-07 22:40:00"],
+    "SELECT due FROM (SELECT '@daily' AS s UNION SELECT '@yearly') j, due_between(j.s, '2023-12-31', '2024-01-02') ORDER BY s, due":
+        ["2024-01-01 00:00:00", "2024-01-02 00:00:00", "2024-01-01 00:00:00"],
+    "SELECT count(*) FROM due_between(j.s, '2023-12-31', '2024-01-02') JOIN (SELECT '@daily' AS s UNION SELECT '@yearly') j": [3],
+    "SELECT a.day || b.day FROM days_of('2024-01-01', '2024-01-02') a, days_of(a.day, '2024-01-02') b ORDER BY 1":
+        ["2024-01-012024-01-01", "2024-01-012024-01-02", "2024-01-022024-01-02"],
+}
+TABLE_REFUSALS = {
+    "days_of('2024-03-01', '2024-03-02', 0)": "days_of: a step of 0 days leads nowhere",
+    "days_of('2024-03-01', '2024-03-02', 1.5)": "days_of: a whole number is wanted, and not '1.5'",
+    "days_of('2024-03-01', '2024-03-32')": "days_of: '2024-03-32' is no date: byte 8: the month has 31 days",
+    "days_of('x', '2024-03-02')": "days_of: 'x' is no date: byte 0: not of this form",
+    "days_of('2024-03-01')": "days_of: it needs 2 arguments", "days_of": "days_of: it needs 2 arguments",
+    "days_of('2024-03-01', '2024-03-02', 1, 1)": "too many arguments on days_of() - max 3",
+    "due_between('@daily', '2024-03-01')": "due_between: it needs 3 arguments",
+    "due_between('@dayly', '2024-03-01', '2024-03-02')": "due_between: '@dayly' is no schedule: byte 0: an unknown nickname",
+    "due_between('@daily', '2024-03-01', 'x')": "due_between: 'x' is no date-time: byte 0: not of this form",
+    "due_between(1, '2024-03-01', '2024-03-02')": "due_between: a schedule is a text, and not a number",
+}
+passed = failed = 0
+
+
+def count(is_right, what):
+    """Counts a fact, and tells of it if it does not hold."""
+    global passed, failed
+    if is_right:
+        passed += 1
+    else:
+        failed += 1
+        print(f"FAILED: {what}")
+
+
+def asked(db, query):
+    """The first column of the rows, or what is wrong."""
+    try:
+        return [row[0] for row in db.execute(query)]
+    except (sqlite3.Error, UnicodeDecodeError) as it:
+        return str(it)
+
+
+def equal(db, query, wanted):
+    told = asked(db, query)
+    count(told == wanted, f"{query} gives {told!r}, and not {wanted!r}")
+
+
+def test_answers(db):
+    for call, wanted in ANSWERS.items():
+        equal(db, f"SELECT {call}", [wanted])
+    for call, wanted in REFUSALS.items():
+        if wanted:
+            equal(db, f"SELECT {call}", wanted)
+        else:
+            # (a text that is no UTF-8, which Python cannot show)
+            count(isinstance(asked(db, f"SELECT {call}"), str), f"{call} is no error")
+
+
+def test_nulls(db):
+    """NULL in any place gives NULL, whatever the others are, and no rows."""
+    for name, places in SCALARS.items():
+        for place in range(places):
+            values = ["NULL" if it == place else "'wrong'" for it in range(places)]
+            equal(db, f"SELECT {name}({', '.join(values)})", [None])
+        told = asked(db, f"SELECT {name}({', '.join(['NULL'] * (places + 1))})")
+        count(told == f"wrong number of arguments to function {name}()", f"{name} takes {places + 1} arguments: {told}")
+    for place in range(3):
+        values = ", ".join("NULL" if it == place else "'wrong'" for it in range(3))
+        equal(db, f"SELECT * FROM days_of({values})", [])
+        equal(db, f"SELECT * FROM due_between({values})", [])
+
+
+def test_tables(db):
+    for query, wanted in TABLES.items():
+        equal(db, query, wanted)
+    for call, wanted in TABLE_REFUSALS.items():
+        equal(db, f"SELECT * FROM {call}", wanted)
+
+
+def test_uses(db, old):
+    """No name is one of SQLite's. Indexes and views take the functions, in a schema that is not trusted too."""
+    new = {it: flags for it, flags in db.execute("SELECT name, flags FROM pragma_function_list") if it in SCALARS}
+    for name in SCALARS:
+        count(name not in old and name in new, f"{name} is SQLite's own, or not there")
+        # 0x800 is for deterministic functions, 0x200000 for innocuous ones
+        count(new.get(name, 0) & 0x200800 == 0x200800, f"{name} has the flags {new.get(name)}")
+    db.execute("PRAGMA trusted_schema = OFF")
+    db.execute("CREATE TABLE people(born TEXT, week INT AS (iso_week(born)))")
+    db.execute("CREATE TABLE visits(day TEXT CHECK (is_date(day)))")
+    db.execute("CREATE INDEX by_weekday ON people(weekday(born))")
+    db.execute("CREATE VIEW days AS SELECT day FROM days_of('2024-02-28', '2024-03-01')")
+    db.execute("INSERT INTO people VALUES ('2000-02-29')")
+    equal(db, "SELECT week FROM people WHERE weekday(born) = 2", [9])
+    equal(db, "SELECT count(*) FROM days", [3])
+    equal(db, "INSERT INTO visits VALUES ('2001-02-29')", "CHECK constraint failed: is_date(day)")
+    equal(db, "INSERT INTO people VALUES ('2001-02-29')", "iso_week: '2001-02-29' is no date: byte 8: the month has 28 days")
+    # (the schedule differs from row to row, and is constant in the second query)
+    db.execute("CREATE TABLE jobs(s TEXT, m TEXT)")
+    db.executemany("INSERT INTO jobs VALUES (?, ?)", [("@daily", "2024-01-01"), ("@yearly", "2024-01-01"), ("@daily", "2024-01-02")])
+    equal(db, "SELECT next_due(s, m) FROM jobs", ["2024-01-02 00:00:00", "2025-01-01 00:00:00", "2024-01-03 00:00:00"])
+    equal(db, "SELECT next_due('@daily', m) FROM jobs", ["2024-01-02 00:00:00", "2024-01-02 00:00:00", "2024-01-03 00:00:00"])
+
+
+def test_encoding(path):
+    """A database whose texts are UTF-16."""
+    db = loaded(path, "PRAGMA encoding = 'UTF-16le'")
+    db.execute("CREATE TABLE days AS SELECT '2024-02-29' AS day")
+    equal(db, "SELECT add_months(day, 12) FROM days", ["2025-02-28"])
+    equal(db, "SELECT weekday('é')", "weekday: 'é' is no date: byte 0: not of this form")
+
+
+def loaded(path, first="SELECT 1"):
+    """A new database in memory, with the extension."""
+    db = sqlite3.connect(":memory:")
+    db.execute(first)
+    db.enable_load_extension(True)
+    db.load_extension(path)
+    db.enable_load_extension(False)
+    return db
+
+
+def main():
+    old = {row[0] for row in sqlite3.connect(":memory:").execute("SELECT name FROM pragma_function_list")}
+    db = loaded(sys.argv[1])
+    test_answers(db)
+    test_nulls(db)
+    test_tables(db)
+    test_uses(db, old)
+    test_encoding(sys.argv[1])
+    print(f"{passed} passed, {failed} failed")
+    return 1 if failed else 0
+
+
+if __name__ == "__main__":
+    sys.exit(main())
