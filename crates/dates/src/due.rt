@@ -21,10 +21,10 @@ const MORE: &str = "A CRON is a nickname as @daily, or five fields in one word, 
     nearest to the 15th. Of weekdays, 5#3 is the month's third Friday, 5L its last.\n\
     With both days and weekdays, neither beginning with *, it is due on either, as\n\
     with cron.\n\
-    With --zone it is due by the zone's clock, and TIME may be its local time. What is\n\
-    planned for a time that the clock skips comes right behind the gap, and for one\n\
-    that it shows twice at the first; where the minute or the hour is *, it follows\n\
-    the clock as it runs.";
+    With --zone it is due by the zone's clock, and TIME may be its local time.\n\
+    What is planned for a time that the clock skips comes right behind the gap,\n\
+    and for one that it shows twice at the first. Where the minute or the hour is\n\
+    *, it follows the clock as it runs.";
 
 const BY_CLOCK: Opt = option!("--zone", "ZONE"; "by the clock of which time zone");
 
