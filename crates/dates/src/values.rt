@@ -59,10 +59,12 @@ impl InstantForm {
         }
     }
 
-    // That there is no such day, or no such date-time where the text has a `T`.
+    // That there is no such day, or no such date-time where the text has a `T` or a colon.
     pub(crate) fn none_of_text(self, text: &[u8]) -> Reply {
         match self {
-            InstantForm::Text if !text.contains(&b'T') => Reply::Nothing(Key::Date),
+            InstantForm::Text if !text.contains(&b'T') && !text.contains(&b':') => {
+                Reply::Nothing(Key::Date)
+            }
             form => form.no_moment(),
         }
     }
