@@ -85,6 +85,14 @@ def test_beside_others(results, room, wheel):
     if program:
         test_examples(results, room, program, True)
         test_stubs(results, room, program)
+    if program and debian_has("croniter"):
+        test_peers(results, program)
+
+
+def test_peers(results, program):
+    """Schedules and open days beside croniter and numpy."""
+    counts = (r"^all: (\d+) passed", r"^all: .* (\d+) failed")
+    run(results, "schedules and open days in Python", [program, f"{TOP}/checks/python_layers.py"], counts, env=QUIET)
 
 
 def test_stubs(results, room, program):
