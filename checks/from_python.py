@@ -20,7 +20,7 @@ TESTS = f"{PACKAGE}/tests"
 COUNTS = (r"\.\.\. ok()$", r"\.\.\. (?:FAIL|ERROR)()$")
 # Debian's Python, which may have numpy and pandas, and the tests that need no other package.
 DEBIAN = "/usr/bin/python3"
-ALONE = ("test_calls.py", "test_habits.py", "test_like_datetime.py", "test_layers.py")
+ALONE = ("test_calls.py", "test_habits.py", "test_like_datetime.py", "test_layers.py", "test_zoned.py")
 # The versions from 3.10 on, which one wheel serves.
 VERSIONS = [f"python3.{it}" for it in range(10, 16)]
 WARNINGS = ["-std=c99", "-O1", "-fPIC", "-Wall", "-Wextra", "-Wpedantic", "-Werror"]
@@ -85,14 +85,14 @@ def test_beside_others(results, room, wheel):
     if program:
         test_examples(results, room, program, True)
         test_stubs(results, room, program)
-    if program and debian_has("croniter"):
+    if program and debian_has("croniter", "dateutil"):
         test_peers(results, program)
 
 
 def test_peers(results, program):
-    """Schedules and open days beside croniter and numpy."""
+    """Schedules, open days and rules beside croniter, numpy and dateutil."""
     counts = (r"^all: (\d+) passed", r"^all: .* (\d+) failed")
-    run(results, "schedules and open days in Python", [program, f"{TOP}/checks/python_layers.py"], counts, env=QUIET)
+    run(results, "schedules, open days and rules in Python", [program, f"{TOP}/checks/python_layers.py"], counts, env=QUIET)
 
 
 def test_stubs(results, room, program):
