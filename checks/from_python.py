@@ -21,6 +21,8 @@ COUNTS = (r"\.\.\. ok()$", r"\.\.\. (?:FAIL|ERROR)()$")
 # Debian's Python, which may have numpy and pandas, and the tests that need no other package.
 DEBIAN = "/usr/bin/python3"
 ALONE = ("test_calls.py", "test_habits.py", "test_like_datetime.py", "test_layers.py", "test_zoned.py")
+# The test that finds wrong lines soonest, by what stands in the path of a file.
+NEAREST = {"schedule": "test_layers.py", "business": "test_layers.py", "rule": "test_layers.py", "_zoned": "test_zoned.py"}
 # The versions from 3.10 on, which one wheel serves.
 VERSIONS = [f"python3.{it}" for it in range(10, 16)]
 WARNINGS = ["-std=c99", "-O1", "-fPIC", "-Wall", "-Wextra", "-Wpedantic", "-Werror"]
@@ -177,9 +179,10 @@ def fails(folder, objects, libraries, tests):
 
 
 def tests_of(path):
-    """The tests that a wrong line in a file has to fail: the columns have their own."""
+    """The tests one of which a wrong line in a file has to fail, the nearest first: the columns have their own."""
     if not path.endswith("columns.py"):
-        return ALONE
+        nearest = [test for name, test in NEAREST.items() if name in path]
+        return (*nearest, *(it for it in ALONE if it not in nearest))
     return ("test_columns.py",) if debian_has("numpy") else ()
 
 

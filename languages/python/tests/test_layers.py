@@ -422,6 +422,7 @@ class OpenDays(unittest.TestCase):
         self.assertEqual(len({EASTER, other, BusinessCalendar(), BusinessCalendar(weekend=()), BusinessCalendar([EASTER_MONDAY])}), 5)
         self.assertFalse(EASTER != BusinessCalendar([GOOD_FRIDAY, EASTER_MONDAY]) or EASTER == other)
         self.assertNotEqual(EASTER, [GOOD_FRIDAY, EASTER_MONDAY])
+        self.assertNotEqual(other, BusinessCalendar([GOOD_FRIDAY]))
         self.assertRaises(TypeError, lambda: EASTER < other)
         self.assertRaises(AttributeError, setattr, EASTER, "weekend", (1,))
 
