@@ -83,7 +83,7 @@ def wanted(name, ours, theirs):
 
 
 def time_schedules(ours, rounds):
-    """The next moment from starts over a year: croniter's object is made anew for each, as its own guide does."""
+    """The next moment from starts over a year, by one schedule of ours, and by one of croniter's or one that is made for each start."""
     for text, count in SCHEDULES.items():
         starts = [FIRST + datetime.timedelta(minutes=it * (525_600 // count)) for it in range(count)]
         moments, schedule = [ours.DateTime.from_datetime(it) for it in starts], ours.Schedule(text)
@@ -92,6 +92,7 @@ def time_schedules(ours, rounds):
         many = moments * OURS_MORE
         mine = nanos(lambda: [schedule.next_after(it) for it in many], len(many), rounds)
         tell(f"`{text}`, next moment", mine, nanos(lambda: [next_of.get_next(datetime.datetime, it) for it in starts], count, rounds))
+        tell(f"`{text}`, croniter made anew", mine, nanos(lambda: [croniter.croniter(text, it).get_next(datetime.datetime) for it in starts], count, rounds))
 
 
 def time_rules(ours, rounds):

@@ -356,11 +356,11 @@ static PyObject *rule_count(PyObject *self, PyObject *unused)
     return PyErr_Occurred() ? NULL : PyLong_FromLongLong(count);
 }
 
-/* The day of an instance by its place from the end, from 1. */
+/* The day of an instance by its place from the end, from 0. */
 static int32_t day_from_end(const Rule *of, int64_t place)
 {
     int32_t day = last_on(of, CALENDAR_MAX);
-    while (place > 1 && day != CALENDAR_NONE && PyErr_CheckSignals() == 0) {
+    while (place > 0 && day != CALENDAR_NONE && PyErr_CheckSignals() == 0) {
         day = last_on(of, day - 1);
         place--;
     }
@@ -379,7 +379,7 @@ static PyObject *rule_item(PyObject *self, PyObject *key)
     if (!read_whole(key, &place)) {
         return NULL;
     }
-    int32_t day = place < 0 ? day_from_end((Rule *)self, -(place + 1) + 1) : day_at((Rule *)self, place, &passed);
+    int32_t day = place < 0 ? day_from_end((Rule *)self, -(place + 1)) : day_at((Rule *)self, place, &passed);
     if (PyErr_Occurred()) {
         return NULL;
     }
