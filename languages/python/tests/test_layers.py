@@ -280,12 +280,13 @@ class Memory(unittest.TestCase):
                     pass
 
         counts = []
-        for _ in range(3):
+        for _ in range(5):
             for _ in range(200):
                 calls()
             gc.collect()
             counts.append(sys.getallocatedblocks())
-        self.assertLess(counts[2] - counts[1], 100)
+        # (what Python itself keeps comes once, and what a call keeps comes with each)
+        self.assertLess(min(after - before for before, after in zip(counts, counts[1:])), 100)
 
 
 if __name__ == "__main__":
