@@ -100,8 +100,10 @@ def time_rules(ours, rounds):
     for text, parts in RULES.items():
         theirs = rrule.rrule(dtstart=datetime.datetime(2024, 1, 1), **parts)
         rule = ours.Rule(text, ours.DateTime(2024, 1, 1))
-        wanted(text, list(itertools.islice(rule, INSTANCES)), list(itertools.islice(theirs, INSTANCES)))
-        found = len(list(itertools.islice(theirs, INSTANCES)))
+        # (dateutil ends with the year 9999)
+        first = list(itertools.islice(theirs, INSTANCES))
+        found = len(first)
+        wanted(text, list(itertools.islice(rule, found)), first)
         mine = nanos(lambda: [*itertools.islice(rule, found)], found, rounds)
         tell(f"`{text}`, an instance", mine, nanos(lambda: [*itertools.islice(theirs, found)], found, rounds))
 

@@ -242,7 +242,7 @@ class Rules(unittest.TestCase):
     def test_errors(self):
         for text, wrong in [
             ("FREQ=DAILY;COUNT=x", None), ("", None), ("FREQ=HOURLY", None), ("FREQ=DAILY;BYHOUR=9", None), ("FREQ=MONTHLY;BYDAY=XX", None),
-            ("FREQ=DAILY;UNTIL=20240230", None), ("RRULE:FREQ=DAILY", None), ("FREQ=DAILY;\u00fc=1", None), ("FREQ=WEEKLY;BYMONTHDAY=1", None),
+            ("FREQ=DAILY;UNTIL=20240230", None), ("DTSTART:20240101", None), ("FREQ=DAILY;\u00fc=1", None), ("FREQ=WEEKLY;BYMONTHDAY=1", None),
         ]:
             with self.assertRaises(TextError, msg=text) as caught:
                 Rule(text, JANUARY)
