@@ -260,7 +260,7 @@ fn put_argument(out: &mut String, place: usize, bytes: &[u8]) -> Put {
     for chunk in bytes.utf8_chunks() {
         for character in chunk.valid().chars() {
             if character.is_control() {
-                put_escaped(out, character as u32)?;
+                write!(out, "\\u{:04x}", character as u32).or(Err(AllocError))?;
             } else {
                 out.push(character)?;
             }
@@ -270,11 +270,6 @@ fn put_argument(out: &mut String, place: usize, bytes: &[u8]) -> Put {
         }
     }
     Ok(())
-}
-
-// Puts a character behind a text by its number.
-fn put_escaped(out: &mut String, number: u32) -> Put {
-    write!(out, "\\u{number:04x}").or(Err(AllocError))
 }
 
 // The name that is most like a wrong one, if one is like it.
