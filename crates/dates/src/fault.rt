@@ -192,11 +192,6 @@ fn refuse_machine(rt: &HostRuntime, error: ZoneError) -> io::Result<u8> {
     Ok(tell(rt, text.as_str(), WRONG))
 }
 
-// A space, if a text stands behind it.
-pub(crate) fn gap_before(text: &str) -> &'static str {
-    if text.is_empty() { "" } else { " " }
-}
-
 // Puts what is wrong with a word behind a text.
 pub(crate) fn put_cause(out: &mut String, cause: Cause<'_>) -> Put {
     match cause {
