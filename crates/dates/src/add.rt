@@ -5,7 +5,8 @@ use dates_answer::moved;
 
 pub(crate) fn command() -> CommandRow {
     row!(
-        "add", &[DAY_OR_LINES, operand!("SPAN"; many: true)], OPEN_DAYS_AND_INSTANTS;
+        "add", &[DAY_OR_LINES, operand!("SPAN"; many: true)], 
+        &[WEEKEND, CALENDAR, HOLIDAYS, ZONED, UNIX, PARSE, FORMAT, JSON, HELP];
         help: "move a day or a date-time by each span in turn",
         more: "A SPAN is a whole number of days, weeks, months or years, as 3d, -2w, 1mo and\n\
             4y, or of open days, as 5b. Of a day, 1m is 1mo too.\n\
@@ -20,21 +21,15 @@ pub(crate) fn command() -> CommandRow {
     )
 }
 
-// What moves days and date-times, by each move in turn.
+// What moves days and date-times: moves, in turn, and the texts that write them.
 #[derive(Drop)]
 struct Add<'a> {
-    form: OutputForm,
-    instants: Instants,
+    form: AnswerForm<'a>,
+    instants: Instants<'a>,
     holidays: Holidays,
-    moves: Vec<Written<'a>>,
+    moves: Vec<Move>,
+    texts: Vec<&'a str>,
     kinds: Kinds<'a>,
-}
-
-// A move and the text that writes it.
-#[derive(Clone, Copy)]
-struct Written<'a> {
-    by: Move,
-    text: &'a str,
 }
 
 // What kinds of moves there are: the first that writes months by `m`, and whether one is a time.
@@ -58,6 +53,7 @@ pub(crate) fn answer<'a>(rt: &HostRuntime, asked: &Asked<'a>, none: &mut Reply) 
         instants,
         holidays: value!(holidays_of(rt, asked)),
         moves: moves_of(rt, words)?,
+        texts: texts_of(rt, words)?,
         kinds,
     };
     match start {
@@ -103,15 +99,28 @@ fn kinds_of<'a>(start: Option<Start>, words: &[Word<'a>]) -> Result<Kinds<'a>, F
 }
 
 // The moves that words write.
-fn moves_of<'a>(rt: &HostRuntime, words: &[Word<'a>]) -> io::Result<Vec<Written<'a>>> {
-    let mut moves = Vec::new(rt.alloc());
+fn moves_of(rt: &HostRuntime, words: &[Word<'_>]) -> io::Result<Vec<Move>> {
+    let mut moves: Vec<Move> = Vec::new(rt.alloc());
     for word in words {
-        let text = word.text;
-        if let Some(by) = read_move(text.as_bytes()) {
-            moves.push(Written { by, text })?;
+        if let Some(by) = read_move(word.text.as_bytes()) {
+            put_move(&mut moves, by)?;
         }
     }
     Ok(moves)
+}
+
+// Puts a move behind others.
+fn put_move<A: Allocator>(moves: &mut Vec<Move, A>, by: Move) -> io::Result<()> {
+    Ok(moves.push(by)?)
+}
+
+// The texts of words.
+fn texts_of<'a>(rt: &HostRuntime, words: &[Word<'a>]) -> io::Result<Vec<&'a str>> {
+    let mut texts: Vec<&'a str> = Vec::new(rt.alloc());
+    for word in words {
+        texts.push(word.text)?;
+    }
+    Ok(texts)
 }
 
 impl<'a> Add<'a> {
@@ -119,15 +128,18 @@ impl<'a> Add<'a> {
     fn answer_start(&mut self, rt: &HostRuntime, number: u64, start: Start) -> io::Result<u8> {
         let form = self.instants.form;
         let mut last = start;
-        for Written { by, text } in self.moves.as_slice() {
+        let mut step: usize = 0;
+        for by in self.moves.as_slice() {
             let why = match moved_by(&self.instants, last, *by, &mut self.holidays)? {
                 Moved::To(reached) => {
                     last = reached;
+                    step = step.saturating_add(1);
                     continue;
                 }
                 Moved::Past => Cause::Past,
                 Moved::NotOnce => Cause::NotOnce,
             };
+            let text = self.texts.as_slice().get(step).copied().unwrap_or("");
             return print_nowhere(rt, self.form, form.none_of(last), number, &last, text, why);
         }
         print_reply(rt, self.form, form.reply(last))
@@ -167,7 +179,7 @@ enum Moved {
 
 // What lies a move away. A move of days keeps the time of day.
 fn moved_by(
-    instants: &Instants,
+    instants: &Instants<'_>,
     start: Start,
     by: Move,
     holidays: &mut Holidays,
@@ -189,7 +201,7 @@ fn moved_by(
 }
 
 // The day that is reached at the time of day of the start.
-fn moved_to(instants: &Instants, start: Start, reached: Option<NaiveDate>) -> Moved {
+fn moved_to(instants: &Instants<'_>, start: Start, reached: Option<NaiveDate>) -> Moved {
     let Some(date) = reached else {
         return Moved::Past;
     };

@@ -33,7 +33,7 @@ const PREV: &str = "prev";
 
 pub(crate) fn next() -> CommandRow {
     row!(
-        "next", &[operand!("CRON")], &[AFTER, HOW_MANY, BY_CLOCK, UNIX, JSON, HELP];
+        "next", &[operand!("CRON")], &[AFTER, HOW_MANY, BY_CLOCK, UNIX, PARSE, FORMAT, JSON, HELP];
         help: "print when a schedule is due next",
         more: MORE,
         example: "$ dates next '0 9 * * 5#3' --from 2024-03-01T00:00\n2024-03-15T09:00:00"
@@ -43,7 +43,7 @@ pub(crate) fn next() -> CommandRow {
 pub(crate) fn prev() -> CommandRow {
     CommandRow {
         name: PREV,
-        options: &[BEFORE, HOW_MANY, BY_CLOCK, UNIX, JSON, HELP],
+        options: &[BEFORE, HOW_MANY, BY_CLOCK, UNIX, PARSE, FORMAT, JSON, HELP],
         help: "print when a schedule was due before",
         example: "$ dates prev '0 0 L * *' --from 2024-03-15T00:00\n2024-02-29T00:00:00",
         ..next()
@@ -52,9 +52,10 @@ pub(crate) fn prev() -> CommandRow {
 
 // The moments at which the schedule is due, on or back, a line each; `none` where there are fewer. The exit status.
 pub(crate) fn answer<'a>(rt: &HostRuntime, asked: &Asked<'a>, none: &mut Reply) -> Answered<'a> {
-    let form = InstantForm::of(&asked.words);
+    let form = asked.reading;
     *none = match form {
-        InstantForm::Text if asked.words.has("--zone") => Reply::NoClock,
+        InstantForm::Seconds => form.no_moment(),
+        _ if asked.words.has("--zone") => Reply::NoClock,
         _ => form.no_moment(),
     };
     let schedule = value!(schedule_of(asked.word(0)));
@@ -62,30 +63,32 @@ pub(crate) fn answer<'a>(rt: &HostRuntime, asked: &Asked<'a>, none: &mut Reply) 
     let from = value!(moment_of(form, word));
     let count = value!(amount_of(asked.option("--count")));
     let instants = value!(instants_by(rt, asked));
-    let mut last = value!(instants.once(word, from));
+    let from = value!(instants.once(word, from));
     let goes_back = asked.command.name == PREV;
+    let (form, mut last) = (asked.form, from);
     for _ in 0..count {
-        let Some(due) = due_beside(instants.zone.as_ref(), &schedule, last, goes_back) else {
-            return asked.print(rt, *none);
-        };
-        value!(print_due(rt, asked, &instants, due));
-        last = due;
+        match due_beside(instants.zone.as_ref(), &schedule, last, goes_back) {
+            Some(due) => {
+                print_due(rt, form, &instants, &due)?;
+                last = due;
+            }
+            None => return asked.print(rt, *none),
+        }
     }
     Ok(ANSWERED)
 }
 
 // Prints when a schedule is due: an instant as the zone's clock shows it, if there is a zone and no seconds are asked for.
-fn print_due<'a>(
+fn print_due(
     rt: &HostRuntime,
-    asked: &Asked<'a>,
-    instants: &Instants,
-    due: Start,
-) -> Answered<'a> {
-    match (instants.form, &instants.zone, due) {
-        (InstantForm::Text, Some(zone), Start::Stamp(stamp)) => {
-            answered(print_in(rt, asked.form, zone, stamp))
-        }
-        (form, _, _) => asked.print(rt, form.reply(due)),
+    form: AnswerForm<'_>,
+    instants: &Instants<'_>,
+    due: &Start,
+) -> io::Result<u8> {
+    match (instants.form, &instants.zone, *due) {
+        (InstantForm::Seconds, _, _) => print_reply(rt, form, instants.form.reply(*due)),
+        (_, Some(zone), Start::Stamp(stamp)) => print_in(rt, form, zone, stamp),
+        (reading, _, _) => print_reply(rt, form, reading.reply(*due)),
     }
 }
 

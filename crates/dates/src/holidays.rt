@@ -66,7 +66,7 @@ pub(crate) fn holidays_of<'a>(rt: &HostRuntime, asked: &Asked<'a>) -> Result<Hol
     };
     put_rules(asked.option("--calendar").text, &mut holidays.rules)?;
     if let Some(word) = asked.value("--holidays") {
-        value!(put_listed(rt, word, &mut holidays.listed));
+        value!(put_listed(rt, asked.reading, word, &mut holidays.listed));
     }
     Ok(holidays)
 }
@@ -74,6 +74,7 @@ pub(crate) fn holidays_of<'a>(rt: &HostRuntime, asked: &Asked<'a>) -> Result<Hol
 // Puts the days that the file of a word lists into a list.
 fn put_listed<'a>(
     rt: &HostRuntime,
+    form: InstantForm<'_>,
     word: Word<'a>,
     days: &mut Vec<NaiveDate>,
 ) -> Result<(), Fault<'a>> {
@@ -81,7 +82,7 @@ fn put_listed<'a>(
     let mut reader = BufReader::new(rt.alloc(), value!(open_file(rt, word)))?;
     for number in 1..u64::MAX {
         match read_line(&mut reader, &mut line) {
-            Ok(true) => match day_of_line(line.as_slice()) {
+            Ok(true) => match day_of_line(form, line.as_slice()) {
                 Ok(day) => days.push(day)?,
                 Err(reason) => return Err(Fault::NoHoliday(word, number, reason)),
             },
