@@ -119,6 +119,9 @@ pub(crate) fn put_pattern_error(out: &mut String, error: PatternError) -> Put {
 
 // Puts why a text is not read by a pattern behind another.
 pub(crate) fn put_unread(out: &mut String, error: PatternReadError) -> Put {
+    if error.cause == ReadFault::Impossible {
+        return out.push_str("no such day or time");
+    }
     out.push_str("byte ")?;
     show(out, &error.byte)?;
     out.push_str(match error.cause {
@@ -126,7 +129,6 @@ pub(crate) fn put_unread(out: &mut String, error: PatternReadError) -> Put {
         ReadFault::TooLong => ": the text goes on behind its pattern",
         ReadFault::Invalid => ": not of the pattern",
         ReadFault::OutOfRange => ": out of range",
-        ReadFault::Impossible => ": no such day or time",
-        ReadFault::NotEnough => ": the pattern names no day",
+        ReadFault::Impossible | ReadFault::NotEnough => ": no such day or time",
     })
 }

@@ -189,7 +189,13 @@ fn patterns_of<'a>(command: &CommandRow, words: &Arguments<'a>) -> Result<Patter
         return Err(fault);
     }
     let format = given!(pattern_word(command, words, FORMAT), word, pattern_of(word));
-    let parse = given!(pattern_word(command, words, PARSE), word, reading_of(word));
+    let word = pattern_word(command, words, PARSE);
+    if let Some(word) = word {
+        if words.has("--unix") {
+            return Err(Fault::expected(word, "no --parse beside --unix"));
+        }
+    }
+    let parse = given!(word, word, reading_of(word));
     Ok((format, parse))
 }
 
