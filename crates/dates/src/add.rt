@@ -20,15 +20,21 @@ pub(crate) fn command() -> CommandRow {
     )
 }
 
-// What moves days and date-times: moves, in turn, and the texts that write them.
+// What moves days and date-times, by each move in turn.
 #[derive(Drop)]
 struct Add<'a> {
     form: OutputForm,
     instants: Instants,
     holidays: Holidays,
-    moves: Vec<Move>,
-    texts: Vec<&'a str>,
+    moves: Vec<Written<'a>>,
     kinds: Kinds<'a>,
+}
+
+// A move and the text that writes it.
+#[derive(Clone, Copy)]
+struct Written<'a> {
+    by: Move,
+    text: &'a str,
 }
 
 // What kinds of moves there are: the first that writes months by `m`, and whether one is a time.
@@ -52,7 +58,6 @@ pub(crate) fn answer<'a>(rt: &HostRuntime, asked: &Asked<'a>, none: &mut Reply) 
         instants,
         holidays: value!(holidays_of(rt, asked)),
         moves: moves_of(rt, words)?,
-        texts: texts_of(rt, words)?,
         kinds,
     };
     match start {
@@ -98,28 +103,15 @@ fn kinds_of<'a>(start: Option<Start>, words: &[Word<'a>]) -> Result<Kinds<'a>, F
 }
 
 // The moves that words write.
-fn moves_of(rt: &HostRuntime, words: &[Word<'_>]) -> io::Result<Vec<Move>> {
-    let mut moves: Vec<Move> = Vec::new(rt.alloc());
+fn moves_of<'a>(rt: &HostRuntime, words: &[Word<'a>]) -> io::Result<Vec<Written<'a>>> {
+    let mut moves = Vec::new(rt.alloc());
     for word in words {
-        if let Some(by) = read_move(word.text.as_bytes()) {
-            put_move(&mut moves, by)?;
+        let text = word.text;
+        if let Some(by) = read_move(text.as_bytes()) {
+            moves.push(Written { by, text })?;
         }
     }
     Ok(moves)
-}
-
-// Puts a move behind others.
-fn put_move<A: Allocator>(moves: &mut Vec<Move, A>, by: Move) -> io::Result<()> {
-    Ok(moves.push(by)?)
-}
-
-// The texts of words.
-fn texts_of<'a>(rt: &HostRuntime, words: &[Word<'a>]) -> io::Result<Vec<&'a str>> {
-    let mut texts: Vec<&'a str> = Vec::new(rt.alloc());
-    for word in words {
-        texts.push(word.text)?;
-    }
-    Ok(texts)
 }
 
 impl<'a> Add<'a> {
@@ -127,20 +119,14 @@ impl<'a> Add<'a> {
     fn answer_start(&mut self, rt: &HostRuntime, number: u64, start: Start) -> io::Result<u8> {
         let form = self.instants.form;
         let mut last = start;
-        let mut step: usize = 0;
-        for by in self.moves.as_slice() {
+        for Written { by, text } in self.moves.as_slice() {
             let why = match moved_by(&self.instants, last, *by, &mut self.holidays)? {
                 Moved::To(reached) => {
                     last = reached;
-                    step = step.saturating_add(1);
                     continue;
                 }
                 Moved::Past => Cause::Past,
                 Moved::NotOnce => Cause::NotOnce,
-            };
-            let text = match self.texts.as_slice().get(step) {
-                Some(text) => *text,
-                None => "",
             };
             return print_nowhere(rt, self.form, form.none_of(last), number, &last, text, why);
         }

@@ -203,19 +203,15 @@ fn key_of(unit: Unit) -> Key {
 impl Diff {
     // How far it is from one day or date-time to another of its kind; the exit status.
     fn answer_ends(&mut self, rt: &HostRuntime, from: Start, to: Start) -> io::Result<u8> {
-        let answer = match from {
-            Start::Day(from) => match to {
-                Start::Day(to) => self.days_between(from, to)?,
-                _ => self.none,
-            },
-            Start::DateTime(from) => match to {
-                Start::DateTime(to) => Reply::Duration(to.signed_duration_since(from)),
-                _ => self.none,
-            },
-            Start::Stamp(from) => match to {
-                Start::Stamp(to) => Reply::Duration(to.signed_duration_since(from)),
-                _ => self.none,
-            },
+        let answer = match (from, to) {
+            (Start::Day(from), Start::Day(to)) => self.days_between(from, to)?,
+            (Start::DateTime(from), Start::DateTime(to)) => {
+                Reply::Duration(to.signed_duration_since(from))
+            }
+            (Start::Stamp(from), Start::Stamp(to)) => {
+                Reply::Duration(to.signed_duration_since(from))
+            }
+            _ => self.none,
         };
         print_reply(rt, self.form, answer)
     }

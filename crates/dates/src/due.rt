@@ -53,91 +53,62 @@ pub(crate) fn prev() -> CommandRow {
 // The moments at which the schedule is due, on or back, a line each; `none` where there are fewer. The exit status.
 pub(crate) fn answer<'a>(rt: &HostRuntime, asked: &Asked<'a>, none: &mut Reply) -> Answered<'a> {
     let form = InstantForm::of(&asked.words);
-    *none = none_of(asked, form);
+    *none = match form {
+        InstantForm::Text if asked.words.has("--zone") => Reply::NoClock,
+        _ => form.no_moment(),
+    };
     let schedule = value!(schedule_of(asked.word(0)));
     let word = asked.option("--from");
     let from = value!(moment_of(form, word));
     let count = value!(amount_of(asked.option("--count")));
     let instants = value!(instants_by(rt, asked));
-    let Some(zone) = &instants.zone else {
-        return answered(print_due(rt, asked, &schedule, from, count));
-    };
-    match value!(instants.once(word, from)) {
-        Start::Stamp(start) => answered(print_fired(rt, asked, zone, &schedule, start, count)),
-        _ => asked.print(rt, *none),
-    }
-}
-
-// Prints so many moments at which a schedule is due behind or before one; the exit status.
-fn print_due(
-    rt: &HostRuntime,
-    asked: &Asked<'_>,
-    schedule: &Schedule,
-    from: Start,
-    count: u64,
-) -> io::Result<u8> {
-    let form = InstantForm::of(&asked.words);
+    let mut last = value!(instants.once(word, from));
     let goes_back = asked.command.name == PREV;
-    let mut last = from.local();
     for _ in 0..count {
-        let Some(moment) = next_of(schedule, last, goes_back) else {
-            return print_reply(rt, asked.form, none_of(asked, form));
+        let Some(due) = due_beside(instants.zone.as_ref(), &schedule, last, goes_back) else {
+            return asked.print(rt, *none);
         };
-        let Some(due) = from.at(moment) else {
-            return print_reply(rt, asked.form, none_of(asked, form));
-        };
-        print_reply(rt, asked.form, form.reply(due))?;
-        last = moment;
-    }
-    Ok(ANSWERED)
-}
-
-// Prints so many instants at which a schedule is due by a zone's clock behind or before one; the exit status.
-fn print_fired(
-    rt: &HostRuntime,
-    asked: &Asked<'_>,
-    zone: &OwnedZone,
-    schedule: &Schedule,
-    start: DateTime<FixedOffset>,
-    count: u64,
-) -> io::Result<u8> {
-    let form = InstantForm::of(&asked.words);
-    let goes_back = asked.command.name == PREV;
-    let mut last = start;
-    for _ in 0..count {
-        let Some(due) = fired_next(zone, schedule, last, goes_back) else {
-            return print_reply(rt, asked.form, none_of(asked, form));
-        };
-        print_shown(rt, asked.form, form, zone, due)?;
+        value!(print_due(rt, asked, &instants, due));
         last = due;
     }
     Ok(ANSWERED)
 }
 
-// That there is no such moment: by a zone's clock, which has a name, or without one.
-fn none_of(asked: &Asked<'_>, form: InstantForm) -> Reply {
-    match form {
-        InstantForm::Text if asked.words.has("--zone") => Reply::NoClock,
-        _ => form.no_moment(),
+// Prints when a schedule is due: an instant as the zone's clock shows it, if there is a zone and no seconds are asked for.
+fn print_due<'a>(
+    rt: &HostRuntime,
+    asked: &Asked<'a>,
+    instants: &Instants,
+    due: Start,
+) -> Answered<'a> {
+    match (instants.form, &instants.zone, due) {
+        (InstantForm::Text, Some(zone), Start::Stamp(stamp)) => {
+            answered(print_in(rt, asked.form, zone, stamp))
+        }
+        (form, _, _) => asked.print(rt, form.reply(due)),
     }
 }
 
-// Prints an instant: as the zone's clock shows it, or by its seconds; the exit status.
-fn print_shown(
-    rt: &HostRuntime,
-    form: OutputForm,
-    instants: InstantForm,
-    zone: &OwnedZone,
-    due: DateTime<FixedOffset>,
-) -> io::Result<u8> {
-    match instants {
-        InstantForm::Text => print_in(rt, form, zone, due),
-        InstantForm::Seconds => print_reply(rt, form, instants.reply(Start::Stamp(due))),
+// When a schedule is due next, or was due last before: by the clock of a zone, if there is one.
+fn due_beside(
+    zone: Option<&OwnedZone>,
+    schedule: &Schedule,
+    last: Start,
+    goes_back: bool,
+) -> Option<Start> {
+    if let (Some(zone), Start::Stamp(stamp)) = (zone, last) {
+        return Some(Start::Stamp(fired_beside(zone, schedule, stamp, goes_back)?));
     }
+    let moment = if goes_back {
+        schedule.prev_before(last.local())
+    } else {
+        schedule.next_after(last.local())
+    };
+    last.at(moment?)
 }
 
 // The next instant at which a schedule is due by a zone's clock, or the last before.
-fn fired_next(
+fn fired_beside(
     zone: &OwnedZone,
     schedule: &Schedule,
     last: DateTime<FixedOffset>,
@@ -152,15 +123,6 @@ fn fired_next(
         zoned.next_after(start)
     };
     Some(due?.fixed_offset())
-}
-
-// The next moment at which a schedule is due, or the last before.
-fn next_of(schedule: &Schedule, last: NaiveDateTime, goes_back: bool) -> Option<NaiveDateTime> {
-    if goes_back {
-        schedule.prev_before(last)
-    } else {
-        schedule.next_after(last)
-    }
 }
 
 // The schedule that a word writes.

@@ -192,11 +192,6 @@ fn refuse_machine(rt: &HostRuntime, error: ZoneError) -> io::Result<u8> {
     Ok(tell(rt, text.as_str(), WRONG))
 }
 
-// A space, if a text stands behind it.
-pub(crate) fn gap_before(text: &str) -> &'static str {
-    if text.is_empty() { "" } else { " " }
-}
-
 // Puts what is wrong with a word behind a text.
 pub(crate) fn put_cause(out: &mut String, cause: Cause<'_>) -> Put {
     match cause {
@@ -260,7 +255,7 @@ fn put_argument(out: &mut String, place: usize, bytes: &[u8]) -> Put {
     for chunk in bytes.utf8_chunks() {
         for character in chunk.valid().chars() {
             if character.is_control() {
-                put_escaped(out, character as u32)?;
+                write!(out, "\\u{:04x}", character as u32).or(Err(AllocError))?;
             } else {
                 out.push(character)?;
             }
@@ -270,11 +265,6 @@ fn put_argument(out: &mut String, place: usize, bytes: &[u8]) -> Put {
         }
     }
     Ok(())
-}
-
-// Puts a character behind a text by its number.
-fn put_escaped(out: &mut String, number: u32) -> Put {
-    write!(out, "\\u{number:04x}").or(Err(AllocError))
 }
 
 // The name that is most like a wrong one, if one is like it.

@@ -111,10 +111,8 @@ pub(crate) fn day_of_line(line: &[u8]) -> Result<NaiveDate, Reason> {
         return Err(Reason::Length);
     }
     match read_start(line) {
-        Ok(start) => match start {
-            Start::Day(date) => Ok(date),
-            _ => Err(Reason::Moment),
-        },
+        Ok(Start::Day(date)) => Ok(date),
+        Ok(_) => Err(Reason::Moment),
         Err(error) if error.cause != ReadCause::NotThisForm && parted(line).is_none() => {
             Err(Reason::Day(error))
         }

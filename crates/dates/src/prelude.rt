@@ -16,7 +16,7 @@ pub(crate) use chrono_datetime::{
 pub(crate) use chrono_reading::{ReadCause, ReadError};
 pub(crate) use chrono_zoned::{DateTime, FixedOffset, InZone, MappedLocalTime, Timestamp};
 pub(crate) use command_words::{
-    Arguments, CommandRow, OPERAND, OPTION, Operand, Opt, Put, Word, put,
+    Arguments, CommandRow, OPERAND, OPTION, Operand, Opt, Put, Word, gap_before, put,
 };
 pub(crate) use dates_answer::{Key, OutputForm, Quoted, Reply, Span, Unit};
 pub(crate) use std::alloc::{AllocError, Allocator, Global};

@@ -43,9 +43,6 @@ fn step_of<'a>(word: Word<'a>) -> Result<Span, Fault<'a>> {
 // A day on, or back where the second day is the earlier.
 fn day_by_day(from: NaiveDate, to: NaiveDate) -> Span {
     let unit = Unit::Days;
-    if to.num_days_from_ce() < from.num_days_from_ce() {
-        Span { count: -1, unit }
-    } else {
-        Span { count: 1, unit }
-    }
+    let count = if to < from { -1 } else { 1 };
+    Span { count, unit }
 }

@@ -83,23 +83,14 @@ fn print_by_rule(
     let Some((begins, ends)) = rule_changes(zone, year) else {
         return Ok(NONE);
     };
-    let first = print_behind(rt, form, zone, begins.min(ends), year)?;
-    let second = print_behind(rt, form, zone, begins.max(ends), year)?;
-    Ok(first.min(second))
-}
-
-// Prints what the clock shows when it is set at that second, if that lies behind all rows; the exit status.
-fn print_behind(
-    rt: &HostRuntime,
-    form: OutputForm,
-    zone: &OwnedZone,
-    second: i64,
-    year: i32,
-) -> io::Result<u8> {
-    match zone.rows().last() {
-        Some(row) if second <= row.second => Ok(NONE),
-        _ => print_set(rt, form, zone, second, Some(year)),
+    let last = zone.rows().last().map_or(i64::MIN, |row| row.second);
+    let mut status = NONE;
+    for second in [begins.min(ends), begins.max(ends)] {
+        if last < second {
+            status = status.min(print_set(rt, form, zone, second, Some(year))?);
+        }
     }
+    Ok(status)
 }
 
 // When the rule sets the clock in a year, ahead and back.

@@ -31,18 +31,12 @@ pub(crate) fn zone_of<'a>(rt: &HostRuntime, word: Word<'a>) -> Result<OwnedZone,
     if word.text == LOCAL {
         return machine_zone(rt);
     }
-    match read_zone(rt, word.text) {
-        Ok(zone) => Ok(zone),
-        Err(error) => Err(Fault::Word(word, Cause::Zone(error))),
-    }
+    Ok(value!(read_zone(rt, word.text), error => Fault::Word(word, Cause::Zone(error))))
 }
 
 // The machine's own zone.
 pub(crate) fn machine_zone<'a>(rt: &HostRuntime) -> Result<OwnedZone, Fault<'a>> {
-    match local_zone(rt) {
-        Ok(local) => Ok(local.zone),
-        Err(error) => Err(Fault::Machine(error)),
-    }
+    Ok(value!(local_zone(rt), error => Fault::Machine(error)).zone)
 }
 
 // The zone of a name.
