@@ -10,7 +10,7 @@ use Rattle.zoned_rules.specs.LocalTimes.{lacks_times}
 use Rattle.zoned_rules.specs.declared.bound.Bound.{Bound}
 use Rattle.zoned_rules.specs.declared.clock_steps.ClockUnit.{ClockUnit}
 use Rattle.zoned_rules.specs.declared.day_times.DayTimes.{DayTimes}
-use Rattle.calendar_rules.specs.TimedRuleTexts.{IsTimedRuleText, bound_of, day_text, days_by, fits_clock, number_list_of, part_key, steps_by, unit_of}
+use Rattle.calendar_rules.specs.TimedRuleTexts.{IsTimedRuleText, bound_of, text_of_days, days_by, fits_clock, number_list_of, clock_part_key, steps_by, unit_of}
 use Rattle.calendar_rules.specs.declared.clock_part.ClockPart.{ClockPart}
 use Rattle.calendar_rules.specs.declared.clock_part.ClockPart.TheVariants.{ByHour, ByMinute, BySecond}
 use Rattle.calendar_rules.specs.declared.timed_error.TimedRuleError.{TimedRuleError}
@@ -21,18 +21,18 @@ none_some {A} o x none some = both_ways false refl (subst (λ (q : Option A). Is
 
 -- the numbers of a part, as a text has them
 abbrev numbers_in : List ℕ → ClockPart → Option FiniteSet
-numbers_in text part = said (number_list_of part) (Some no_numbers) (values_in text (part_key part))
+numbers_in text part = said (number_list_of part) (Some no_numbers) (values_in text (clock_part_key part))
 
 pub no_hours : (text : List ℕ) (o : Option FiniteSet) (r : TimedRule) → o ≡ numbers_in text ByHour → o ≡ None → IsTimedRuleText text r → ⊥
-unfolding part_key
+unfolding clock_part_key
 no_hours text o r is none h = none_some o r.times.hours none (is ∙ h.hours)
 
 pub no_minutes : (text : List ℕ) (o : Option FiniteSet) (r : TimedRule) → o ≡ numbers_in text ByMinute → o ≡ None → IsTimedRuleText text r → ⊥
-unfolding part_key
+unfolding clock_part_key
 no_minutes text o r is none h = none_some o r.times.minutes none (is ∙ h.minutes)
 
 pub no_seconds : (text : List ℕ) (o : Option FiniteSet) (r : TimedRule) → o ≡ numbers_in text BySecond → o ≡ None → IsTimedRuleText text r → ⊥
-unfolding part_key
+unfolding clock_part_key
 no_seconds text o r is none h = none_some o r.times.seconds none (is ∙ h.seconds)
 
 -- what was read of a text before its parts are put together
@@ -41,14 +41,14 @@ pub record AreRead (text : List ℕ) (unit : ClockUnit) (times : DayTimes) (othe
   pub hours : numbers_in text ByHour ≡ Some times.hours
   pub minutes : numbers_in text ByMinute ≡ Some times.minutes
   pub seconds : numbers_in text BySecond ≡ Some times.seconds
-  pub written : IsRuleText (rule_body (day_text text)) others
-  pub only : (q : Rule) → IsRuleText (rule_body (day_text text)) q → q ≡ others
+  pub written : IsRuleText (rule_body (text_of_days text)) others
+  pub only : (q : Rule) → IsRuleText (rule_body (text_of_days text)) q → q ≡ others
 
 pub read_ok : (text : List ℕ) (res : Result TimedRule TimedRuleError) (unit : ClockUnit) (times : DayTimes) (others : Rule) → AreRead text unit times others
     → IfOk res (λ r. r.steps ≡ steps_by unit others) → IfOk res (λ r. r.days ≡ days_by unit others) → IfOk res (λ r. r.times ≡ times)
     → IfOk res (λ r. bound_of others.end (values_in text (codes "UNTIL=")) ≡ Some r.bound) → IfOk res (λ r. fits_clock unit others (lacks_times times) ≡ true)
     → IfOk res (λ r. IsTimedRuleText text r)
-unfolding part_key
+unfolding clock_part_key
 read_ok text (Err e) unit times others a steps days same bound fitting = tt
 read_ok text (Ok r) unit times others a steps days same bound fitting = record {
   unit = unit;
@@ -81,7 +81,7 @@ pub every_ok : (text : List ℕ) (res : Result TimedRule TimedRuleError) (unit :
     → ((b : Bound) → bound_of others.end (values_in text (codes "UNTIL=")) ≡ Some b → fits_clock unit others (lacks_times times) ≡ true
     → res ≡ Ok (record { steps = steps_by unit others; days = days_by unit others; times = times; bound = b }))
     → (r : TimedRule) → IsTimedRuleText text r → res ≡ Ok r
-unfolding part_key
+unfolding clock_part_key
 every_ok text res unit times others a every r h =
     let u : unit ≡ h.unit = same_Some _ _ (sym a.frequency ∙ h.frequency) in
     let o : h.others ≡ others = a.only h.others h.written in

@@ -39,10 +39,10 @@ unit_of word =
 -- ---- BYHOUR, BYMINUTE and BYSECOND
 
 -- the name of a part, with the sign behind it
-unfoldable pub part_key : ClockPart → List ℕ
-part_key ByHour = codes "BYHOUR="
-part_key ByMinute = codes "BYMINUTE="
-part_key BySecond = codes "BYSECOND="
+unfoldable pub clock_part_key : ClockPart → List ℕ
+clock_part_key ByHour = codes "BYHOUR="
+clock_part_key ByMinute = codes "BYMINUTE="
+clock_part_key BySecond = codes "BYSECOND="
 
 -- "valid values are 0 to 60" for seconds, "0 to 59" for minutes and "0 to 23" for hours
 unfoldable pub greatest_number : ClockPart → ℕ
@@ -76,16 +76,16 @@ abbrev pub is_clock_part : List ℕ → Bool
 is_clock_part p = begins_alike (codes "FREQ=") p && is_unit (unit_of (drop 5 p))
 
 -- a part as a rule of days may have it. FREQ=YEARLY goes with each part with which HOURLY goes, and with some more
-abbrev pub day_part : List ℕ → List ℕ
-day_part p = if is_clock_part p then codes "FREQ=YEARLY" else p
+abbrev pub part_of_days : List ℕ → List ℕ
+part_of_days p = if is_clock_part p then codes "FREQ=YEARLY" else p
 
 -- the parts without those of times, each with a semicolon behind it
-abbrev pub day_parts : List (List ℕ) → List ℕ
-day_parts [] = []
-day_parts (p ∷ ps) = if is_time_part p then day_parts ps else day_part p ++ (byte ";" ∷ day_parts ps)
+abbrev pub parts_of_days : List (List ℕ) → List ℕ
+parts_of_days [] = []
+parts_of_days (p ∷ ps) = if is_time_part p then parts_of_days ps else part_of_days p ++ (byte ";" ∷ parts_of_days ps)
 
-abbrev pub day_text : List ℕ → List ℕ
-day_text text = day_parts (parts text)
+abbrev pub text_of_days : List ℕ → List ℕ
+text_of_days text = parts_of_days (parts text)
 
 -- ---- COUNT and UNTIL
 
@@ -137,20 +137,20 @@ pub record IsTimedRuleText (text : List ℕ) (r : TimedRule) : Type 0 where
   pub seconds : said (number_list_of BySecond) (Some no_numbers) (values_in text (codes "BYSECOND=")) ≡ Some r.times.seconds
   -- the rule of days that the other parts write
   pub others : Rule
-  pub written : IsRuleText (rule_body (day_text text)) others
+  pub written : IsRuleText (rule_body (text_of_days text)) others
   pub days : r.days ≡ days_by unit others
   pub steps : r.steps ≡ steps_by unit others
   pub bound : bound_of others.end (values_in text (codes "UNTIL=")) ≡ Some r.bound
   pub fitting : fits_clock unit others (lacks_times r.times) ≡ true
 
 -- known values
-day_text-hourly : day_text (codes "freq=hourly;BYHOUR=9;INTERVAL=2;UNTIL=20240101T000000Z") ≡ codes "FREQ=YEARLY;INTERVAL=2;"
+text_of_days-hourly : text_of_days (codes "freq=hourly;BYHOUR=9;INTERVAL=2;UNTIL=20240101T000000Z") ≡ codes "FREQ=YEARLY;INTERVAL=2;"
 unfolding unit_of
-day_text-hourly = refl
+text_of_days-hourly = refl
 
-day_text-daily : day_text (codes "BYMINUTE=0;FREQ=DAILY") ≡ codes "FREQ=DAILY;"
+text_of_days-daily : text_of_days (codes "BYMINUTE=0;FREQ=DAILY") ≡ codes "FREQ=DAILY;"
 unfolding unit_of
-day_text-daily = refl
+text_of_days-daily = refl
 
 number_list_of-hours : number_list_of ByHour (codes "9,017") ≡ None
 unfolding number_list_of with_number_text greatest_number digits_of natural_of

@@ -1,6 +1,6 @@
 //! `ClockPart`: the parts of a rule that list times of day.
 ghost use Rattle.std.specs.Prelude.{◌≡◌, ◌<◌};
-ghost use Rattle.calendar_rules.specs.TimedRuleTexts.{greatest_number, number_list_of, part_key, with_number_text};
+ghost use Rattle.calendar_rules.specs.TimedRuleTexts.{greatest_number, number_list_of, clock_part_key, with_number_text};
 
 use chrono_sets::NumberSet;
 use chrono_text::{ItemReader, read_digits, read_list};
@@ -18,9 +18,9 @@ pub enum ClockPart {
 
 impl ClockPart {
     // The name of the part, with the sign behind it.
-    #[tactic(auto, unfolding(crate::specs::TimedRuleTexts::part_key))]
+    #[tactic(auto, unfolding(crate::specs::TimedRuleTexts::clock_part_key))]
     pub(crate) fn key(self) -> &'static [u8]
-        ensures { result.now ≡ part_key self }
+        ensures { result.now ≡ clock_part_key self }
     {
         match self {
             ClockPart::ByHour => b"BYHOUR=",

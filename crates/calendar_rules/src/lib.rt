@@ -12,10 +12,10 @@
 
 mod calendar_recurrence;
 mod clock_part;
-mod day_text;
 mod instant_list;
 mod part_value;
 mod recurrence_error;
+mod text_of_days;
 mod timed_error;
 mod timed_reader;
 mod timed_rule;

@@ -7,11 +7,11 @@ ghost use Rattle.zoned_rules.specs.LocalTimes.{lacks_times};
 ghost use Rattle.chrono_rules.specs.declared.rule.Rule.{Rule};
 ghost use Rattle.zoned_rules.specs.declared.bound.Bound.{Bound};
 ghost use Rattle.calendar_rules.specs.declared.timed_rule.TimedRule.{TimedRule};
-ghost use Rattle.calendar_rules.specs.TimedRuleTexts.{IsTimedRuleText, bound_of, days_by, fits_clock, number_list_of, part_key, steps_by, unit_of, until_of};
+ghost use Rattle.calendar_rules.specs.TimedRuleTexts.{IsTimedRuleText, bound_of, days_by, fits_clock, number_list_of, clock_part_key, steps_by, unit_of, until_of};
 
 use crate::clock_part::ClockPart;
-use crate::day_text::{put_day_text, unit_of};
 use crate::part_value::value_of;
+use crate::text_of_days::{put_text_of_days, unit_of};
 use crate::timed_error::TimedRuleError;
 use crate::timed_rule::TimedRule;
 use calendar_text::{CalendarTime, read_calendar_time};
@@ -63,7 +63,7 @@ pub fn read_timed_rule(text: &[u8], buffer: &mut [u8]) -> Result<TimedRule, Time
         minutes,
         seconds,
     };
-    let len = put_day_text(text, buffer);
+    let len = put_text_of_days(text, buffer);
     match read_rule(&buffer[..len]) {
         Ok(others) => put_together(text, unit, times, others),
         Err(error) => Err(TimedRuleError::Days(error)),
@@ -82,7 +82,7 @@ fn read_unit(text: &[u8]) -> Option<ClockUnit>
 
 // The numbers of a part.
 fn read_part(text: &[u8], part: ClockPart) -> Option<NumberSet>
-    ensures { result ≡ said (number_list_of part) (Some no_numbers) (values_in text.now (part_key part)) }
+    ensures { result ≡ said (number_list_of part) (Some no_numbers) (values_in text.now (clock_part_key part)) }
 {
     match value_of(text, part.key())? {
         Some(list) => part.read_numbers(list),

@@ -27,7 +27,7 @@ pub returns-in-Ok-clause-read : goal.returns-in-Ok-clause-read
 returns-in-Ok-clause-read c =
     let text = c.args.text.now in
     let times : DayTimes = record { hours = c.in-Some-read_part.hours; minutes = c.in-Some-read_part-2.minutes; seconds = c.in-Some-read_part-3.seconds } in
-    let same = c.put_day_text-len.ensures.text in
+    let same = c.put_text_of_days-len.ensures.text in
     let a : AreRead text c.in-Some.unit times c.in-Ok.others = record {
       frequency = sym c.read_unit.ensures ∙ c.in-Some.is;
       hours = sym c.read_part.ensures ∙ c.in-Some-read_part.is;
@@ -43,7 +43,7 @@ pub returns-in-Ok-clause-every : goal.returns-in-Ok-clause-every
 returns-in-Ok-clause-every c =
     let text = c.args.text.now in
     let times : DayTimes = record { hours = c.in-Some-read_part.hours; minutes = c.in-Some-read_part-2.minutes; seconds = c.in-Some-read_part-3.seconds } in
-    let same = c.put_day_text-len.ensures.text in
+    let same = c.put_text_of_days-len.ensures.text in
     let a : AreRead text c.in-Some.unit times c.in-Ok.others = record {
       frequency = sym c.read_unit.ensures ∙ c.in-Some.is;
       hours = sym c.read_part.ensures ∙ c.in-Some-read_part.is;
@@ -59,7 +59,7 @@ pub returns-in-Ok-clause-found : goal.returns-in-Ok-clause-found
 returns-in-Ok-clause-found c =
     let text = c.args.text.now in
     let times : DayTimes = record { hours = c.in-Some-read_part.hours; minutes = c.in-Some-read_part-2.minutes; seconds = c.in-Some-read_part-3.seconds } in
-    let same = c.put_day_text-len.ensures.text in
+    let same = c.put_text_of_days-len.ensures.text in
     let a : AreRead text c.in-Some.unit times c.in-Ok.others = record {
       frequency = sym c.read_unit.ensures ∙ c.in-Some.is;
       hours = sym c.read_part.ensures ∙ c.in-Some-read_part.is;

@@ -1,6 +1,6 @@
 use Rattle.std.proofs.Common.{[], ◌∷◌}
 use Rattle.calendar_text.proofs.PutLemmas.{put_both}
-use Rattle.calendar_rules.proofs.day_text.put_part.Goals as goal
+use Rattle.calendar_rules.proofs.text_of_days.put_part.Goals as goal
 
 pub returns-clause-put : goal.returns-clause-put
 returns-clause-put c =

@@ -2,7 +2,7 @@
 ghost use Rattle.std.specs.Prelude.{◌≡◌, ◌≤◌, ◌<◌, ◌+◌, ◌++◌, ◌∷◌, [], length, take};
 ghost use Rattle.std.specs.Str.{byte};
 ghost use Rattle.calendar_text.specs.Puts.{IsPut};
-ghost use Rattle.calendar_rules.specs.TimedRuleTexts.{day_part, day_text, is_clock_part, is_time_part, is_unit, unit_of};
+ghost use Rattle.calendar_rules.specs.TimedRuleTexts.{part_of_days, text_of_days, is_clock_part, is_time_part, is_unit, unit_of};
 
 use crate::part_value::SEMICOLON;
 use calendar_text::behind_name;
@@ -10,9 +10,9 @@ use chrono_text::{begins_but_for_case, first_piece, same_but_for_case};
 use zoned_rules::ClockUnit;
 
 // Writes the parts into a buffer that is longer than the text. Returns the number of bytes.
-pub(crate) fn put_day_text(text: &[u8], buffer: &mut [u8]) -> usize
+pub(crate) fn put_text_of_days(text: &[u8], buffer: &mut [u8]) -> usize
     requires { length text.now < length buffer.old }
-    ensures text { take result buffer.new ≡ day_text text.now }
+    ensures text { take result buffer.new ≡ text_of_days text.now }
     ensures within { result ≤ length buffer.new }
     ensures length { length buffer.new ≡ length buffer.old }
 {
@@ -21,7 +21,7 @@ pub(crate) fn put_day_text(text: &[u8], buffer: &mut [u8]) -> usize
     loop {
         let (part, behind) = first_piece(rest, SEMICOLON);
         if !is_time_part(part) {
-            len = put_part(buffer, len, day_part(part));
+            len = put_part(buffer, len, part_of_days(part));
         }
         match behind {
             [_, next @ ..] => rest = next,
@@ -61,8 +61,8 @@ fn is_time_part(part: &[u8]) -> bool
 }
 
 // A part as a rule of days may have it.
-fn day_part(part: &[u8]) -> &[u8]
-    ensures value { result.now ≡ day_part part.now }
+fn part_of_days(part: &[u8]) -> &[u8]
+    ensures value { result.now ≡ part_of_days part.now }
     ensures short { length result.now ≤ length part.now }
 {
     if is_clock_part(part) {
