@@ -257,6 +257,30 @@ export class PlainDateTime implements Named {
   readonly [Symbol.toStringTag]: "PlainDateTime";
 }
 
+/** An instant, to the nanosecond, counted from 1970-01-01T00:00:00Z without leap seconds. */
+export class Instant {
+  constructor(epochNanoseconds: bigint);
+  /** The instant of a text with an offset, such as `2024-02-29T12:00:00+01:00`, or of an instant. */
+  static from(item: Instant | string): Instant;
+  static fromEpochMilliseconds(milliseconds: number): Instant;
+  static fromEpochNanoseconds(nanoseconds: bigint): Instant;
+  static compare(one: Instant | string, other: Instant | string): -1 | 0 | 1;
+  readonly epochMilliseconds: number;
+  readonly epochNanoseconds: bigint;
+  /** RangeError for days and longer units. */
+  add(duration: DurationLike): Instant;
+  subtract(duration: DurationLike): Instant;
+  until(other: Instant | string, options?: DifferenceOptions<Exclude<ExactUnit, "day">>): Duration;
+  since(other: Instant | string, options?: DifferenceOptions<Exclude<ExactUnit, "day">>): Duration;
+  round(options: Unit<Exclude<ExactUnit, "day">> | RoundingOptions): Instant;
+  equals(other: Instant | string): boolean;
+  toString(): string;
+  toLocaleString(locales?: string | string[], options?: Intl.DateTimeFormatOptions): string;
+  toJSON(): string;
+  valueOf(): never;
+  readonly [Symbol.toStringTag]: "Instant";
+}
+
 /** Whether a year, which may lie beyond those of dates, has 366 days. */
 export function isLeapYear(year: number): boolean;
 

@@ -4,6 +4,7 @@
 
 export { BusinessCalendar, dayCount } from "./business_calendar.js";
 export { Duration } from "./duration.js";
+export { Instant } from "./instant.js";
 export { version } from "./layers.js";
 export { daysUntil, isLeapYear, PlainDate } from "./plain_date.js";
 export { PlainDateTime } from "./plain_date_time.js";

@@ -3,6 +3,9 @@
 /** The nanoseconds of a date-time that there is not. */
 const NO_NANOS = 2 ** 32 - 1;
 
+/** The first and the last second of the calendar. */
+export const [FIRST_SECOND, LAST_SECOND] = [-8_334_601_228_800n, 8_210_266_876_799n];
+
 /** How many bytes a date-time takes. */
 export const MOMENT_SIZE = 16;
 

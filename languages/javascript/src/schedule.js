@@ -1,14 +1,12 @@
 /** Cron schedules. */
 
 import { AT_ONCE, dueBetween, isDue, nextDue, previousDue, readSchedule } from "./layers.js";
+import { LAST_SECOND } from "./moments.js";
 import { optionsOf } from "./numbers.js";
 import { dateTimeOf, momentOf, PlainDateTime } from "./plain_date_time.js";
 
 /** The sets of numbers in the order of the library. */
 const SETS = ["minutes", "hours", "days", "months", "weekdays", "daysFromEnd", "nearestWorkdays", "lastWeekdays"];
-
-/** The last second of the calendar. */
-const LAST = { seconds: 8_210_266_876_799n, nanos: 0 };
 
 /** The numbers of a set, of which each binary digit says whether a number is listed. */
 function numbersOf(view, place) {
@@ -75,7 +73,7 @@ export class Schedule {
   /** The date-times after another at which it is due, in order, up to `until`, which counts, or to the end of the calendar. */
   iterate(start, options) {
     const { until } = optionsOf(options);
-    const last = until === undefined ? LAST : momentOf(PlainDateTime.from(until));
+    const last = until === undefined ? { seconds: LAST_SECOND, nanos: 0 } : momentOf(PlainDateTime.from(until));
     return this.#dueFrom(momentOf(PlainDateTime.from(start)), last);
   }
 

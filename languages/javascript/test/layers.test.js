@@ -41,7 +41,7 @@ test("schedule_fault_text", () => {
     ["0 25,7 * * *", 2, 4, "hour, byte 2: a number that is out of range"],
     ["5,60 * * * *", 2, 4, "minute, byte 2: a number that is out of range"],
     ["* * * *", 7, 7, "byte 7: fewer than five fields"],
-    ["0 0 30-2 * *", 4, 8, "day of the month, byte 4: a range whose end is below its beginning"],
+    ["0 0 30-2 * *", 7, 8, "day of the month, byte 7: a range whose end is below its beginning"],
     ["* * * foo *", 6, 9, undefined],
     ["* * * * * *", 10, 11, undefined],
     ["", 0, 0, undefined],

@@ -18,6 +18,7 @@ mod duration;
 mod layer_calls;
 mod parse_error;
 mod schedule;
+mod text_error;
 mod weekday;
 mod weekday_set;
 #[cfg(feature = "chrono")]
@@ -38,6 +39,7 @@ pub use date_range::DateRange;
 pub use date_time::DateTime;
 pub use duration::Duration;
 pub use parse_error::ParseError;
-pub use schedule::{Schedule, ScheduleError, ScheduleTimes};
+pub use schedule::{Schedule, ScheduleTimes};
+pub use text_error::TextError;
 pub use weekday::Weekday;
 pub use weekday_set::{WeekdaySet, Weekdays};

@@ -1,16 +1,12 @@
 //! Cron schedules.
 
-use core::error::Error;
-use core::fmt;
 use core::iter::FusedIterator;
-use core::str::{from_utf8, FromStr};
+use core::str::FromStr;
 
 use crate::calls::{Moment, NO_NANOS};
 use crate::layer_calls::*;
+use crate::text_error::{Kind, TextError};
 use crate::DateTime;
-
-/// The number of bytes of the longest sentence on what is wrong with a text.
-const SENTENCE_ROOM: usize = 99;
 
 /// So many times are found at once, at most.
 const AT_ONCE: usize = 64;
@@ -100,14 +96,14 @@ impl Schedule {
 }
 
 impl FromStr for Schedule {
-    type Err = ScheduleError;
+    type Err = TextError;
 
     /// ```
     /// use proved_calendar::Schedule;
     /// let wrong = "0 25 * * *".parse::<Schedule>().unwrap_err();
     /// assert_eq!(wrong.to_string(), "hour, byte 2: a number that is out of range");
     /// ```
-    fn from_str(text: &str) -> Result<Schedule, ScheduleError> {
+    fn from_str(text: &str) -> Result<Schedule, TextError> {
         let (mut sets, mut fault) = (Sets([0; 10]), Fault::NONE);
         // SAFETY: the text has as many bytes as its length says.
         let is_read =
@@ -115,73 +111,13 @@ impl FromStr for Schedule {
         if is_read {
             Ok(Schedule { sets })
         } else {
-            Err(ScheduleError { fault })
+            Err(TextError {
+                fault,
+                kind: Kind::Schedule,
+            })
         }
     }
 }
-
-/// What is wrong with a text that is no schedule, and where.
-///
-/// ```
-/// use proved_calendar::Schedule;
-/// let wrong = "0 7,25 * * *".parse::<Schedule>().unwrap_err();
-/// assert_eq!((wrong.start(), wrong.end()), (4, 6));
-/// ```
-#[derive(Clone, Copy, Debug, PartialEq, Eq)]
-pub struct ScheduleError {
-    fault: Fault,
-}
-
-impl ScheduleError {
-    /// The byte at which the wrong part begins. It is the text's length if something is missing at its end.
-    ///
-    /// ```
-    /// let wrong = "* * * *".parse::<proved_calendar::Schedule>().unwrap_err();
-    /// assert_eq!(wrong.start(), 7);
-    /// ```
-    #[must_use]
-    pub const fn start(&self) -> usize {
-        self.fault.byte
-    }
-
-    /// The byte before which the wrong part ends.
-    ///
-    /// ```
-    /// let wrong = "* * * foo *".parse::<proved_calendar::Schedule>().unwrap_err();
-    /// assert_eq!(wrong.end(), 9);
-    /// ```
-    #[must_use]
-    pub const fn end(&self) -> usize {
-        self.fault.end
-    }
-
-    /// The field that is wrong, from 1 for minutes to 5 for weekdays; `None` if it is none of them.
-    ///
-    /// ```
-    /// let wrong = "* * * foo *".parse::<proved_calendar::Schedule>().unwrap_err();
-    /// assert_eq!(wrong.field(), Some(4));
-    /// ```
-    #[must_use]
-    pub const fn field(&self) -> Option<u32> {
-        match self.fault.field {
-            0 => None,
-            field => Some(field),
-        }
-    }
-}
-
-impl fmt::Display for ScheduleError {
-    fn fmt(&self, f: &mut fmt::Formatter<'_>) -> fmt::Result {
-        let mut text = [0; SENTENCE_ROOM];
-        // SAFETY: the room has as many bytes as its length says.
-        let length =
-            unsafe { calendar_schedule_fault_text(&self.fault, text.as_mut_ptr(), text.len()) };
-        let sentence = text.get(..length as usize).unwrap_or_default();
-        f.pad(from_utf8(sentence).unwrap_or_default())
-    }
-}
-
-impl Error for ScheduleError {}
 
 /// No date-time.
 const NO_MOMENT: Moment = Moment {

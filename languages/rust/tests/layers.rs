@@ -64,7 +64,7 @@ fn schedule_fault_text() {
         ("* * * *", "byte 7: fewer than five fields"),
         (
             "0 0 30-2 * *",
-            "day of the month, byte 4: a range whose end is below its beginning",
+            "day of the month, byte 7: a range whose end is below its beginning",
         ),
     ] {
         assert_eq!(text.parse::<Schedule>().unwrap_err().to_string(), sentence);
