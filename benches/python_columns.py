@@ -31,6 +31,7 @@ except ImportError:
     sys.exit("numpy and pandas are wanted: tools/setup installs Debian's")
 
 LIBRARY = os.path.join(TOP, "crates", "calendar_c", "out", "libcalendar_c.a")
+LAYERS = os.path.join(TOP, "crates", "layers_c", "out", "liblayers_c.a")
 EPOCH, MONTHS, DAYS = 719_163, 13, 1_000
 
 
@@ -39,6 +40,7 @@ def install(folder):
     if not os.path.exists(LIBRARY):
         sys.exit(f"there is no {LIBRARY}: run `rt lib` in crates/calendar_c")
     packages.build(LIBRARY, folder)
+    packages.build(LAYERS, folder, packages.LAYERS)
     _, wheel = sorted(python.make(TOP, folder, f"{folder}/dist"))
     with zipfile.ZipFile(wheel) as it:
         it.extractall(f"{folder}/python")

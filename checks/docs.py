@@ -71,7 +71,9 @@ ABSENT = {
 # Files and folders that are rightly not there, by the reason.
 NO_FILES = {
     "left by a build": "dist crates/caltool/out/caltool crates/dates/out/dates out out/libcalendar_c.a",
-    "where a package is installed": "include/calendar.h lib/libcalendar-v3.a lib/libcalendar.a lib/libcalendar.so.0 libcalendar-v3.a lib/pkgconfig lib/pkgconfig/calendar.pc lib/cmake/calendar",
+    "where a package is installed": """
+        include/calendar.h include/calendar_layers.h lib/libcalendar-v3.a lib/libcalendar.a lib/libcalendar.so lib/libcalendar.so.0
+        lib/libcalendar_layers.a lib/libcalendar_layers.so libcalendar-v3.a lib/pkgconfig lib/cmake/calendar /usr/local/lib""",
     "an option of a compiler": "-Ilanguages/c",
     "of the kit": "docs/WALKS.md",
     "of the reader": "main.c",

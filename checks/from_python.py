@@ -20,7 +20,7 @@ TESTS = f"{PACKAGE}/tests"
 COUNTS = (r"\.\.\. ok()$", r"\.\.\. (?:FAIL|ERROR)()$")
 # Debian's Python, which may have numpy and pandas, and the tests that need no other package.
 DEBIAN = "/usr/bin/python3"
-ALONE = ("test_calls.py", "test_habits.py", "test_like_datetime.py")
+ALONE = ("test_calls.py", "test_habits.py", "test_like_datetime.py", "test_layers.py")
 # The versions from 3.10 on, which one wheel serves.
 VERSIONS = [f"python3.{it}" for it in range(10, 16)]
 WARNINGS = ["-std=c99", "-O1", "-fPIC", "-Wall", "-Wextra", "-Wpedantic", "-Werror"]
@@ -85,6 +85,14 @@ def test_beside_others(results, room, wheel):
     if program:
         test_examples(results, room, program, True)
         test_stubs(results, room, program)
+    if program and debian_has("croniter"):
+        test_peers(results, program)
+
+
+def test_peers(results, program):
+    """Schedules and open days beside croniter and numpy."""
+    counts = (r"^all: (\d+) passed", r"^all: .* (\d+) failed")
+    run(results, "schedules and open days in Python", [program, f"{TOP}/checks/python_layers.py"], counts, env=QUIET)
 
 
 def test_stubs(results, room, program):
@@ -153,10 +161,10 @@ def compile_c(folder, names, flags):
     return ""
 
 
-def fails(folder, objects, library, tests):
+def fails(folder, objects, libraries, tests):
     """Whether one of some tests fails, or does not end, over an extension that is linked of these objects."""
     module = f"{folder}/proved_calendar/_calendar.abi3.so"
-    subprocess.run(["cc", "-shared", *objects, library, "-o", module], check=True)
+    subprocess.run(["cc", "-shared", *objects, *libraries, "-o", module], check=True)
     env = dict(QUIET, PYTHONPATH=folder, SKIP_MEMORY="1")
     try:
         for name in tests:
@@ -175,7 +183,7 @@ def tests_of(path):
     return ("test_columns.py",) if debian_has("numpy") else ()
 
 
-def test_wrong_lines(results, room, library):
+def test_wrong_lines(results, room, libraries):
     """Each wrong line in the C and the Python of the package fails its tests, and none of them fails without."""
     flags = [*WARNINGS, f"-I{LANGUAGES}/c", f"-I{headers()}"]
     right = f"{room}/right"
@@ -185,7 +193,7 @@ def test_wrong_lines(results, room, library):
     results.count(not said, f"the extension in C: {said}")
     right_objects = [f"{right}/src/{it}.o" for it in names]
     every = (*ALONE, *tests_of("columns.py"))
-    results.count(not said and not fails(right, right_objects, library, every), "a test fails over right lines")
+    results.count(not said and not fails(right, right_objects, libraries, every), "a test fails over right lines")
     for number, edit in enumerate(edits("python")):
         tests, changed = tests_of(edit[0]), os.path.basename(edit[0])
         if not tests:
@@ -195,14 +203,15 @@ def test_wrong_lines(results, room, library):
         compiled = names if changed.endswith(".h") else [changed] if changed.endswith(".c") else []
         said = compile_c(folder, compiled, flags)
         objects = [f"{folder if it in compiled else right}/src/{it}.o" for it in names]
-        results.count(not said and fails(folder, objects, library, tests), f"no test in Python fails with {edit[2]!r} in {edit[0]} {said}")
+        results.count(not said and fails(folder, objects, libraries, tests), f"no test in Python fails with {edit[2]!r} in {edit[0]} {said}")
 
 
-def test(results, room, library):
+def test(results, room, library, layers):
     """Makes the packages, installs the wheel and runs the tests there."""
     room, built = f"{room}/python", f"{room}/python/built"
     os.makedirs(built)
     packages.build(library, built)
+    packages.build(layers, built, packages.LAYERS)
     try:
         sources, wheel = sorted(python.make(TOP, built, f"{room}/dist"))
     except packages.Missing as it:
@@ -217,4 +226,4 @@ def test(results, room, library):
     test_beside_others(results, room, wheel)
     test_by_datetime(results, room, wheel)
     test_sources(results, f"{room}/again", sources)
-    test_wrong_lines(results, room, library)
+    test_wrong_lines(results, room, [layers, library])

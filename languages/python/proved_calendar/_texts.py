@@ -5,7 +5,9 @@ time, and which one it is, comes from there. Nothing here is proved.
 """
 import operator
 import re
-from typing import Any
+from typing import Any, NoReturn
+
+from .text_error import TextError
 
 _DATE = (
     r"(?P<year>[-+]?[0-9]{4,6})-(?P<month>[0-9]{2})-(?P<day>[0-9]{2})"
@@ -81,6 +83,16 @@ def nanoseconds_of_text(text: str) -> int:
     units = {"weeks": 7 * _DAY, "days": _DAY, "hours": _HOUR, "minutes": _MINUTE, "seconds": _SECOND}
     whole = sum(int(found[name] or 0) * unit for name, unit in units.items()) + int((found["fraction"] or "").ljust(9, "0"))
     return -whole if found["sign"] == "-" else whole
+
+
+# ---- texts that are refused
+
+
+def refuse(text: str, said: str, start: int, end: int) -> NoReturn:
+    """Raises a TextError, of which start and end are given as bytes of UTF-8."""
+    encoded = text.encode()
+    start, end = (len(encoded[:it].decode(errors="ignore")) for it in (start, end))
+    raise TextError(said, text, start, max(start, end))
 
 
 # ---- texts that are written

@@ -6,7 +6,7 @@
 PyTypeObject *date_time_type;
 static Blocks kept;
 
-enum { SECOND = 1000000000, MICROSECOND = 1000, LAST_SECOND = 59 };
+enum { SECOND = 1000000000, MICROSECOND = 1000, LAST_SECOND = 59, LAST_SECOND_OF_DAY = 86399 };
 
 /* The parts of a clock, in the order of parameters: hour, minute, second and nanosecond. */
 enum { HOUR, MINUTE, CLOCK_SECOND, NANOSECOND, CLOCK };
@@ -143,8 +143,7 @@ static PyObject *new_date_time(PyTypeObject *kind, calendar_date_time moment, in
     return (PyObject *)self;
 }
 
-/* A date-time of a type, from fields that are one. */
-static PyObject *date_time_of(PyTypeObject *kind, calendar_date_time moment)
+PyObject *date_time_of(PyTypeObject *kind, calendar_date_time moment)
 {
     if (kind != date_time_type) {
         /* (a user's class makes its objects as it likes) */
@@ -595,6 +594,26 @@ static bool read_moment(PyObject *it, calendar_date_time *moment, bool *is_one)
     Py_XDECREF(zone);
     *is_one = zone == Py_None;
     return zone && (!*is_one || (read_python_datetime(it, &number, clock) && moment_at(number, clock, moment)));
+}
+
+bool take_moment(PyObject *it, calendar_date_time *moment)
+{
+    int32_t number;
+    int64_t clock[CLOCK];
+    if (is_date_time(it)) {
+        *moment = moment_of(it);
+        return true;
+    }
+    if (!is_python_datetime(it)) {
+        refuse_type("a DateTime or a datetime.datetime", it);
+        return false;
+    }
+    return read_python_datetime(it, &number, clock) && moment_at(number, clock, moment);
+}
+
+calendar_date_time last_moment(void)
+{
+    return calendar_date_time_new(CALENDAR_MAX, LAST_SECOND_OF_DAY, SECOND - 1);
 }
 
 static PyObject *date_time_compare(PyObject *left, PyObject *right, int order)

@@ -1,6 +1,6 @@
 /* package.h: what the files of this extension share.
  *
- * The extension stands on the functions of calendar.h, which are proved, and keeps to Python's limited API, so that one build
+ * The extension stands on the functions of calendar.h and calendar_layers.h, which are proved, and keeps to Python's limited API, so that one build
  * serves every Python from 3.10 on. Each type has a file; what is written here by hand is how values of Python become numbers
  * and come back, and what is said where there is no date. */
 #ifndef PROVED_CALENDAR_PACKAGE_H
@@ -11,6 +11,7 @@
 #include <Python.h>
 
 #include "calendar.h"
+#include "calendar_layers.h"
 
 /* A function in the slot of a type, that of a slot, and a method that takes more than its object: C has no type for any. */
 #define SLOT(slot, function) {slot, __extension__(void *)(function)}
@@ -192,8 +193,14 @@ PyObject *weekday_member(int32_t weekday);
 /* Reads a weekday's number from 1 to 7; a ValueError if it is none. */
 bool read_weekday(PyObject *it, uint32_t *weekday);
 
-/* Reads some weekdays as a set of calendar.h; a ValueError if there are none of them. */
+/* Reads some weekdays as a set of calendar.h, or none of them. */
+bool read_weekday_set(PyObject *it, uint8_t *weekdays);
+
+/* The same; a ValueError if there are none of them. */
 bool read_weekdays(PyObject *it, uint8_t *weekdays);
+
+/* The numbers of a set of weekdays, as a list. */
+PyObject *list_of_weekdays(uint8_t weekdays);
 
 /* ---- dates (date.c) */
 
@@ -203,8 +210,28 @@ PyObject *date_of(PyTypeObject *kind, int32_t number);
 /* The number of the date with a name; CALENDAR_NONE and a ValueError that names the part if there is none. */
 int32_t number_of_name(int64_t year, int64_t month, int64_t day);
 
+/* Reads a Date or a datetime.date; a TypeError if it is neither. */
+bool take_date(PyObject *it, int32_t *number);
+
 /* Year, month and day of a date, each in place of a part that is left out. */
 bool read_name(int32_t number, PyObject *const parts[3], int64_t name[3]);
+
+/* ---- date-times (date_time.c) */
+
+/* A date-time of a type, from fields that are one. */
+PyObject *date_time_of(PyTypeObject *kind, calendar_date_time moment);
+
+/* Reads a DateTime or a datetime.datetime without time zone; a TypeError if it is neither. */
+bool take_moment(PyObject *it, calendar_date_time *moment);
+
+/* The last date-time of the calendar. */
+calendar_date_time last_moment(void);
+
+/* ---- schedules and open days (schedule.c, business.c) */
+
+bool make_schedule_types(PyObject *module);
+bool make_business_type(PyObject *module);
+PyObject *day_count(PyObject *module, PyObject *const *arguments, Py_ssize_t count);
 
 /* ---- ISO year, week and weekday as a tuple (iso_calendar.c) */
 
@@ -269,6 +296,9 @@ void refuse_month(int64_t year, int64_t month);
 int read_digits(const char *bytes, size_t length);
 /* Of a text, the first bytes are where its date stands. */
 void refuse_text(PyObject *text, const char *bytes, size_t length, const char *kind);
+
+/* A TextError: what is wrong with a text, of which the bytes from `start` to `end` are wrong. */
+PyObject *refuse_bytes(PyObject *text, const uint8_t *said, int32_t length, size_t start, size_t end);
 
 /* A ValueError: a part cannot be this number. */
 void refuse_part(const char *part, int64_t number, const char *reason);
