@@ -16,6 +16,17 @@ _LEFT: Any = ...
 _DAY = Date(1970, 1, 1)
 
 
+_ENDS = ("MIN", "MAX", "min", "max", "resolution")
+
+
+def attributes(of: object) -> list[str]:
+    """Returns the names of a value's attributes, for dir, without the ends of its type.
+
+    Each end has ends again. So pandas, which writes all attributes of a value as JSON, would come to no end.
+    """
+    return [it for it in object.__dir__(of) if it not in _ENDS]
+
+
 class Time:
     """A time of day, to the nanosecond, in no time zone.
 
@@ -188,6 +199,8 @@ class Time:
     def __hash__(self) -> int:
         is_theirs = self.second < 60 and self.nanosecond % 1_000 == 0
         return hash(self.to_time()) if is_theirs else hash(self._moment)
+
+    __dir__ = attributes
 
     def __reduce__(self) -> tuple[Any, ...]:
         return _again, (type(self), self.hour, self.minute, self.second, self.nanosecond)
