@@ -82,6 +82,9 @@ def numbers_of_days(days: Any) -> Any:
 class Layout:
     """How an array holds dates: its day numbers, and an array of the same type from those."""
 
+    # (how many of a unit of datetime64 make a day)
+    day = UNITS["D"]
+
     def __init__(self, dtype: Any) -> None:
         self.dtype = dtype
 

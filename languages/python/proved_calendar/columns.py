@@ -432,7 +432,7 @@ def next_due(times: Any, schedule: Any) -> Any:
     if column.layout.dtype.kind != "M":
         raise TypeError(f"times are datetime64, not {column.layout.dtype}")
     text = str(schedule if isinstance(schedule, _calendar.Schedule) else _calendar.Schedule(schedule)).encode()
-    day = column.layout.day if isinstance(column.layout, Times) else UNITS["D"]
+    day = column.layout.day
     dtype = column.layout.dtype if day >= UNITS["m"] else _np.dtype("M8[m]")
     out = _np.empty(column.size, dtype)
     for piece in column.pieces():

@@ -71,16 +71,16 @@ def _nullable(values: Any, is_none: Any, like: Any, kind: str) -> Any:
 
 def _whole_numbers(series: Any, name: str) -> Any:
     """The whole numbers of a Series as int64, with the least of 32 bits in place of a missing one."""
-    numbers = series.to_numpy(_np.float64, na_value=_np.nan) if series.hasnans else series.to_numpy()
-    if numbers.dtype.kind == "f":
-        is_none = ~_np.isfinite(numbers)
-        whole = _np.where(is_none, _LEAST, numbers).astype(_np.int64)
-        if (whole != numbers)[~is_none].any() or _np.isinf(numbers).any():
-            raise ValueError(f"{name} are whole numbers")
-        return whole
-    if numbers.dtype.kind not in "iu":
+    kind = getattr(series.dtype, "numpy_dtype", series.dtype)
+    if isinstance(kind, _np.dtype) and kind.kind in "iu" and _np.can_cast(kind, _np.int64):
+        return series.to_numpy(_np.int64, na_value=_LEAST)
+    if not isinstance(kind, _np.dtype) or kind.kind != "f":
         raise TypeError(f"{name} are whole numbers, not {series.dtype}")
-    return numbers.astype(_np.int64)
+    numbers = series.to_numpy(_np.float64, na_value=_np.nan)
+    whole = _np.where(_np.abs(numbers) < 2.0**62, numbers, _LEAST).astype(_np.int64)
+    if (whole != numbers)[~_np.isnan(numbers)].any():
+        raise ValueError(f"{name} are whole numbers")
+    return whole
 
 
 def _check_errors(errors: str) -> None:
@@ -184,7 +184,7 @@ class ProvedSeries:
         """Each element and the number at its label. (What is missing leads beyond the calendar, and is asked of no element.)"""
         if not isinstance(days, _pd.Series):
             return self, days
-        series, numbers = self._series.align(days)
+        series, numbers = self._series.align(days, join="left")
         is_missing = numbers.isna()
         return ProvedSeries(series.mask(is_missing)), _whole_numbers(numbers, "days")
 
@@ -227,7 +227,7 @@ class ProvedSeries:
     def _pair(self, other: Any) -> tuple[Any, Any, Any]:
         """The Series and two arrays of the same labels, or one time for all."""
         if isinstance(other, _pd.Series):
-            series, others = self._series.align(other)
+            series, others = self._series.align(other, join="left")
             return series, _times(series), _times(others)
         stamp = _pd.Timestamp(other)
         return self._series, _times(self._series), _np.datetime64("NaT", "ns") if stamp is _pd.NaT else stamp.tz_localize(None).to_datetime64()
@@ -288,9 +288,9 @@ class ProvedFrame:
         What is missing is NaT. By errors='coerce' an invalid date is NaT too; else it is a ValueError.
         """
         _check_errors(errors)
-        parts = [_whole_numbers(self._frame[it], it) for it in ("year", "month", "day")]
+        year, month, day = parts = [_whole_numbers(self._frame[it], it) for it in ("year", "month", "day")]
         is_none = self._frame[["year", "month", "day"]].isna().any(axis=1).to_numpy()
-        found = columns.from_fields(*parts, "M8[s]")
+        found = columns.from_fields(year, month, day, "M8[s]")
         is_wrong = _np.isnat(found) & ~is_none
         if errors == "raise" and is_wrong.any():
             place = int(is_wrong.argmax())
@@ -359,7 +359,7 @@ class Months(_Offset):
 
 
 class OpenDays(_Offset):
-    """OpenDays(n=1, normalize=False, calendar=BusinessCalendar()): an offset of pandas by open days.
+    """OpenDays(n=1, normalize=False, business_calendar=BusinessCalendar()): an offset of pandas by open days.
 
     >>> pandas.Timestamp('2024-03-28') + OpenDays(1)
     Timestamp('2024-03-29 00:00:00')
@@ -368,22 +368,24 @@ class OpenDays(_Offset):
     """
 
     _prefix = "ProvedOpenDays"
-    _attributes = ("n", "normalize", "calendar")
+    _attributes = ("n", "normalize", "business_calendar")
 
-    def __init__(self, n: int = 1, normalize: bool = False, calendar: Any = None) -> None:
+    def __init__(self, n: int = 1, normalize: bool = False, business_calendar: Any = None) -> None:
         super().__init__(n, normalize)
-        # (pandas lets no attribute of an offset be set)
-        object.__setattr__(self, "calendar", _calendar.BusinessCalendar() if calendar is None else calendar)
+        if business_calendar is not None and not isinstance(business_calendar, _calendar.BusinessCalendar):
+            raise TypeError(f"a BusinessCalendar is wanted, not {type(business_calendar).__name__}")
+        # (pandas lets no attribute of an offset be set, and one named calendar takes no part in its comparisons)
+        object.__setattr__(self, "business_calendar", business_calendar or _calendar.BusinessCalendar())
 
     def _moved(self, times: Any) -> Any:
-        return columns.add_open_days(times, self.n, self.calendar)
+        return columns.add_open_days(times, self.n, self.business_calendar)
 
     def is_on_offset(self, dt: Any) -> bool:
         """Returns whether a date is an open day."""
-        return bool(columns.is_open(_np.datetime64(_pd.Timestamp(dt).date()), self.calendar))
+        return bool(columns.is_open(_np.datetime64(_pd.Timestamp(dt).date()), self.business_calendar))
 
     def __reduce__(self) -> Any:
-        return type(self), (self.n, self.normalize, self.calendar)
+        return type(self), (self.n, self.normalize, self.business_calendar)
 
 
 # ---- single values
@@ -392,7 +394,7 @@ class OpenDays(_Offset):
 def to_timestamp(value: Any) -> Any:
     """Returns a pandas.Timestamp from a Date, a DateTime or one of datetime, with all nanoseconds.
 
-    A leap second, or a time that a Timestamp cannot hold, raises ValueError.
+    NaT stays. A leap second, or a time that a Timestamp cannot hold, raises ValueError.
 
     >>> to_timestamp(DateTime.fromisoformat('2024-02-29T12:30:00.000000007')).nanosecond
     7
