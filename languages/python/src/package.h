@@ -27,13 +27,20 @@ typedef struct {
     uint8_t month, day;
 } Date;
 
-/* A date-time: the fields of one, and what was asked of it before: its hash, or -1, and the number of its date and its second of
- * the day, or CALENDAR_NONE. */
+/* The time zone of a date-time, as datetime has them: a tzinfo, or null for none, and which one of two equal local times is meant. */
+typedef struct {
+    PyObject *zone;
+    bool fold;
+} Zoning;
+
+/* A date-time: the fields of one, which a clock of its zone shows, the zone, and what was asked of it before: its hash, or -1, and
+ * the number of its date and its second of the day, or CALENDAR_NONE. */
 typedef struct {
     PyObject_HEAD
     Py_hash_t hash;
     calendar_date_time moment;
     int32_t number, second;
+    Zoning zoning;
 } DateTime;
 
 /* A duration: the fields of one, and its hash, or -1 if it was not asked for. */
@@ -74,6 +81,11 @@ static inline int32_t number_of(PyObject *date)
 static inline calendar_date_time moment_of(PyObject *date_time)
 {
     return ((DateTime *)date_time)->moment;
+}
+
+static inline Zoning zoning_of(PyObject *date_time)
+{
+    return ((DateTime *)date_time)->zoning;
 }
 
 static inline calendar_duration length_of(PyObject *duration)
@@ -141,7 +153,7 @@ PyObject *formatted(PyObject *self, PyObject *format);
 
 /* ---- numbers and arguments (arguments.c) */
 
-enum { PARTS = 8 };
+enum { PARTS = 10 };
 
 /* The parameters of a call, by name: of those that are given by place there are `places` at most. */
 typedef struct {
@@ -221,7 +233,7 @@ bool read_name(int32_t number, PyObject *const parts[3], int64_t name[3]);
 /* A date-time of a type, from fields that are one. */
 PyObject *date_time_of(PyTypeObject *kind, calendar_date_time moment);
 
-/* Reads a DateTime or a datetime.datetime without time zone; a TypeError if it is neither. */
+/* Reads a DateTime or a datetime.datetime; a TypeError if it is neither, and a ValueError if it has a time zone. */
 bool take_moment(PyObject *it, calendar_date_time *moment);
 
 /* The last date-time of the calendar. */
@@ -263,10 +275,15 @@ bool is_timedelta(PyObject *it);
 /* The parts of a timedelta, with the nanoseconds past its microseconds that a class derived from it keeps, as pandas' does. */
 bool read_timedelta(PyObject *it, int64_t *days, int64_t *seconds, int64_t *nanoseconds);
 
-/* The day number of a `datetime.date`, and the parts of a `datetime.datetime` that has no time zone, with the nanoseconds past
- * its microseconds that a class derived from it keeps, as pandas' does. */
+bool is_tzinfo(PyObject *it);
+
+/* The day number of a `datetime.date`, and the parts of a `datetime.datetime`, with the nanoseconds past its microseconds that a
+ * class derived from it keeps, as pandas' does. */
 bool read_python_date(PyObject *it, int32_t *number);
 bool read_python_datetime(PyObject *it, int32_t *number, int64_t clock[4]);
+
+/* Its time zone and its fold; the zone is a new reference, or null. */
+bool read_python_zoning(PyObject *it, Zoning *zoning);
 
 /* The hashes of datetime's values with these parts, which stand for each other as keys. */
 Py_hash_t hash_of_python_date(int32_t number);
@@ -282,7 +299,7 @@ bool has_timedelta(int64_t days);
 
 /* The types of datetime from what they are made of. */
 PyObject *python_date(int32_t number);
-PyObject *python_datetime(int32_t number, const int64_t clock[4]);
+PyObject *python_datetime(int32_t number, const int64_t clock[4], Zoning zoning);
 PyObject *python_timedelta(int64_t days, int32_t seconds, int32_t microseconds);
 
 /* ---- why there is no such date (refusals.c): a ValueError that names the part */
