@@ -12,6 +12,7 @@ are. `--dates 100000000` takes a minute of four cores.
 It needs Debian's Python with numpy, pandas, dask and distributed, and what the wheel needs. What could not be run is named.
 """
 import argparse
+import logging
 import os
 import resource
 import sys
@@ -119,7 +120,8 @@ def of_series(results, calendar):
 
 def with_workers(results, workers, count, calendar, wanted):
     """Compares the blocks of a cluster with those of one process, and prints its time and its memory."""
-    where = {"host": "127.0.0.1", "dashboard_address": None}
+    # (workers tell of the error that is meant, and of those that end late)
+    where = {"host": "127.0.0.1", "dashboard_address": None, "silence_logs": logging.CRITICAL}
     with LocalCluster(n_workers=workers, threads_per_worker=1, processes=True, **where) as cluster, Client(cluster) as client:
         addresses = list(client.scheduler_info()["workers"])
         results.count(len(addresses) == workers and all(it.startswith("tcp://127.0.0.1:") for it in addresses), f"the workers are {addresses}")

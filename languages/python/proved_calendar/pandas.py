@@ -392,7 +392,7 @@ class OpenDays(_Offset):
 
 
 def to_timestamp(value: Any) -> Any:
-    """Returns a pandas.Timestamp from a Date, a DateTime or one of datetime, with all nanoseconds.
+    """Returns a pandas.Timestamp from a Date, a DateTime or one of datetime, with all nanoseconds and its time zone.
 
     NaT stays. A leap second, or a time that a Timestamp cannot hold, raises ValueError.
 
@@ -400,7 +400,8 @@ def to_timestamp(value: Any) -> Any:
     7
     """
     if isinstance(value, (_calendar.Date, _calendar.DateTime)):
-        return _pd.Timestamp(value.isoformat())
+        stamp, zone = _pd.Timestamp(value.isoformat()), getattr(value, "tzinfo", None)
+        return stamp if zone is None else stamp.tz_convert(zone)
     if isinstance(value, datetime.date):
         return _pd.Timestamp(value)
     raise TypeError(f"a Date or a DateTime is wanted, not {type(value).__name__}")

@@ -20,11 +20,12 @@ _ENDS = ("MIN", "MAX", "min", "max", "resolution")
 
 
 def attributes(of: object) -> list[str]:
-    """Returns the names of a value's attributes, for dir, without the ends of its type.
+    """Returns the names of a value's attributes, for dir, without the ends of its type and a time zone.
 
-    Each end has ends again. So pandas, which writes all attributes of a value as JSON, would come to no end.
+    Each end has ends again, and so has datetime.timezone. So pandas, which writes all attributes as JSON, would come to no end.
     """
-    return [it for it in object.__dir__(of) if it not in _ENDS]
+    left_out = _ENDS if getattr(of, "tzinfo", None) is None else (*_ENDS, "tzinfo")
+    return [it for it in object.__dir__(of) if it not in left_out]
 
 
 class Time:

@@ -269,6 +269,10 @@ class Values(unittest.TestCase):
             self.assertEqual(ours.to_timestamp(DateTime.fromisoformat(text)), stamp)
             self.assertEqual(ours.to_timestamp(stamp), stamp)
         self.assertEqual(ours.to_timestamp(Date(2024, 2, 29)), pandas.Timestamp("2024-02-29"))
+        for zone in ("UTC", "Europe/Berlin", datetime.timezone.utc, datetime.timezone(datetime.timedelta(hours=2))):
+            stamp = pandas.Timestamp("2024-07-01 12:00:00.000000007", tz=zone)
+            moment = DateTime.from_datetime(stamp)
+            self.assertEqual((moment.nanosecond, ours.to_timestamp(moment), ours.to_timestamp(moment).tz), (7, stamp, stamp.tz))
         for count in (0, 7, -7, 10**15 + 1, 2**63 - 1, -(2**63) + 1):
             length = pandas.Timedelta(count, "ns")
             self.assertEqual(Duration.from_timedelta(length), Duration(nanoseconds=count))
@@ -285,7 +289,6 @@ class Values(unittest.TestCase):
         self.assertRaises(TypeError, ours.to_timedelta, Date(2024, 2, 29))
         for wrong in (Duration(nanoseconds=2**63), Duration(days=10**6)):
             self.assertRaises(OverflowError, ours.to_timedelta, wrong)
-        self.assertRaises(ValueError, DateTime.from_datetime, pandas.Timestamp("2024-02-29", tz="UTC"))
         for wrong in (pandas.NaT, None):
             self.assertRaises(TypeError, DateTime.from_datetime, wrong)
             self.assertRaises(TypeError, Duration.from_timedelta, wrong)
@@ -302,6 +305,10 @@ class Values(unittest.TestCase):
         self.assertEqual(parts["moment"]["0"]["date"], parts["date"]["0"])
         self.assertEqual((parts["length"]["0"]["nanoseconds"], parts["time"]["0"]["hour"], parts["date"]["1"]), (5_400 * 10**9, 9, None))
         self.assertEqual(json.loads(pandas.Series([Weekday.FRIDAY]).to_json()), {"0": 5})
+        there = DateTime(2024, 2, 29, 9, tzinfo=datetime.timezone.utc)
+        self.assertEqual(json.loads(pandas.Series([there]).to_json())["0"]["hour"], 9)
+        self.assertNotIn("tzinfo", dir(there))
+        self.assertIn("tzinfo", dir(values["moment"]))
         for it in values.values():
             self.assertFalse({"min", "max", "MIN", "MAX", "resolution"} & set(dir(it)))
             self.assertIn("min", dir(type(it)))
