@@ -20,7 +20,6 @@ except ModuleNotFoundError as missing:
 LIBRARY = ctypes.CDLL(_calendar.__file__)
 FIRST, LAST, EPOCH = _calendar.Date.MIN.number, _calendar.Date.MAX.number, 719_163
 NONE, NAT = -(2**31), -(2**63)
-MOST = 2**63 - 1
 
 # So many elements are converted at once: their day numbers stay in a processor's cache.
 PIECE = 1 << 15
@@ -141,33 +140,15 @@ class Times(Layout):
 
     def numbers(self, values: Any) -> Any:
         times = flat64(values)
-        days = times // self.day
-        if times.min(initial=0) == NAT:
-            days[times == NAT] = NAT
-        return numbers_of_days(days)
+        found = np.empty(times.size, np.int32)
+        loop("dates_of_times", self.day, times, times.size, found)
+        return found
 
     def put(self, found: Any, out: Any) -> None:
-        self.move(found, np.zeros((), np.int64), EPOCH, out)
+        self.move(found, np.zeros(found.size, np.int64), np.full(found.size, EPOCH, np.int32), out)
 
     def move(self, found: Any, values: Any, starts: Any, out: Any) -> None:
-        times, end = flat64(values), out.view(np.int64)
-        np.subtract(found, starts, out=end, dtype=np.int64)
-        end *= self.day
-        end += times
-        least, most = (int(it) - EPOCH for it in (found.min(initial=EPOCH), found.max(initial=EPOCH)))
-        # (64 bits of any longer unit hold all dates)
-        if self.day == UNITS["ns"] and (least <= NAT // self.day or most >= MOST // self.day):
-            end[~self.holds(found, times % self.day)] = NAT
-        elif least == NONE - EPOCH:
-            end[found == NONE] = NAT
-
-    def holds(self, found: Any, rest: Any) -> Any:
-        """Whether 64 bits hold the time that is the rest after the beginning of a day; none is no date's."""
-        days = found.astype(np.int64) - EPOCH
-        first, last = NAT // self.day, MOST // self.day
-        is_late = (days > last) | ((days == last) & (rest > MOST - last * self.day))
-        is_early = (days < first) | ((days == first) & (rest <= NAT - first * self.day))
-        return ~(is_late | is_early | (found == NONE))
+        loop("times_moved", self.day, flat64(values), starts, found, found.size, out.view(np.int64))
 
 
 def layout_of(dtype: Any) -> Layout:

@@ -10,7 +10,7 @@ NaT is no date, and so is a number that no date has. What has no answer is NaT i
 signed type, 0 in an unsigned one, and NaN in a float. What comes back as dates has the type of what was given; smaller whole numbers
 become int64.
 
-The answers come from the proved functions. numpy itself divides times into days and their rest, and puts them together again.
+The answers come from the proved functions. What divides times into days and their rest, and puts them together again, is not proved.
 An array of int32 is read and written where it lies. Others are converted in pieces, so that little memory is taken. No call
 of the library holds Python's lock.
 

@@ -8,8 +8,13 @@
 /* What ctypes sees; all else is hidden. */
 #define LOOP __attribute__((visibility("default"))) void
 
+#define DAY_OF_SECONDS INT64_C(86400)
+#define NONE INT64_MIN
+
 enum { NANOSECOND = 1000000000, TEXT = 32 };
-static const int64_t DAY_OF_SECONDS = 86400, NONE = INT64_MIN;
+
+/* A number of 128 bits, which ISO C has not. */
+__extension__ typedef __int128 wide;
 
 /* ---- times */
 
@@ -19,6 +24,52 @@ static inline int64_t floored(int64_t of, int64_t length)
     int64_t whole = of / length;
     return whole - (whole * length > of);
 }
+
+/* ---- times as dates and what is left of them */
+
+#define INLINE static inline __attribute__((always_inline))
+
+/* Calls a loop, which stands in it for each number of units that is frequent: compilers divide by a known number faster. */
+#define BY_DAY(loop, day, ...) \
+    switch (day) { \
+    case DAY_OF_SECONDS * NANOSECOND: loop(DAY_OF_SECONDS * NANOSECOND, __VA_ARGS__); break; \
+    case DAY_OF_SECONDS * 1000000: loop(DAY_OF_SECONDS * 1000000, __VA_ARGS__); break; \
+    case DAY_OF_SECONDS * 1000: loop(DAY_OF_SECONDS * 1000, __VA_ARGS__); break; \
+    case DAY_OF_SECONDS: loop(DAY_OF_SECONDS, __VA_ARGS__); break; \
+    default: loop(day, __VA_ARGS__); \
+    }
+
+INLINE void dates_of(int64_t day, const int64_t *times, size_t count, int32_t *dates)
+{
+    for (size_t i = 0; i < count; i++) {
+        int64_t days = floored(times[i], day);
+        bool is_date = CALENDAR_MIN - CALENDAR_UNIX_EPOCH <= days && days <= CALENDAR_MAX - CALENDAR_UNIX_EPOCH;
+        dates[i] = is_date && times[i] != NONE ? (int32_t)days + CALENDAR_UNIX_EPOCH : CALENDAR_NONE;
+    }
+}
+
+INLINE void moved_by(int64_t day, const int64_t *times, const int32_t *starts, const int32_t *ends, size_t count, int64_t *moved)
+{
+    for (size_t i = 0; i < count; i++) {
+        wide time = times[i] + (wide)((int64_t)ends[i] - starts[i]) * day;
+        bool is_held = ends[i] != CALENDAR_NONE && NONE < time && time <= INT64_MAX;
+        moved[i] = is_held ? (int64_t)time : NONE;
+    }
+}
+
+/* The day numbers of times. */
+LOOP proved_dates_of_times(int64_t day, const int64_t *times, size_t count, int32_t *dates)
+{
+    BY_DAY(dates_of, day, times, count, dates)
+}
+
+/* Times after a move of their day numbers, at the same times of day; none where 64 bits cannot hold one. */
+LOOP proved_times_moved(int64_t day, const int64_t *times, const int32_t *starts, const int32_t *ends, size_t count, int64_t *moved)
+{
+    BY_DAY(moved_by, day, times, starts, ends, count, moved)
+}
+
+/* ---- times as date-times */
 
 /* The date-time of a time; with CALENDAR_NO_NANOS if there is none. */
 static calendar_date_time moment_of_time(int64_t time, int64_t day)
