@@ -3,6 +3,7 @@
 NaT, numbers of no date, empty arrays, strides, other byte orders, arrays that cannot be written, and other types. It needs numpy."""
 import ctypes
 import doctest
+import os
 import random
 import threading
 import tracemalloc
@@ -506,7 +507,7 @@ class Arrays(Columns):
 
     def test_wrong_types(self):
         wrong = [
-            numpy.array([1.0]), numpy.array([True]), numpy.array(["2024-02-29"]), numpy.array([Date(2024, 2, 29)], object), numpy.array([1j]),
+            numpy.array([1.0]), numpy.array([numpy.inf]), numpy.array([numpy.nan]), numpy.array([True]), numpy.array(["2024-02-29"]), numpy.array([Date(2024, 2, 29)], object), numpy.array([1j]),
             numpy.array([1], numpy.uint64), numpy.array(["2024"], "M8[Y]"), numpy.array(["2024-02"], "M8[M]"), numpy.array([1], "M8[W]"),
             numpy.array([1], "M8[7D]"), numpy.array(["NaT"], "M8"), numpy.array([1], "M8[ps]"), numpy.array([1], "m8[D]"), None, "2024-02-29",
             numpy.zeros(2, [("a", int)]), 1.5, [None], {}, Date(2024, 2, 29), date(2024, 2, 29),
@@ -554,6 +555,18 @@ class Arrays(Columns):
             found = call(array)
             _, peak = tracemalloc.get_traced_memory()
             tracemalloc.stop()
+            self.assertLess(peak - found.nbytes, 3 * 2**20)
+
+    @unittest.skipIf(os.environ.get("SKIP_MEMORY"), "it takes a while")
+    def test_hundred_million(self):
+        """So many elements take no more memory than a few; their own takes none, since they are one that is seen everywhere."""
+        for one in (numpy.int32(738_945), numpy.datetime64("2024-02-29"), numpy.datetime64("2024-02-29T12:30:00.000000007")):
+            many = numpy.broadcast_to(one, 10**8)
+            tracemalloc.start()
+            count, found = columns.count_dates(many), columns.weekdays(many)
+            _, peak = tracemalloc.get_traced_memory()
+            tracemalloc.stop()
+            self.assertEqual((count, found.min(), found.max(), found.size), (10**8, 4, 4, 10**8))
             self.assertLess(peak - found.nbytes, 3 * 2**20)
 
     def test_in_place_of_a_copy(self):
