@@ -55,9 +55,10 @@ def _times(series: Any) -> Any:
 
 def _check_held(found: Any, given: Any, labels: Any, what: str) -> None:
     """Raises an error if a time that was given became none."""
-    is_none = _np.isnat(found)
-    # (most columns have none, and need no second look)
-    is_lost = is_none & ~_np.isnat(given) if is_none.any() else is_none
+    # (NaT is the least number, and most columns have none)
+    if found.view(_np.int64).min(initial=0) != -(2**63):
+        return
+    is_lost = _np.isnat(found) & ~_np.isnat(given)
     if is_lost.any():
         place = int(is_lost.argmax())
         said = f"{what} of {given[place]} at {labels[place]!r} is outside the calendar, or what {found.dtype} holds"

@@ -48,12 +48,22 @@ INLINE void dates_of(int64_t day, const int64_t *times, size_t count, int32_t *d
     }
 }
 
+/* A time of a date; none if there is no date, or 64 bits cannot hold it. */
+static int64_t held(wide time, int32_t date)
+{
+    bool is_held = date != CALENDAR_NONE && NONE < time && time <= INT64_MAX;
+    return is_held ? (int64_t)time : NONE;
+}
+
 INLINE void moved_by(int64_t day, const int64_t *times, const int32_t *starts, const int32_t *ends, size_t count, int64_t *moved)
 {
     for (size_t i = 0; i < count; i++) {
-        wide time = times[i] + (wide)((int64_t)ends[i] - starts[i]) * day;
-        bool is_held = ends[i] != CALENDAR_NONE && NONE < time && time <= INT64_MAX;
-        moved[i] = is_held ? (int64_t)time : NONE;
+        int64_t days = (int64_t)ends[i] - starts[i], end = (int64_t)ends[i] - CALENDAR_UNIX_EPOCH;
+        moved[i] = (int64_t)((uint64_t)times[i] + (uint64_t)days * (uint64_t)day);
+        /* (64 bits hold every time of the days between) */
+        if (ends[i] == CALENDAR_NONE || end <= NONE / day || INT64_MAX / day <= end) {
+            moved[i] = held(times[i] + (wide)days * day, ends[i]);
+        }
     }
 }
 

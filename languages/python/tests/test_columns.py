@@ -54,6 +54,11 @@ class Columns(unittest.TestCase):
             at = next((at for at, (left, right) in enumerate(zip(one, other)) if left != right), min(len(one), len(other)))
             self.fail(f"element {at}: {one[at:at + 1]} is not {other[at:at + 1]} {msg or ''}")
 
+    def holds(self, array, dtype, wanted):
+        """An array has a type and these elements."""
+        self.assertEqual(array.dtype, dtype)
+        self.assertEqual(array.tolist(), wanted)
+
     def some_numbers(self, count=COUNT):
         """Numbers of dates, near and far and at both ends, and of no dates."""
         kinds = (
@@ -289,7 +294,7 @@ class OpenDays(Columns):
     def test_is_open(self):
         for array, dates in self.near():
             found = columns.is_open(array, CALENDAR)
-            self.assertEqual((found.dtype, found.tolist()), (numpy.bool_, [bool(it) for it in self.wanted(CALENDAR.is_open, dates)]))
+            self.holds(found, numpy.bool_, [bool(it) for it in self.wanted(CALENDAR.is_open, dates)])
 
     def test_add_open_days(self):
         for days in (0, 1, -1, 3, -250, 2**40, -(2**40)):
@@ -311,14 +316,15 @@ class OpenDays(Columns):
             pairs = [(one, other) if one is not None and other is not None else None for one, other in zip(dates, others)]
             pairs = [it and tuple(map(Date.from_number, it)) for it in pairs]
             found = columns.open_days_between(array, ends, CALENDAR)
-            self.assertEqual((found.dtype, found.tolist()), (numpy.int64, [NAT if it is None else CALENDAR.between(*it) for it in pairs]))
+            self.holds(found, numpy.int64, [NAT if it is None else CALENDAR.between(*it) for it in pairs])
             for kind in DAY_COUNTS:
                 exact = [it and day_count(*it, kind) for it in pairs]
                 over, under = columns.day_counts(array, ends, kind)
                 self.assertEqual((over.dtype, under.dtype), (numpy.int64, numpy.int64))
                 self.assertEqual([None if b == 0 else type(it)(a, b) for it, a, b in zip(exact, over.tolist(), under.tolist())], exact)
                 parts = columns.year_fractions(array, ends, kind)
-                self.assertEqual((parts.dtype, numpy.isnan(parts).tolist()), (numpy.float64, [it is None for it in exact]))
+                self.assertEqual(parts.dtype, numpy.float64)
+                self.assertEqual(numpy.isnan(parts).tolist(), [it is None for it in exact])
                 self.assertEqual([it for it in parts.tolist() if it == it], [float(it) for it in exact if it is not None])
         days = numpy.array(["2024-03-28", "NaT"], "M8[D]")
         self.assertEqual(columns.open_days_between(days, numpy.datetime64("2024-04-03"), CALENDAR).tolist(), [2, NAT])
@@ -347,7 +353,7 @@ class Days(Columns):
     def test_unix_days(self):
         for array, dates in self.arrays(self.some_numbers()):
             found = columns.unix_days(array)
-            self.assertEqual((found.dtype, found.tolist()), (numpy.int32, [NONE if it is None else it - EPOCH for it in dates]))
+            self.holds(found, numpy.int32, [NONE if it is None else it - EPOCH for it in dates])
             for days in (found, found.astype(numpy.int64)):
                 self.assertEqual(self.number_array(columns.from_unix_days(days))[0], dates)
                 self.assertEqual(columns.from_unix_days(days, "i4").tolist(), [NONE if it is None else it for it in dates])
@@ -399,7 +405,8 @@ class Times(Columns):
             times, moments = self.times(unit)
             found = columns.time_texts(times)
             wanted = ["" if it is None else it.isoformat() for it in moments]
-            self.assertEqual((found.dtype, found.astype(str).tolist()), (numpy.dtype("S32"), wanted))
+            self.assertEqual(found.dtype, numpy.dtype("S32"))
+            self.holds(found.astype(str), "U32", wanted)
             for texts in (found, found.astype(str), found.astype("S40"), found.astype("U33")):
                 back = columns.from_time_texts(texts, f"M8[{unit}]")
                 self.assertEqual(back.view(numpy.int64).tolist(), [NAT if it is None else self.time_of(it, unit) for it in moments])
@@ -528,7 +535,7 @@ class Arrays(Columns):
     def test_other_whole_numbers(self):
         for kind in (numpy.int8, numpy.int16, numpy.uint8, numpy.uint16, numpy.uint32):
             found = columns.add_days(numpy.array([1, 100], kind), 300)
-            self.assertEqual((found.dtype, found.tolist()), (numpy.int64, [301, 400]))
+            self.holds(found, numpy.int64, [301, 400])
         self.assertEqual(columns.years([738_945, 0]).tolist(), [2024, 0])
 
     def test_many(self):
