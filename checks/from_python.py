@@ -20,7 +20,9 @@ TESTS = f"{PACKAGE}/tests"
 COUNTS = (r"\.\.\. ok()$", r"\.\.\. (?:FAIL|ERROR)()$")
 # Debian's Python, which may have numpy and pandas, and the tests that need no other package.
 DEBIAN = "/usr/bin/python3"
-ALONE = ("test_calls.py", "test_habits.py", "test_like_datetime.py", "test_layers.py")
+ALONE = ("test_calls.py", "test_habits.py", "test_like_datetime.py", "test_layers.py", "test_zoned.py")
+# The test that finds wrong lines soonest, by what stands in the path of a file.
+NEAREST = {"schedule": "test_layers.py", "business": "test_layers.py", "rule": "test_layers.py", "_zoned": "test_zoned.py"}
 # The tests and the pages that need other packages, which Debian's Python may have, and those packages.
 BESIDE = {"test_columns.py": ("numpy",), "test_pandas.py": ("numpy", "pandas"), "test_dask.py": ("numpy", "pandas", "dask.dataframe")}
 PAGES = {"columns.md": ("numpy",), "pandas.md": ("numpy", "pandas"), "dask.md": ("numpy", "pandas", "dask.dataframe")}
@@ -99,14 +101,14 @@ def test_beside_others(results, room, wheel):
     if program:
         test_examples(results, room, program, True)
         test_stubs(results, room, program)
-    if program and debian_has("croniter"):
+    if program and debian_has("croniter", "dateutil"):
         test_peers(results, program)
 
 
 def test_peers(results, program):
-    """Schedules and open days beside croniter and numpy."""
+    """Schedules, open days and rules beside croniter, numpy and dateutil."""
     counts = (r"^all: (\d+) passed", r"^all: .* (\d+) failed")
-    run(results, "schedules and open days in Python", [program, f"{TOP}/checks/python_layers.py"], counts, env=QUIET)
+    run(results, "schedules, open days and rules in Python", [program, f"{TOP}/checks/python_layers.py"], counts, env=QUIET)
 
 
 def test_stubs(results, room, program):
@@ -191,10 +193,11 @@ def fails(folder, objects, libraries, tests):
 
 
 def tests_of(path):
-    """The tests that a wrong line in a file has to fail: what needs other packages has its own."""
+    """The tests one of which a wrong line in a file has to fail, the nearest first: what needs other packages has its own."""
     name = TESTS_OF.get(os.path.basename(path))
     if not name:
-        return ALONE
+        nearest = [test for word, test in NEAREST.items() if word in path]
+        return (*nearest, *(it for it in ALONE if it not in nearest))
     return (name,) if debian_has(*BESIDE[name]) else ()
 
 

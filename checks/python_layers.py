@@ -3,8 +3,8 @@
 
     checks/python_layers.py [CASES [SEED]]
 
-It needs a Python with proved_calendar, croniter and numpy; checks/from_python.py runs it over the installed wheel. There are 20,000
-cases of each kind, or so many. The next and the last moment of a generated schedule have to be croniter's, with the answers left
+It needs a Python with proved_calendar, croniter and numpy; checks/from_python.py runs it over the installed wheel. There are
+20,000 cases of each kind, or so many. The next and the last moment of a generated schedule have to be croniter's, with the answers left
 out that checks/layers_peers.py leaves out. Open days are counted, and dates moved and rolled, by generated weekends and holidays.
 """
 import datetime
@@ -17,7 +17,7 @@ try:
 except ImportError:
     sys.exit("numpy and croniter are wanted: tools/setup installs Debian's")
 
-from proved_calendar import BusinessCalendar, Date, DateTime, Schedule
+from proved_calendar import BusinessCalendar, Date, Schedule
 
 FIRST_DAY, LAST_DAY = 10_000, 30_000
 # The name of each roll that numpy has.

@@ -4,6 +4,7 @@ A text in another form is written anew in the form of the proved reader, which t
 time, and which one it is, comes from there. Nothing here is proved.
 """
 import datetime
+import itertools
 import operator
 import re
 from typing import Any, NoReturn
@@ -107,6 +108,16 @@ def nanoseconds_of_text(text: str) -> int:
     units = {"weeks": 7 * _DAY, "days": _DAY, "hours": _HOUR, "minutes": _MINUTE, "seconds": _SECOND}
     whole = sum(int(found[name] or 0) * unit for name, unit in units.items()) + int((found["fraction"] or "").ljust(9, "0"))
     return -whole if found["sign"] == "-" else whole
+
+
+# ---- parts of a sequence of instances
+
+
+def slice_of(rule: Any, part: slice) -> list[Any]:
+    """The instances of a slice; with a number below 0 it is taken of all of them."""
+    if any(it is not None and it < 0 for it in (part.start, part.stop, part.step)):
+        return list(rule)[part]
+    return list(itertools.islice(rule, part.start, part.stop, part.step))
 
 
 # ---- texts that are refused

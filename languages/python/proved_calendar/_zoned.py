@@ -96,7 +96,7 @@ def of_timestamp(kind: Any, microseconds: int) -> Any:
 
 def timestamp_of_local(moment: Any) -> int:
     """The POSIX timestamp, in whole seconds, of what the local clock shows; by the fold where it shows it twice or skips it."""
-    shown = moment.seconds
+    shown: int = moment.seconds
     offsets = [_local_seconds(at) - at for at in (shown - _DAY_SECONDS, shown + _DAY_SECONDS)]
     found = [at for at in (shown - it for it in offsets) if _local_seconds(at) == shown]
     if found:

@@ -53,7 +53,7 @@ class Time:
         cls, hour: SupportsIndex = 0, minute: SupportsIndex = 0, second: SupportsIndex = 0, microsecond: SupportsIndex = _LEFT,
         *, nanosecond: SupportsIndex = _LEFT,
     ) -> Self:
-        fraction = {"microsecond": microsecond, "nanosecond": nanosecond}
+        fraction: dict[str, Any] = {"microsecond": microsecond, "nanosecond": nanosecond}
         return cls._of(DateTime(_DAY, hour, minute, second, **{name: it for name, it in fraction.items() if it is not _LEFT}))
 
     @classmethod
@@ -132,7 +132,7 @@ class Time:
         microsecond: SupportsIndex = _LEFT, nanosecond: SupportsIndex = _LEFT,
     ) -> Self:
         """Returns the time with these parts in place of its own; ValueError if there is none."""
-        given = {"hour": hour, "minute": minute, "second": second, "microsecond": microsecond, "nanosecond": nanosecond}
+        given: dict[str, Any] = {"hour": hour, "minute": minute, "second": second, "microsecond": microsecond, "nanosecond": nanosecond}
         moment = self._moment.replace(**{name: it for name, it in given.items() if it is not _LEFT})
         return type(self)(moment.hour, moment.minute, moment.second, nanosecond=moment.nanosecond)
 

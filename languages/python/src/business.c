@@ -98,6 +98,20 @@ static int32_t *numbers_of(PyObject *dates, size_t count)
     return numbers;
 }
 
+/* The calendar of a weekend and of holidays, whose memory it takes. */
+static PyObject *new_business(uint8_t weekend, int32_t *numbers, size_t count)
+{
+    BusinessCalendar *self = PyObject_New(BusinessCalendar, business_type);
+    if (!self) {
+        PyMem_Free(numbers);
+        return NULL;
+    }
+    self->weekend = weekend;
+    self->count = count;
+    self->holidays = numbers;
+    return (PyObject *)self;
+}
+
 /* The calendar of a weekend and of a list of dates. */
 static PyObject *business_of(uint8_t weekend, PyObject *dates)
 {
@@ -111,15 +125,7 @@ static PyObject *business_of(uint8_t weekend, PyObject *dates)
         PyMem_Free(numbers);
         return PyErr_Format(PyExc_ValueError, "%zu holidays: a calendar has at most %d", count, CALENDAR_MOST_HOLIDAYS);
     }
-    BusinessCalendar *self = PyObject_New(BusinessCalendar, business_type);
-    if (!self) {
-        PyMem_Free(numbers);
-        return NULL;
-    }
-    self->weekend = weekend;
-    self->count = count;
-    self->holidays = numbers;
-    return (PyObject *)self;
+    return new_business(weekend, numbers, count);
 }
 
 static PyObject *business_new(PyTypeObject *kind, PyObject *arguments, PyObject *keywords)

@@ -948,12 +948,12 @@ static PyMethodDef methods[] = {
     {"from_seconds", METHOD(from_seconds), METH_FASTCALL | METH_KEYWORDS | METH_CLASS,
      "from_seconds($type, /, seconds, nanos=0)\n--\n\nReturns the date-time with these fields; ValueError if there is none."},
     {"from_datetime", from_datetime, METH_O | METH_CLASS,
-     "from_datetime($type, moment, /)\n--\n\nReturns the date-time equal to a datetime.datetime without time zone."},
+     "from_datetime($type, moment, /)\n--\n\nReturns the date-time equal to a datetime.datetime, in its time zone."},
     {"fromisoformat", from_iso_format, METH_O | METH_CLASS,
      "fromisoformat($type, text, /)\n--\n\n"
      "Returns the date-time with this text: a date, T or a space, and HH:MM:SS. A point and up to nine digits may follow.\n"
-     "It also reads the other forms of datetime: compact texts, ISO weeks, a date alone, hours and minutes alone, and a\n"
-     "separator that is no digit. A text with an offset raises ValueError.\n\n"
+     "It also reads the other forms of datetime: compact texts, ISO weeks, a date alone, hours and minutes alone, a\n"
+     "separator that is no digit, and an offset, which gives a datetime.timezone.\n\n"
      ">>> DateTime.fromisoformat('20240229T1230') == DateTime.fromisoformat('2024-W09-4 12:30')\nTrue"},
     {"isoformat", METHOD(iso_format), METH_FASTCALL | METH_KEYWORDS,
      "isoformat($self, /, sep='T', timespec='auto')\n--\n\n"
@@ -974,7 +974,8 @@ static PyMethodDef methods[] = {
     {"toordinal", date_time_to_ordinal, METH_NOARGS,
      "toordinal($self, /)\n--\n\nReturns the day number of the date: 1 for 1 January of year 1."},
     {"replace", METHOD(date_time_replace), METH_FASTCALL | METH_KEYWORDS,
-     "replace($self, /, year=..., month=..., day=..., hour=..., minute=..., second=..., *, microsecond=..., nanosecond=...)\n--\n\n"
+     "replace($self, /, year=..., month=..., day=..., hour=..., minute=..., second=..., *, microsecond=..., nanosecond=...,\n"
+     "        tzinfo=..., fold=...)\n--\n\n"
      "Returns the date-time with these parts in place of its own; ValueError if it does not exist. microsecond and\n"
      "nanosecond each replace the whole fraction, so one of them can be given."},
     {"to_datetime", to_datetime, METH_NOARGS,
@@ -989,12 +990,13 @@ static PyMethodDef methods[] = {
 };
 
 PyDoc_STRVAR(documentation,
-"A date with a time of day, to the nanosecond, in no time zone.\n\n"
+"A date with a time of day, to the nanosecond, with or without a time zone.\n\n"
 "DateTime(date, hour=0, minute=0, second=0, nanosecond=0)\n"
-"DateTime(year, month, day, hour=0, minute=0, second=0, microsecond=0)\n\n"
+"DateTime(year, month, day, hour=0, minute=0, second=0, microsecond=0, tzinfo=None)\n\n"
 ">>> DateTime(Date(2024, 2, 29), 12) == DateTime(2024, 2, 29, 12)\nTrue\n\n"
-"Both take microsecond and nanosecond by name; each is the whole fraction, so one of them can be given. A DateTime is\n"
-"equal to the datetime.datetime of the same time that has no time zone, with the same hash.\n\n"
+"Both take microsecond and nanosecond by name; each is the whole fraction, so one of them can be given. Both take tzinfo, any\n"
+"datetime.tzinfo, and fold, which is 1 for the second one of two equal local times. A DateTime is equal to the datetime.datetime\n"
+"of the same time, or with time zones of the same instant, with the same hash. A move goes by the clock of the zone.\n\n"
 ">>> print(DateTime(Date(2016, 12, 31), 23, 59, 60) + Duration(seconds=1))\n2017-01-01T00:00:00\n\n"
 "The time can be in a leap second, the second 60 of a minute. A move from there counts this leap second and no other.\n"
 "Date-times are compared by date, then by time of day.\n\n"

@@ -12,7 +12,7 @@ import unittest
 import zoneinfo
 from datetime import timedelta, timezone
 
-from proved_calendar import Date, DateTime, Duration, Time
+from proved_calendar import Date, DateTime, Duration, Instant, Time
 
 COUNT = 1_000
 NAMES = ("Europe/Berlin", "America/New_York", "Australia/Lord_Howe", "Pacific/Apia", "Africa/Casablanca", "Europe/Dublin", "Asia/Kathmandu")
@@ -223,6 +223,46 @@ class Zones(Cases):
                     str(made), repr(made), made.to_datetime() == made, made - made.astimezone(timezone.utc), made.astimezone(Lengths()), copy.copy(made)]
         del made
         self.assertLess(sys.getrefcount(zone) - before, 3)
+
+
+class Instants(Cases):
+    def test_instants(self):
+        for ours, theirs in self.pairs():
+            instant = Instant.from_datetime(theirs)
+            self.assertEqual(instant, Instant.from_datetime(ours))
+            self.assertEqual(instant.timestamp(), theirs.timestamp())
+            self.assertEqual(instant, Instant.fromisoformat(theirs.isoformat()))
+            zone = self.a_zone()
+            self.assertEqual(Instant.from_datetime(instant.astimezone(zone)), instant)
+            if zone is not ours.tzinfo:
+                self.assertEqual(instant.astimezone(zone).isoformat(), ours.astimezone(zone).isoformat())
+            for again in (eval(repr(instant)), pickle.loads(pickle.dumps(instant)), copy.copy(instant), Instant.fromtimestamp(theirs.timestamp())):
+                self.assertEqual((again, hash(again)), (instant, hash(instant)))
+
+    def test_order(self):
+        one, other = Instant(0), Instant.fromisoformat("1970-01-01T01:00:00.000000001+01:00")
+        self.assertEqual((other.seconds, other.nanos, str(other)), (0, 1, "1970-01-01T00:00:00.000000001Z"))
+        self.assertTrue(one < other and one <= other and other > one and other >= one and one != other and not one == other)
+        self.assertEqual(other - one, Duration(nanoseconds=1))
+        self.assertEqual((one + timedelta(1), timedelta(1) + one, one - Duration(days=1)), (Instant(86_400), Instant(86_400), Instant(-86_400)))
+        self.assertEqual(f"{one:>25}", "     1970-01-01T00:00:00Z")
+        leap = Instant.fromisoformat("2016-12-31T23:59:60Z")
+        self.assertTrue(Instant.fromisoformat("2016-12-31T23:59:59Z") < leap < Instant.fromisoformat("2017-01-01T00:00:00Z"))
+        self.assertTrue(Instant.min < one < Instant.max)
+        self.assertLess(abs(Instant.now() - Instant.from_datetime(datetime.datetime.now(timezone.utc))), Duration(seconds=5))
+
+    def test_refusals(self):
+        one = Instant(0)
+        for call in (lambda: Instant.from_datetime(DateTime(2024, 1, 1)), lambda: Instant.from_datetime(datetime.datetime(2024, 1, 1)),
+                     lambda: Instant.fromisoformat("2024-01-01T00:00:00"), lambda: Instant(2**62), lambda: Instant(0, -1)):
+            self.assertRaises(ValueError, call)
+        for call in (lambda: one + 1, lambda: one - 1, lambda: one < 1, lambda: one <= DateTime(1970, 1, 1), lambda: one > 1, lambda: one >= 1,
+                     lambda: one.astimezone(None), lambda: one.astimezone("UTC"), lambda: Instant(), lambda: Instant.from_datetime(1)):
+            self.assertRaises(TypeError, call)
+        self.assertNotEqual(one, DateTime(1970, 1, 1, tzinfo=timezone.utc))
+        self.assertRaises(OverflowError, lambda: Instant.max + Duration(nanoseconds=1))
+        self.assertRaises(AttributeError, setattr, one, "seconds", 1)
+        self.assertRaises(AttributeError, delattr, one, "_utc")
 
 
 class Machine(Cases):

@@ -3,7 +3,7 @@ import datetime
 from fractions import Fraction
 
 from proved_calendar import (
-    BusinessCalendar, Date, DateTime, Duration, Schedule, TextError, Time, Weekday, day_count, days_in_month, days_until, is_leap_year,
+    BusinessCalendar, Date, DateTime, Duration, Instant, Schedule, TextError, Time, Weekday, day_count, days_in_month, days_until, is_leap_year,
 )
 
 
@@ -51,6 +51,13 @@ open_days: BusinessCalendar = BusinessCalendar([day, theirs], weekend=(Weekday.F
 reached: Date = open_days.roll(open_days.add(theirs, 3), "modified_following")
 are_open: int = open_days.is_open(day) + open_days.between(day, theirs) + len(open_days.holidays) + sum(open_days.weekend)
 part: Fraction = day_count(day, theirs, "thirty_360")
+
+instant: Instant = Instant.fromisoformat("2024-02-29T12:00:00Z") + longer - datetime.timedelta(1)
+since: Duration = instant - Instant.from_datetime(standard)
+shown_there: DateTime = instant.astimezone(datetime.timezone.utc)
+zoned: DateTime = DateTime(2024, 2, 29, tzinfo=datetime.timezone.utc, fold=1).astimezone()
+offset: Duration | None = zoned.utcoffset()
+zone: datetime.tzinfo | None = zoned.tzinfo
 
 days: int = days_in_month(2024, 2) + days_until({1, 2}, Weekday.FRIDAY) + is_leap_year(2024)
 text: str = f"{day:>12} {moment}" + day.isoformat()
