@@ -10,7 +10,7 @@
 void refuse(const char *what, const char *bytes, size_t length, size_t byte, const char *detail, const char *hint)
 {
     int named = pg_mbcliplen(bytes, (int)length, MOST_NAMED);
-    bool is_shown = length <= MOST_SHOWN;
+    bool is_shown = length > 0 && length <= MOST_SHOWN;
     ereport(ERROR, (errcode(ERRCODE_INVALID_TEXT_REPRESENTATION),
                     errmsg("invalid %s: \"%.*s%s\"", what, named, bytes, (size_t)named < length ? "..." : ""),
                     errdetail_internal("%s", detail), errhint("%s", hint),

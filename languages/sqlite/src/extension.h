@@ -16,6 +16,21 @@ enum { DATE_ROOM = 13, MOMENT_ROOM = 32 };
 
 /* ---- arguments.c: arguments that are read */
 
+/* The bytes of a text. */
+typedef struct {
+    const char *bytes;
+    size_t length;
+} Text;
+
+/* Takes the bytes of a value, which has to be a text. */
+bool read_text(const char *function, sqlite3_value *value, const char *what, Text *text, char **message);
+
+/* The day that a text writes, or CALENDAR_NONE. */
+int32_t day_of(Text text);
+
+/* The message that a text is not what it should be, since one part of it is no date. */
+char *refusal_of_part(const char *function, Text text, const char *what, size_t from, size_t end);
+
 /* Reads the text of a date. */
 bool read_day(const char *function, sqlite3_value *value, int32_t *day, char **message);
 
@@ -30,6 +45,19 @@ bool read_number(const char *function, sqlite3_value *value, sqlite3_int64 *numb
 
 /* Whether a value is the text of a date. */
 bool is_day(sqlite3_value *value);
+
+/* ---- calendars.c: weekends and holidays */
+
+/* A weekend, and holidays that rise strictly, none of them on the weekend. */
+typedef struct {
+    uint8_t weekend;
+    size_t count;
+    int32_t holidays[];
+} OpenDays;
+
+/* Reads the dates of a text as holidays, and the digits of another as weekdays; Saturday and Sunday if there is no other. The answer is
+ * memory of SQLite, or null. */
+OpenDays *read_calendar(const char *function, sqlite3_value *holidays, sqlite3_value *weekend, char **message);
 
 /* ---- answers.c: answers that are written */
 
@@ -59,6 +87,7 @@ const char *name_of(sqlite3_context *context);
 
 int add_dates(sqlite3 *db);
 int add_schedules(sqlite3 *db);
+int add_open_day_functions(sqlite3 *db);
 int add_days_of(sqlite3 *db);
 int add_due_between(sqlite3 *db);
 
