@@ -32,6 +32,11 @@ AS 'MODULE_PATHNAME', 'proved_due_between_of_timestamp' LANGUAGE C IMMUTABLE STR
 CREATE FUNCTION due_between(schedule text, after timestamptz, until timestamptz) RETURNS SETOF timestamptz
 AS 'MODULE_PATHNAME', 'proved_due_between_of_timestamptz' LANGUAGE C STABLE STRICT PARALLEL SAFE ROWS 100;
 
+-- Recurrence rules.
+
+CREATE FUNCTION rule_dates(rule text, start date, until date) RETURNS SETOF date
+AS 'MODULE_PATHNAME', 'proved_rule_dates' LANGUAGE C IMMUTABLE STRICT PARALLEL SAFE ROWS 100;
+
 -- Calendars, which users fill. Weekdays count from 1 for Monday to 7.
 
 CREATE TABLE business_calendars (

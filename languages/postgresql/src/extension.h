@@ -14,9 +14,6 @@
 #include "calendar.h"
 #include "calendar_layers.h"
 
-/* A set has at most so many rows. */
-#define MOST_ROWS 10000000
-
 /* ---- values.c: PostgreSQL's dates and times, and the library's */
 
 /* The day number of a date. Fails if the date is infinite, or comes after the calendar. */
@@ -30,6 +27,12 @@ calendar_date_time moment_of(Timestamp time);
 
 /* Whether PostgreSQL has the timestamp of a date-time, and the timestamp. */
 bool has_timestamp(calendar_date_time moment, Timestamp *time);
+
+/* A set has at most so many rows. */
+#define MOST_ROWS 10000000
+
+/* Fails if a set has its most rows before the next one. */
+void count_row(const char *function, uint64 before);
 
 /* ---- texts.c: texts that are read, and what is wrong with them */
 

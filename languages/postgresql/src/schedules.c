@@ -73,15 +73,6 @@ typedef struct {
     TimestampTz last, end;
 } Due;
 
-/* Fails if a set has its most rows. */
-static void count_row(const FuncCallContext *rows)
-{
-    if (rows->call_cntr >= MOST_ROWS) {
-        ereport(ERROR, (errcode(ERRCODE_PROGRAM_LIMIT_EXCEEDED), errmsg("due_between gives more than %d rows", MOST_ROWS),
-                        errhint("Ask for a shorter time.")));
-    }
-}
-
 /* Begins a set: reads the schedule into memory that stays until its end. */
 static Due *begin(FunctionCallInfo fcinfo)
 {
@@ -112,7 +103,7 @@ Datum proved_due_between_of_timestamp(PG_FUNCTION_ARGS)
     if (due->at == due->count || !has_timestamp(due->found[due->at], &time)) {
         SRF_RETURN_DONE(rows);
     }
-    count_row(rows);
+    count_row("due_between", rows->call_cntr);
     due->at++;
     SRF_RETURN_NEXT(rows, TimestampGetDatum(time));
 }
@@ -131,6 +122,6 @@ Datum proved_due_between_of_timestamptz(PG_FUNCTION_ARGS)
     if (!next_instant(&due->schedule, due->last, &due->last) || due->last > due->end) {
         SRF_RETURN_DONE(rows);
     }
-    count_row(rows);
+    count_row("due_between", rows->call_cntr);
     SRF_RETURN_NEXT(rows, TimestampTzGetDatum(due->last));
 }

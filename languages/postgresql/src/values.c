@@ -56,3 +56,11 @@ bool has_timestamp(calendar_date_time moment, Timestamp *time)
     *time = (moment.seconds - POSTGRES_SECOND) * USECS_PER_SEC + moment.nanos / 1000;
     return IS_VALID_TIMESTAMP(*time);
 }
+
+void count_row(const char *function, uint64 before)
+{
+    if (before >= MOST_ROWS) {
+        ereport(ERROR, (errcode(ERRCODE_PROGRAM_LIMIT_EXCEEDED), errmsg("%s gives more than %d rows", function, MOST_ROWS),
+                        errhint("Ask for a shorter time.")));
+    }
+}
