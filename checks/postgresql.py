@@ -82,12 +82,12 @@ ORDER BY 1, 6
 """
 # A good value of each type, and for a text of each function.
 VALUES = {
-    "date": "date '2024-03-28'", "integer": "2", "date[]": "'{2024-03-29}'::date[]", "integer[]": "'{6,7}'::integer[]",
+    "date": "date '2024-03-28'", "integer": "2024", "date[]": "'{2024-03-29}'::date[]", "integer[]": "'{6,7}'::integer[]",
     "timestamp without time zone": "timestamp '2024-03-28 12:00'", "timestamp with time zone": "timestamptz '2024-03-28 12:00'",
 }
 TEXTS = {
     "next_due": ["'@daily'"], "due_between": ["'@daily'"], "rule_dates": ["'FREQ=DAILY'"], "roll": ["'following'", "'plain'"],
-    "add_open_days": ["'plain'"], "open_days": ["'plain'"], "year_fraction": ["'30/360'"],
+    "given_holidays": ["'target'"], "add_open_days": ["'plain'"], "open_days": ["'plain'"], "year_fraction": ["'30/360'"],
 }
 BEYOND = {
     "date": ("'infinity'", "'-infinity'", "'262143-01-01'", "'5874897-12-31'"),

@@ -12,10 +12,10 @@ DAY, SECOND, FIRST, LAST = 730_120, 946_684_800, -2_451_545, 95_745_399 - 730_12
 KINDS = ("actual/actual", "actual/360", "actual/365", "30/360", "30e/360")
 ROLLS = ("unadjusted", "following", "preceding", "modified-following", "modified-preceding", "nearest-isda", "nearest-quantlib")
 SCHEDULES = (
-    "0 9 * * mon-fri", "30 4 1,15 * fri", "*/15 * * * *", "0 0 29 2 *", "59 23 31 12 *", "5-10 */3 * jan,jul *", "0 0 * * 0", "@daily",
-    "@hourly", "@monthly", "0 0 30 2 *",
+    "0 9 * * mon-fri", "30 4 1,15 * fri", "*/15 * * * *", "0 0 29 2 *", "59 23 31 12 *", "5-10 */3 * jan,jul *", "0 0 * * 0", "0 12 l * *", "@daily",
+    "@hourly", "@monthly", "0 0 30 2 *", "15 2 15w * *", "30 2 * * 5#2",
 )
-RULES = ("FREQ=DAILY","FREQ=WEEKLY;COUNT=5","FREQ=MONTHLY") or (
+RULES = (
     "FREQ=MONTHLY;BYDAY=-1FR", "FREQ=MONTHLY;COUNT=7", "FREQ=DAILY;INTERVAL=10", "FREQ=YEARLY;BYMONTH=2;BYMONTHDAY=29", "FREQ=WEEKLY;BYDAY=MO,WE;WKST=SU",
     "FREQ=MONTHLY;BYDAY=MO,TU,WE,TH,FR;BYSETPOS=-1", "FREQ=YEARLY;BYWEEKNO=20;BYDAY=MO", "FREQ=DAILY;UNTIL=20200101", "FREQ=MONTHLY;BYMONTHDAY=30;BYMONTH=2",
 )
@@ -138,7 +138,7 @@ def compare_rows(results, server, what, columns, rows, answer, wanted):
     wrong = [(row, it, text_of(right)) for row, it, right in zip(rows, told, wanted) if it != text_of(right)]
     results.passed += len(rows) - len(wrong)
     for row, it, right in wrong[:5]:
-        results.count(False, f"{what} of {row}: {it}, and {right} is wanted")
+        results.count(False, f"{what} of {row}: {it[:200]}, and {right[:200]} is wanted")
     results.failed += max(0, len(wrong) - 5)
     print(f"{what}: {len(rows)} rows", flush=True)
 

@@ -14,8 +14,10 @@ CALLS = {
     "next_due": "extract(epoch FROM next_due('0 9 * * mon-fri', day::timestamp))", "add_open_days": "add_open_days(day, 3, 'office') - day",
     "open_days": "open_days(day, day + 30, 'office')", "roll": "roll(day, 'following', 'office') - day",
     "next_due of instants": "extract(epoch FROM next_due('0 9 * * mon-fri', day::timestamptz))", "listed": "add_open_days(day, 3, '{2024-12-25}'::date[]) - day",
-    "due_between": "(SELECT count(*) FROM due_between('@daily', day::timestamp, day + interval '9 days'))",
-    "rule_dates": "(SELECT count(*) FROM rule_dates('FREQ=DAILY', day, day + 9))",
+}
+SETS = {
+    "due_between": "due_between('@daily', day::timestamp, day + interval '4 days')", "rule_dates": "rule_dates('FREQ=DAILY', day, day + 4)",
+    "given_holidays": "given_holidays('target', extract(year FROM day)::integer, extract(year FROM day)::integer)",
 }
 FILL = """
 CREATE TABLE many AS SELECT date '1990-01-01' + (n % 20000)::integer AS day FROM generate_series(1, 100000) n;
@@ -29,12 +31,16 @@ INSERT INTO business_holidays SELECT 'office', make_date(y, m, d) FROM generate_
 def try_workers(results, server):
     """Each function is run by workers, and their answers are those of one process."""
     server.ask(FILL)
-    for name, call in CALLS.items():
-        told = server.ask(f"{FORCED}EXPLAIN (ANALYZE, COSTS OFF, TIMING OFF) SELECT sum({call}) FROM many")
-        results.count(re.search(r"Workers Launched: [1-9]", told) and "Partial Aggregate" in told, f"{name}: no workers in the plan\n{told}")
-        alone, together = (server.ask(f"{how}SELECT sum({call}) FROM many") for how in ("SET max_parallel_workers_per_gather = 0;", FORCED))
+    queries = {name: f"SELECT sum({call}) FROM many" for name, call in CALLS.items()}
+    queries |= {name: f"SELECT count(*) + count(DISTINCT it) FROM many, {call} it WHERE extract(day FROM day) = 1" for name, call in SETS.items()}
+    for name, query in queries.items():
+        told = server.ask(f"{FORCED}EXPLAIN (ANALYZE, COSTS OFF, TIMING OFF) {query}")
+        results.count(re.search(r"Workers Launched: [1-9]", told), f"{name}: no workers in the plan\n{told}")
+        is_below = re.search(rf"Gather.*(?:Partial Aggregate|Function Scan on {name})", told, re.S)
+        results.count(is_below, f"{name}: the workers do not call it\n{told}")
+        alone, together = (server.ask(f"{how}{query}") for how in ("SET max_parallel_workers_per_gather = 0;", FORCED))
         results.count(alone == together and re.fullmatch(r"[\d.]+", alone), f"{name}: workers answer {together}, and one process {alone}")
-    print(f"parallel plans: {len(CALLS)}", flush=True)
+    print(f"parallel plans: {len(queries)}", flush=True)
 
 
 def try_restart(results, server):

@@ -17,6 +17,9 @@ AS 'MODULE_PATHNAME', 'proved_iso_week_of_timestamp' LANGUAGE C IMMUTABLE STRICT
 CREATE FUNCTION iso_week(moment timestamptz) RETURNS integer
 AS 'MODULE_PATHNAME', 'proved_iso_week_of_timestamptz' LANGUAGE C STABLE STRICT PARALLEL SAFE;
 
+CREATE FUNCTION easter(year integer) RETURNS date
+AS 'MODULE_PATHNAME', 'proved_easter' LANGUAGE C IMMUTABLE STRICT PARALLEL SAFE;
+
 CREATE FUNCTION year_fraction(day_count text, "from" date, until date) RETURNS double precision
 AS 'MODULE_PATHNAME', 'proved_year_fraction' LANGUAGE C IMMUTABLE STRICT PARALLEL SAFE;
 
@@ -54,6 +57,21 @@ CREATE TABLE business_holidays (
 SELECT pg_catalog.pg_extension_config_dump('business_calendars', '');
 SELECT pg_catalog.pg_extension_config_dump('business_holidays', '');
 GRANT SELECT ON business_calendars, business_holidays TO PUBLIC;
+
+CREATE FUNCTION given_holidays(calendar text, first_year integer, last_year integer) RETURNS SETOF date
+AS 'MODULE_PATHNAME', 'proved_given_holidays' LANGUAGE C IMMUTABLE STRICT PARALLEL SAFE ROWS 100;
+
+-- It is bound to the tables, in whatever schema they are.
+CREATE FUNCTION fill_calendar(name text, first_year integer, last_year integer) RETURNS bigint LANGUAGE sql STRICT
+BEGIN ATOMIC
+    INSERT INTO business_calendars (name) VALUES (fill_calendar.name) ON CONFLICT DO NOTHING;
+    WITH added AS (
+        INSERT INTO business_holidays (calendar, day)
+        SELECT fill_calendar.name, day FROM given_holidays(fill_calendar.name, first_year, last_year) day
+        ON CONFLICT DO NOTHING RETURNING 1
+    )
+    SELECT count(*) FROM added;
+END;
 
 -- Open days. Those of a calendar by its name read the tables, so they are STABLE.
 

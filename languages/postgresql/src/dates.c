@@ -10,6 +10,7 @@ PG_FUNCTION_INFO_V1(proved_add_months_of_timestamptz);
 PG_FUNCTION_INFO_V1(proved_iso_week_of_date);
 PG_FUNCTION_INFO_V1(proved_iso_week_of_timestamp);
 PG_FUNCTION_INFO_V1(proved_iso_week_of_timestamptz);
+PG_FUNCTION_INFO_V1(proved_easter);
 PG_FUNCTION_INFO_V1(proved_year_fraction);
 
 /* What the clock of the session's zone shows at an instant. */
@@ -62,6 +63,11 @@ Datum proved_iso_week_of_timestamp(PG_FUNCTION_ARGS)
 Datum proved_iso_week_of_timestamptz(PG_FUNCTION_ARGS)
 {
     PG_RETURN_INT32(calendar_iso_week(calendar_date_time_date(moment_of(local_of(PG_GETARG_TIMESTAMPTZ(0))))));
+}
+
+Datum proved_easter(PG_FUNCTION_ARGS)
+{
+    PG_RETURN_DATEADT(date_of(calendar_easter(PG_GETARG_INT32(0))));
 }
 
 /* The day counts in the order of calendar_layers.h. */

@@ -26,7 +26,7 @@ static void check_rule(const text *value)
     uint8_t said[200];
     if (!calendar_rule_check((const uint8_t *)bytes, length, &fault)) {
         int32_t size = calendar_rule_fault_text(&fault, said, sizeof said);
-        refuse("rule", bytes, length, fault.byte, psprintf("%.*s", (int)size, (char *)said),
+        refuse("rule", bytes, length, fault.byte, psprintf("byte %zu: %.*s", fault.byte, (int)size, (char *)said),
                "A rule has parts with semicolons between them, as in \"FREQ=MONTHLY;BYDAY=-1FR\".");
     }
 }

@@ -37,3 +37,8 @@ ANALYZE days;
 SET enable_seqscan = off;
 EXPLAIN (COSTS OFF) SELECT * FROM days WHERE iso_week(day) = 53;
 SELECT count(*), min(day) FROM days WHERE iso_week(day) = 53;
+-- Easter.
+SELECT easter(2024), easter(1583), easter(-4711), easter(262142);
+SELECT easter(262143);
+SELECT easter(-4713);
+SELECT easter(2147483647);

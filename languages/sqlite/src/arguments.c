@@ -203,6 +203,22 @@ bool read_schedule(const char *function, sqlite3_value *value, calendar_schedule
     return is_read;
 }
 
+bool read_word(const char *function, sqlite3_value *value, const char *what, const char *const *words, uint32_t *number, char **message)
+{
+    Text text;
+    if (!read_text(function, value, what, &text, message)) {
+        return false;
+    }
+    for (*number = 0; words[*number]; ++*number) {
+        /* (a byte of zero ends the comparison, and the length tells such texts apart) */
+        if (sqlite3_stricmp(words[*number], text.bytes) == 0 && words[*number][text.length] == 0) {
+            return true;
+        }
+    }
+    *message = sqlite3_mprintf("%s: %!.80Q is no %s, such as %s", function, text.bytes, what, words[1]);
+    return false;
+}
+
 bool read_number(const char *function, sqlite3_value *value, sqlite3_int64 *number, char **message)
 {
     bool is_number = sqlite3_value_type(value) == SQLITE_INTEGER;

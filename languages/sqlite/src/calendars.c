@@ -5,9 +5,6 @@
 
 SQLITE_EXTENSION_INIT3
 
-/* Saturday and Sunday. */
-#define PLAIN_WEEKEND 96
-
 static bool is_between(char byte)
 {
     return byte == ',' || byte == ' ' || byte == '\n';

@@ -40,6 +40,9 @@ bool read_moment(const char *function, sqlite3_value *value, calendar_date_time 
 /* Reads a schedule as cron writes it. */
 bool read_schedule(const char *function, sqlite3_value *value, calendar_schedule *schedule, char **message);
 
+/* Reads a word of a list that ends with null, in any case, as its number. */
+bool read_word(const char *function, sqlite3_value *value, const char *what, const char *const *words, uint32_t *number, char **message);
+
 /* Reads a whole number. */
 bool read_number(const char *function, sqlite3_value *value, sqlite3_int64 *number, char **message);
 
@@ -47,6 +50,9 @@ bool read_number(const char *function, sqlite3_value *value, sqlite3_int64 *numb
 bool is_day(sqlite3_value *value);
 
 /* ---- calendars.c: weekends and holidays */
+
+/* Saturday and Sunday. */
+#define PLAIN_WEEKEND 96
 
 /* A weekend, and holidays that rise strictly, none of them on the weekend. */
 typedef struct {
@@ -90,6 +96,8 @@ int add_schedules(sqlite3 *db);
 int add_open_day_functions(sqlite3 *db);
 int add_days_of(sqlite3 *db);
 int add_due_between(sqlite3 *db);
+int add_rule_dates(sqlite3 *db);
+int add_holidays_of(sqlite3 *db);
 
 /* ---- tables.c: functions whose answer is a table */
 
@@ -105,10 +113,17 @@ typedef struct {
     /* days_of */
     int32_t day, last;
     sqlite3_int64 step;
-    /* due_between: the moments that are found, and the place of the present one */
+    /* what is found, and the place of the present row in it */
+    size_t count, at;
+    /* due_between */
     calendar_schedule schedule;
     calendar_date_time until, found[CHUNK];
-    size_t count, at;
+    /* rule_dates: the text of the rule belongs to an argument */
+    Text rule;
+    int32_t start, days[CHUNK];
+    /* holidays_of */
+    uint32_t which;
+    sqlite3_int64 year, last_year;
 } Cursor;
 
 /* A function whose answer is a table of one column. */

@@ -76,23 +76,6 @@ static const char *const ROLLS[] = {
 /* The day counts in the order of calendar_layers.h. */
 static const char *const DAY_COUNTS[] = {"actual/actual", "actual/360", "actual/365", "30/360", "30e/360", NULL};
 
-/* Reads a word of a list, in any case, as its number. */
-static bool read_word(const char *function, sqlite3_value *value, const char *what, const char *const *words, uint32_t *number, char **message)
-{
-    Text text;
-    if (!read_text(function, value, what, &text, message)) {
-        return false;
-    }
-    for (*number = 0; words[*number]; ++*number) {
-        /* (a byte of zero ends the comparison, and the length tells such texts apart) */
-        if (sqlite3_stricmp(words[*number], text.bytes) == 0 && words[*number][text.length] == 0) {
-            return true;
-        }
-    }
-    *message = sqlite3_mprintf("%s: %!.80Q is no %s, such as %s", function, text.bytes, what, words[1]);
-    return false;
-}
-
 static void roll(sqlite3_context *context, int count, sqlite3_value **values)
 {
     const char *name = name_of(context);
