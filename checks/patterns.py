@@ -104,8 +104,9 @@ class Moment:
         self.iso_week = (thursday - Moment.new_year(self.iso_year)) // 7 + 1
 
     def weeks(self, weekday):
-        """How many days of the year up to this one have the weekday."""
-        return sum((day - 1) % 7 == weekday for day in range(self.day - self.ordinal + 1, self.day + 1))
+        """How many days of the year up to this one have the weekday: every seventh from the first on."""
+        start = self.day - self.ordinal + 1
+        return len(range(start + (weekday - start + 1) % 7, self.day + 1, 7))
 
     @staticmethod
     def new_year(year):
@@ -113,19 +114,24 @@ class Moment:
         return 365 * past + past // 4 - past // 100 + past // 400 + 1
 
 
+# Of each number: its value, its fewest digits, and what is put in front of fewer.
+VALUES = {
+    "Y": (lambda m: m.year, 4, "0"), "C": (lambda m: m.year // 100, 2, "0"), "y": (lambda m: m.year % 100, 2, "0"), "q": (lambda m: (m.month + 2) // 3, 1, "0"),
+    "m": (lambda m: m.month, 2, "0"), "d": (lambda m: m.of_month, 2, "0"), "e": (lambda m: m.of_month, 2, "_"), "j": (lambda m: m.ordinal, 3, "0"),
+    "u": (lambda m: m.weekday + 1, 1, "0"), "w": (lambda m: (m.weekday + 1) % 7, 1, "0"), "G": (lambda m: m.iso_year, 4, "0"),
+    "g": (lambda m: m.iso_year % 100, 2, "0"), "V": (lambda m: m.iso_week, 2, "0"), "U": (lambda m: m.weeks(6), 2, "0"), "W": (lambda m: m.weeks(0), 2, "0"),
+    "H": (lambda m: m.at // 3600, 2, "0"), "k": (lambda m: m.at // 3600, 2, "_"), "I": (lambda m: (m.at // 3600 + 11) % 12 + 1, 2, "0"),
+    "l": (lambda m: (m.at // 3600 + 11) % 12 + 1, 2, "_"), "M": (lambda m: m.at // 60 % 60, 2, "0"), "S": (lambda m: m.at % 60 + m.fraction // NANOS, 2, "0"),
+    "f": (lambda m: m.fraction % NANOS, 9, "0"),
+}
+
+
 def number(moment, code, padding):
     """A number: its sign, its digits, and what is missing."""
-    m, hour = moment, moment.at // 3600
     if code == "s":
-        return str((m.day - EPOCH) * 86_400 + m.at - m.offset)
-    value, least, usual = {
-        "Y": (m.year, 4, "0"), "C": (m.year // 100, 2, "0"), "y": (m.year % 100, 2, "0"), "q": ((m.month + 2) // 3, 1, "0"),
-        "m": (m.month, 2, "0"), "d": (m.of_month, 2, "0"), "e": (m.of_month, 2, "_"), "j": (m.ordinal, 3, "0"),
-        "u": (m.weekday + 1, 1, "0"), "w": ((m.weekday + 1) % 7, 1, "0"), "G": (m.iso_year, 4, "0"), "g": (m.iso_year % 100, 2, "0"),
-        "V": (m.iso_week, 2, "0"), "U": (m.weeks(6), 2, "0"), "W": (m.weeks(0), 2, "0"), "H": (hour, 2, "0"), "k": (hour, 2, "_"), "I": ((hour + 11) % 12 + 1, 2, "0"),
-        "l": ((hour + 11) % 12 + 1, 2, "_"), "M": (m.at // 60 % 60, 2, "0"), "S": (m.at % 60 + m.fraction // NANOS, 2, "0"),
-        "f": (m.fraction % NANOS, 9, "0"),
-    }[code]
+        return str((moment.day - EPOCH) * 86_400 + moment.at - moment.offset)
+    of, least, usual = VALUES[code]
+    value = of(moment)
     signed = code in "YG" and not 0 <= value <= 9999
     least += signed
     form = "+" if signed else ""
