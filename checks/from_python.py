@@ -138,7 +138,8 @@ def test_by_datetime(results, room, wheel):
 def test_columns_called(results):
     """Each function for columns is called, but for those that change a column in place."""
     text = "".join(read(f"{PACKAGE}/proved_calendar/{it}") for it in ("columns.py", "_arrays.py"))
-    for name in re.findall(r"^\w+ calendar_column_(\w+)\(", read(f"{LANGUAGES}/c/calendar.h"), re.M):
+    headers = "".join(read(f"{LANGUAGES}/c/{it}.h") for it in ("calendar", "calendar_layers"))
+    for name in re.findall(r"^\w+ calendar_column_(\w+)\(", headers, re.M):
         if not name.endswith("in_place"):
             results.count(re.search(rf"\"{name}\"|calendar_column_{name}\b", text), f"columns.py calls no calendar_column_{name}")
 

@@ -43,11 +43,14 @@ def call(name: str, *arguments: Any) -> None:
     """Calls a function for columns. An array is passed as its address and its length, and a number as 32 bits."""
     words: list[Any] = []
     for it in arguments:
-        words += [ctypes.c_int32(it)] if isinstance(it, int) else [address(it), ctypes.c_size_t(it.size)]
+        if isinstance(it, np.ndarray):
+            words += [address(it), ctypes.c_size_t(it.size)]
+        else:
+            words.append(ctypes.c_int32(it) if isinstance(it, int) else it)
     function = getattr(LIBRARY, f"calendar_column_{name}")
     function.restype = ctypes.c_bool
     if not function(*words):
-        raise RuntimeError(f"calendar_column_{name} is given columns of different lengths")
+        raise RuntimeError(f"calendar_column_{name} refuses its columns")
 
 
 def loop(name: str, *arguments: Any) -> None:

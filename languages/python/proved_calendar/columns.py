@@ -32,7 +32,7 @@ from typing import Any, NamedTuple, SupportsIndex
 from . import _calendar
 from ._arrays import (
     LIBRARY, NAT, NONE, TEXT, UNITS, Dates, Int32, Layout, Times, array_of, call as _call, flat64, layout_of, loop as _loop, np as _np,
-    numbers_of_days, pieces, small_of, whole,
+    pieces, small_of, whole,
 )
 
 __all__ = [
@@ -298,30 +298,35 @@ def unix_days(dates: Any) -> Any:
     column = Dates(dates)
     out = _np.empty(column.size, _np.int32)
     for piece in column.pieces():
-        days = _np.empty(piece.stop - piece.start, _np.int64)
-        _call("to_unix_days", column.numbers(piece), days)
-        out[piece] = _np.maximum(days, NONE)
+        _call("to_date32", column.numbers(piece), out[piece])
     return out.reshape(column.shape)
 
 
 def from_unix_days(days: Any, dtype: Any = "M8[D]") -> Any:
     """Returns the date of each number of days since 1 January 1970, such as date32 of Arrow has them."""
-    shape = _np.shape(days)
-    parts = small_of("days", days, _np.int64, shape)
-    return _new(_made_of(dtype), shape, lambda piece: numbers_of_days(parts(piece)))
+    values, layout = array_of(days), _made_of(dtype)
+    parts = small_of("days", values, values.dtype if values.dtype == _np.int32 else _np.int64, values.shape)
+
+    def read(piece: slice) -> Any:
+        part = parts(piece)
+        found = _np.empty(part.size, _np.int32)
+        _call("from_date32" if part.dtype == _np.int32 else "from_unix_days", part, found)
+        return found
+
+    return _new(layout, values.shape, read)
 
 
 # ---- open days and day counts
 
 
 @functools.lru_cache(maxsize=16)
-def _closed_on(calendar: Any) -> tuple[int, Any, int]:
-    """The weekend of a calendar as a set, the day numbers of its holidays, and how many they are."""
+def _closed_on(calendar: Any) -> tuple[int, Any]:
+    """The weekend of a calendar as a set, and the day numbers of its holidays."""
     weekend = sum(1 << (it - 1) for it in calendar.weekend)
-    return weekend, _np.array([it.number for it in calendar.holidays], _np.int32), len(calendar.holidays)
+    return weekend, _np.array([it.number for it in calendar.holidays], _np.int32)
 
 
-def _closed(calendar: Any) -> tuple[int, Any, int]:
+def _closed(calendar: Any) -> tuple[int, Any]:
     """The same; a TypeError if it is no calendar."""
     if not isinstance(calendar, _calendar.BusinessCalendar):
         raise TypeError(f"a BusinessCalendar is wanted, not {type(calendar).__name__}")
@@ -342,7 +347,7 @@ def is_open(dates: Any, calendar: Any) -> Any:
     column, closed = Dates(dates), _closed(calendar)
     out = _np.empty(column.size, _np.bool_)
     for piece in column.pieces():
-        _loop("open", *closed, column.numbers(piece), piece.stop - piece.start, out[piece])
+        _call("is_open_day", *closed, column.numbers(piece), out[piece])
     return out.reshape(column.shape)
 
 
@@ -352,8 +357,12 @@ def add_open_days(dates: Any, days: Any, calendar: Any) -> Any:
     From a closed day the next open day counts as the first. If days is 0, returns the first open day from the date on. A time of
     day stays the same.
     """
-    column, closed = Dates(dates), _closed(calendar)
-    steps = small_of("days", days if _np.ndim(days) else whole("days", days), _np.int64, column.shape)
+    column, (weekend, holidays) = Dates(dates), _closed(calendar)
+    if not _np.ndim(days):
+        number = ctypes.c_int64(whole("days", days))
+        return _moved_by(column, lambda _, starts, moved: _call("add_open_days", weekend, holidays, starts, number, moved))
+    steps = small_of("days", days, _np.int64, column.shape)
+    closed = weekend, holidays, holidays.size
     return _moved_by(column, lambda piece, starts, moved: _loop("add_open", *closed, starts, steps(piece), starts.size, moved))
 
 
@@ -364,7 +373,7 @@ def roll(dates: Any, how: str, calendar: Any) -> Any:
     'nearest_quantlib' or 'unadjusted'. A time of day stays the same.
     """
     column, closed, number = Dates(dates), _closed(calendar), _number_of("roll", how, _ROLLS)
-    return _moved_by(column, lambda _, starts, moved: _loop("roll", *closed, starts, starts.size, number, moved))
+    return _moved_by(column, lambda _, starts, moved: _call("roll", *closed, starts, number, moved))
 
 
 def open_days_between(dates: Any, ends: Any, calendar: Any) -> Any:
@@ -375,7 +384,7 @@ def open_days_between(dates: Any, ends: Any, calendar: Any) -> Any:
     (column, end), closed = _pair(dates, ends), _closed(calendar)
     out = _np.empty(column.size, _np.int64)
     for piece in column.pieces():
-        _loop("open_between", *closed, column.numbers(piece), end.numbers(piece), piece.stop - piece.start, out[piece])
+        _call("open_days_between", *closed, column.numbers(piece), end.numbers(piece), out[piece])
     return out.reshape(column.shape)
 
 

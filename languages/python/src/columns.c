@@ -156,34 +156,12 @@ LOOP proved_read_times(const uint8_t *texts, size_t width, size_t count, int64_t
 
 /* ---- open days and day counts: a calendar is a weekend and holidays, of which there are `closed` */
 
-LOOP proved_open(int64_t weekend, const int32_t *holidays, size_t closed, const int32_t *dates, size_t count, bool *are_open)
-{
-    for (size_t i = 0; i < count; i++) {
-        are_open[i] = calendar_is_open_day((uint8_t)weekend, holidays, closed, dates[i]);
-    }
-}
-
+/* The open day that is so many open days later, with its own number for each date. */
 LOOP proved_add_open(int64_t weekend, const int32_t *holidays, size_t closed, const int32_t *dates, const int64_t *steps,
                      size_t count, int32_t *moved)
 {
     for (size_t i = 0; i < count; i++) {
         moved[i] = calendar_add_open_days((uint8_t)weekend, holidays, closed, dates[i], steps[i]);
-    }
-}
-
-LOOP proved_open_between(int64_t weekend, const int32_t *holidays, size_t closed, const int32_t *dates, const int32_t *ends,
-                         size_t count, int64_t *days)
-{
-    for (size_t i = 0; i < count; i++) {
-        days[i] = calendar_open_days_between((uint8_t)weekend, holidays, closed, dates[i], ends[i]);
-    }
-}
-
-LOOP proved_roll(int64_t weekend, const int32_t *holidays, size_t closed, const int32_t *dates, size_t count, int64_t how,
-                 int32_t *rolled)
-{
-    for (size_t i = 0; i < count; i++) {
-        rolled[i] = calendar_roll((uint8_t)weekend, holidays, closed, dates[i], (uint32_t)how);
     }
 }
 
