@@ -3,11 +3,13 @@ SET timezone = 'Europe/Berlin';
 SELECT next_due('0 9 * * mon-fri', timestamp '2024-03-01 08:59:59.999999'), next_due('0 9 * * mon-fri', timestamp '2024-03-01 09:00');
 SELECT next_due('30 4 1,15 * fri', timestamp '2024-02-09 04:30'), next_due('@daily', timestamp '1969-12-30 23:59:59.5');
 SELECT next_due('0 0 30 2 *', timestamp '2024-01-01') IS NULL, next_due('@daily', timestamp '0001-12-31 BC');
+SELECT next_due('@daily', timestamp '1969-12-31 12:00');
 SELECT next_due('@daily', timestamp '262142-12-31') IS NULL, next_due('59 23 * * *', timestamp '262142-12-31');
 -- The clock shows no 02:30 on 31 March, and two on 27 October.
 SELECT next_due('30 2 * * *', timestamptz '2024-03-30 12:00'), next_due('0 3 * * *', timestamptz '2024-03-30 12:00');
 SELECT next_due('30 2 * * *', timestamptz '2024-10-26 12:00'), next_due('30 2 * * *', timestamptz '2024-10-27 02:30+02');
 SELECT next_due('30 2 * * *', timestamptz '2024-10-27 02:30+01'), next_due('0 2 27 10 *', timestamptz '2024-10-27 02:00+02');
+SELECT next_due('0 3 * * *', timestamptz '2024-10-27 00:00+02');
 SELECT next_due('0 0 29 2 *', timestamptz '2096-03-01'), next_due('0 0 30 2 *', timestamptz '2024-01-01') IS NULL;
 SELECT next_due('@daily', timestamptz '1800-01-01 12:00');
 SET timezone = 'UTC';
