@@ -1,6 +1,6 @@
 """The package for Python as its users install it: the wheel into fresh environments with no network, its tests and the example
-there, the same wheel under other versions of Python and beside numpy and pandas, CPython's own tests of datetime over it, the package
-of sources built, its types by mypy, and wrong lines planted in its C and its Python."""
+there, the same wheel under other versions of Python and beside numpy, pandas and Dask, CPython's own tests of datetime over it, the
+package of sources built, its types by mypy, and wrong lines planted in its C and its Python."""
 import glob
 import os
 import re
@@ -23,6 +23,12 @@ DEBIAN = "/usr/bin/python3"
 ALONE = ("test_calls.py", "test_habits.py", "test_like_datetime.py", "test_layers.py", "test_zoned.py")
 # The test that finds wrong lines soonest, by what stands in the path of a file.
 NEAREST = {"schedule": "test_layers.py", "business": "test_layers.py", "rule": "test_layers.py", "_zoned": "test_zoned.py"}
+# The tests and the pages that need other packages, which Debian's Python may have, and those packages.
+BESIDE = {"test_columns.py": ("numpy",), "test_pandas.py": ("numpy", "pandas"), "test_dask.py": ("numpy", "pandas", "dask.dataframe")}
+PAGES = {"columns.md": ("numpy",), "pandas.md": ("numpy", "pandas"), "dask.md": ("numpy", "pandas", "dask.dataframe")}
+# The tests of each file that needs other packages.
+TESTS_OF = {"columns.c": "test_columns.py", "_arrays.py": "test_columns.py", "columns.py": "test_columns.py", "pandas.py": "test_pandas.py",
+            "dask.py": "test_dask.py"}
 # The versions from 3.10 on, which one wheel serves.
 VERSIONS = [f"python3.{it}" for it in range(10, 16)]
 WARNINGS = ["-std=c99", "-O1", "-fPIC", "-Wall", "-Wextra", "-Wpedantic", "-Werror"]
@@ -39,14 +45,14 @@ def install(results, room, name, program, wheel, *options):
     return f"{folder}/bin/python"
 
 
-def test_examples(results, room, program, with_numpy):
-    """The examples of README, of which those with numpy stand behind the others."""
-    blocks = re.findall(r"^```python\n(.*?)^```$", read(f"{PACKAGE}/README.md"), re.M | re.S)
+def test_examples(results, room, program, with_numpy, page="README.md"):
+    """The examples of a page, of which those with numpy stand behind the others."""
+    blocks = re.findall(r"^```python\n(.*?)^```$", read(f"{PACKAGE}/{page}"), re.M | re.S)
     text = "\n".join(it for it in blocks if with_numpy or "numpy" not in it)
     with open(f"{room}/example.txt", "w", encoding="utf-8") as it:
         it.write(text)
     counts = (r"^(\d+) passed and", r"(\d+) failed\.")
-    run(results, "the examples in Python", [program, "-m", "doctest", "-v", f"{room}/example.txt"], counts, env=QUIET)
+    run(results, f"the examples of {page}", [program, "-m", "doctest", "-v", f"{room}/example.txt"], counts, env=QUIET)
 
 
 def test_installed(results, room, program):
@@ -72,18 +78,26 @@ def test_versions(results, room, wheel):
 
 def debian_has(*modules):
     """Whether Debian's Python has modules."""
-    asked = [DEBIAN, "-c", f"import {', '.join(modules)}"]
+    asked = [DEBIAN, "-c", f"import {', '.join(('sys', *modules))}"]
     return os.path.exists(DEBIAN) and subprocess.run(asked, capture_output=True).returncode == 0
 
 
 def test_beside_others(results, room, wheel):
-    """Columns, and the habits beside numpy and pandas, which Debian's Python may have and a fresh environment has not."""
+    """Columns, the accessors and the habits beside numpy, pandas and Dask, which Debian's Python may have and a fresh environment has not."""
     if not debian_has("ensurepip", "numpy", "pandas"):
         print("not run: the tests in Python beside numpy and pandas, which Debian's Python has not")
         return
     program = install(results, room, "with_numpy", DEBIAN, wheel, "--system-site-packages")
-    for name in ("test_columns.py", *ALONE[1:]) if program else ():
-        run(results, f"{name} beside numpy and pandas", [program, f"{TESTS}/{name}", "-v"], COUNTS, env=QUIET)
+    for name in (*BESIDE, *ALONE[1:]) if program else ():
+        if debian_has(*BESIDE.get(name, ())):
+            run(results, f"{name} beside numpy and pandas", [program, f"{TESTS}/{name}", "-v"], COUNTS, env=QUIET)
+        else:
+            print(f"not run: {name}, since Debian's Python has not {' and '.join(BESIDE[name])}")
+    for page, modules in PAGES.items() if program else ():
+        if debian_has(*modules):
+            test_examples(results, room, program, True, page)
+        else:
+            print(f"not run: the examples of {page}, since Debian's Python has not {' and '.join(modules)}")
     if program:
         test_examples(results, room, program, True)
         test_stubs(results, room, program)
@@ -123,8 +137,9 @@ def test_by_datetime(results, room, wheel):
 
 def test_columns_called(results):
     """Each function for columns is called, but for those that change a column in place."""
-    text = read(f"{PACKAGE}/proved_calendar/columns.py")
-    for name in re.findall(r"^\w+ calendar_column_(\w+)\(", read(f"{LANGUAGES}/c/calendar.h"), re.M):
+    text = "".join(read(f"{PACKAGE}/proved_calendar/{it}") for it in ("columns.py", "_arrays.py"))
+    headers = "".join(read(f"{LANGUAGES}/c/{it}.h") for it in ("calendar", "calendar_layers"))
+    for name in re.findall(r"^\w+ calendar_column_(\w+)\(", headers, re.M):
         if not name.endswith("in_place"):
             results.count(re.search(rf"\"{name}\"|calendar_column_{name}\b", text), f"columns.py calls no calendar_column_{name}")
 
@@ -170,7 +185,7 @@ def fails(folder, objects, libraries, tests):
     env = dict(QUIET, PYTHONPATH=folder, SKIP_MEMORY="1")
     try:
         for name in tests:
-            program = DEBIAN if name == "test_columns.py" else python.python()
+            program = DEBIAN if name in BESIDE else python.python()
             if subprocess.run([program, f"{TESTS}/{name}"], env=env, capture_output=True, timeout=120).returncode:
                 return True
     except subprocess.TimeoutExpired:
@@ -179,11 +194,12 @@ def fails(folder, objects, libraries, tests):
 
 
 def tests_of(path):
-    """The tests one of which a wrong line in a file has to fail, the nearest first: the columns have their own."""
-    if not path.endswith("columns.py"):
-        nearest = [test for name, test in NEAREST.items() if name in path]
+    """The tests one of which a wrong line in a file has to fail, the nearest first: what needs other packages has its own."""
+    name = TESTS_OF.get(os.path.basename(path))
+    if not name:
+        nearest = [test for word, test in NEAREST.items() if word in path]
         return (*nearest, *(it for it in ALONE if it not in nearest))
-    return ("test_columns.py",) if debian_has("numpy") else ()
+    return (name,) if debian_has(*BESIDE[name]) else ()
 
 
 def test_wrong_lines(results, room, libraries):
@@ -195,12 +211,12 @@ def test_wrong_lines(results, room, libraries):
     said = compile_c(right, names, flags)
     results.count(not said, f"the extension in C: {said}")
     right_objects = [f"{right}/src/{it}.o" for it in names]
-    every = (*ALONE, *tests_of("columns.py"))
+    every = (*ALONE, *dict.fromkeys(it for path in TESTS_OF for it in tests_of(path)))
     results.count(not said and not fails(right, right_objects, libraries, every), "a test fails over right lines")
     for number, edit in enumerate(edits("python")):
         tests, changed = tests_of(edit[0]), os.path.basename(edit[0])
         if not tests:
-            print(f"not run: the wrong line {edit[2]!r} in {edit[0]}, since Debian's Python has no numpy")
+            print(f"not run: the wrong line {edit[2]!r} in {edit[0]}, since Debian's Python has not what its tests need")
             continue
         folder = planted("python", f"{room}/wrong_{number}", edit)
         compiled = names if changed.endswith(".h") else [changed] if changed.endswith(".c") else []

@@ -12,7 +12,7 @@ from typing import Any
 from . import _calendar
 from ._texts import iso_text_of_duration, nanoseconds_of_text, ratio_of, rounded, text_of_offset
 from ._zoned import asked, from_utc, length_asked, local_zone, of_timestamp, timestamp_of_local, utc_of, wanted
-from .time_of_day import Time
+from .time_of_day import Time, attributes
 
 _DAYS = ("Mon", "Tue", "Wed", "Thu", "Fri", "Sat", "Sun")
 _MONTHS = ("Jan", "Feb", "Mar", "Apr", "May", "Jun", "Jul", "Aug", "Sep", "Oct", "Nov", "Dec")
@@ -257,7 +257,7 @@ def _extend(kind: type, members: type, first: Any, last: Any, resolution: Any) -
     """Gives a type the members of a class here, and its ends and resolution."""
     ends = {"min": first, "max": last, "resolution": resolution}
     own = {name: it for name, it in vars(members).items() if not name.startswith("__")}
-    for name, it in {**own, **ends}.items():
+    for name, it in {**own, **ends, "__dir__": attributes}.items():
         _calendar.extend(kind, name, it)
 
 

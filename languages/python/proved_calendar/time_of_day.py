@@ -16,6 +16,18 @@ _LEFT: Any = ...
 _DAY = Date(1970, 1, 1)
 
 
+_ENDS = ("MIN", "MAX", "min", "max", "resolution")
+
+
+def attributes(of: object) -> list[str]:
+    """Returns the names of a value's attributes, for dir, without the ends of its type and a time zone.
+
+    Each end has ends again, and so has datetime.timezone. So pandas, which writes all attributes as JSON, would come to no end.
+    """
+    left_out = _ENDS if getattr(of, "tzinfo", None) is None else (*_ENDS, "tzinfo")
+    return [it for it in object.__dir__(of) if it not in left_out]
+
+
 class Time:
     """A time of day, to the nanosecond, in no time zone.
 
@@ -188,6 +200,8 @@ class Time:
     def __hash__(self) -> int:
         is_theirs = self.second < 60 and self.nanosecond % 1_000 == 0
         return hash(self.to_time()) if is_theirs else hash(self._moment)
+
+    __dir__ = attributes
 
     def __reduce__(self) -> tuple[Any, ...]:
         return _again, (type(self), self.hour, self.minute, self.second, self.nanosecond)

@@ -80,6 +80,15 @@ class Making(unittest.TestCase):
                     self.assertRaises(AttributeError, setattr, value, name, 1)
                     self.assertRaises(AttributeError, delattr, value, name)
 
+    def test_dir(self):
+        """What dir tells of a value has no ends of its type: who follows all attributes of a value comes to an end."""
+        there = NOON.replace(tzinfo=datetime.timezone.utc)
+        for it in (LEAP_DAY, NOON, Duration(1), Time(9), there):
+            self.assertFalse({"min", "max", "MIN", "MAX", "resolution"} & set(dir(it)))
+            self.assertIn("resolution", dir(type(it)))
+        self.assertEqual(["tzinfo" in dir(it) for it in (NOON, Time(9), there)], [True, True, False])
+        self.assertTrue({"year", "number", "add_months", "__dir__"} < set(dir(LEAP_DAY)))
+
     def test_extend(self):
         """Only the types of the module get members from its Python, and those are not changed from outside."""
         for wrong in (int, 1, Weekday, Day):
