@@ -20,7 +20,10 @@ import subprocess
 import sys
 import tempfile
 
-from languages import TOP, Results, build_higher, find_library, run
+from results import TOP, Results, run
+
+sys.path.insert(0, f"{TOP}/tools")
+from library import build_higher, find_library  # noqa: E402
 
 SOURCE = f"{TOP}/checks/columns.c"
 HEADERS = f"{TOP}/languages/c"

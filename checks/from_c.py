@@ -12,7 +12,8 @@ sys.path.insert(0, f"{TOP}/tools")
 import packages  # noqa: E402
 from packages import c  # noqa: E402
 
-TEST = f"{LANGUAGES}/c/test.c"
+# The test of each library.
+TESTS = {packages.CALENDAR: f"{LANGUAGES}/c/test.c", packages.LAYERS: f"{LANGUAGES}/c/test_layers.c"}
 COUNTS = (r"(\d+) passed", r"(\d+) failed")
 COMPILERS = {
     "cc": ["cc", "-std=c99", "-O2", "-Wall", "-Wextra", "-Wpedantic", "-Werror"],
@@ -22,80 +23,88 @@ CMAKE = """\
 cmake_minimum_required(VERSION 3.13)
 project(uses C)
 find_package(calendar 0.1 REQUIRED)
-add_executable(static {test})
-target_link_libraries(static calendar::calendar)
-add_executable(shared {test})
-target_link_libraries(shared calendar::shared)
+"""
+# The targets of each library, static and shared.
+TARGETS = {packages.CALENDAR: ("calendar", "shared"), packages.LAYERS: ("layers", "layers_shared")}
+TARGET = """\
+add_executable({target} {test})
+target_link_libraries({target} calendar::{target})
 """
 
 
-def install(room, library):
+def install(room, library, layers):
     """Makes the package and copies it to a prefix, as README says; the prefix."""
     built, dist, prefix = f"{room}/built", f"{room}/dist", f"{room}/prefix with a space"
     os.makedirs(built)
     packages.build(library, built)
+    packages.build(layers, built, packages.LAYERS)
     c.make(TOP, built, dist)
-    shutil.copytree(f"{dist}/include", f"{prefix}/include")
-    shutil.copytree(f"{dist}/lib", f"{prefix}/lib")
+    for part in ("include", "lib"):
+        shutil.copytree(f"{dist}/{part}", f"{prefix}/{part}", symlinks=True)
     return prefix
 
 
-def compare_shared(results, shared, names):
-    """The shared library has its soname and shows the names of calendar.h alone."""
+def compare_shared(results, prefix, header):
+    """Each shared library has its soname, and shows the names of its header alone."""
     if not shutil.which("nm") or not shutil.which("objdump"):
-        print("not run: the names of the shared library, since there is no nm or no objdump")
+        print("not run: the names of the shared libraries, since there is no nm or no objdump")
         return
-    listed = subprocess.run(["nm", "-D", "--defined-only", shared], check=True, capture_output=True, text=True).stdout
-    found = sorted(line.split()[-1] for line in listed.splitlines())
-    results.count(found == names, f"the shared library shows {sorted(set(found) ^ set(names))}, or does not")
-    head = subprocess.run(["objdump", "-p", shared], check=True, capture_output=True, text=True).stdout
-    results.count(re.findall(r"SONAME +(\S+)", head) == ["libcalendar.so.0"], "the soname of the shared library")
+    layers = sorted(set(re.findall(r"^\w+ +(calendar_\w+)\(", read(f"{prefix}/include/calendar_layers.h"), re.M)))
+    for name, names in {packages.CALENDAR: header, packages.LAYERS: layers}.items():
+        shared = f"{prefix}/lib/lib{name}.so"
+        listed = subprocess.run(["nm", "-D", "--defined-only", shared], check=True, capture_output=True, text=True).stdout
+        found = sorted(line.split()[-1] for line in listed.splitlines())
+        results.count(found == names, f"lib{name}.so shows {sorted(set(found) ^ set(names))}, or does not")
+        head = subprocess.run(["objdump", "-p", shared], check=True, capture_output=True, text=True).stdout
+        results.count(re.findall(r"SONAME +(\S+)", head) == [f"lib{name}.so.0"], f"the soname of lib{name}.so")
 
 
-def flags_of(results, prefix):
-    """What pkg-config answers for a prefix, as words."""
+def flags_of(results, prefix, name):
+    """What pkg-config answers for a library below a prefix, as words."""
     env = dict(os.environ, PKG_CONFIG_PATH=f"{prefix}/lib/pkgconfig")
-    version = succeeds(results, ["pkg-config", "--modversion", "calendar"], env=env)
-    results.count((version or "").strip() == packages.version(TOP), f"pkg-config has the version {version}")
+    version = succeeds(results, ["pkg-config", "--modversion", name], env=env)
+    results.count((version or "").strip() == packages.version(TOP), f"pkg-config has the version {version} of {name}")
     # (it answers as for a shell)
-    listed = succeeds(results, ["sh", "-c", 'eval "set -- $(pkg-config --cflags --libs calendar)"; printf "%s\\n" "$@"'], env=env)
+    listed = succeeds(results, ["sh", "-c", f'eval "set -- $(pkg-config --cflags --libs {name})"; printf "%s\\n" "$@"'], env=env)
     return (listed or "").split("\n")[:-1]
 
 
 def test_by_pkg_config(results, room, prefix):
-    """The test by each compiler, with the static library and with the shared one."""
+    """The tests by each compiler, with the static libraries and with the shared ones."""
     if not shutil.which("pkg-config"):
         print("not run: the tests in C by pkg-config, since there is none")
         return
-    flags = flags_of(results, prefix)
-    shared = [it.replace("-lcalendar", "-l:libcalendar.so.0") for it in flags]
     env = dict(os.environ, LD_LIBRARY_PATH=f"{prefix}/lib")
-    for name, words in COMPILERS.items():
-        if not shutil.which(name):
-            print(f"not run: the tests in C by {name}, since there is none")
-            continue
-        for kind, given in {"static": flags, "shared": shared}.items():
-            if succeeds(results, [*words, TEST, "-x", "none", *given, "-o", f"{room}/{kind}"]) is not None:
-                run(results, f"test.c by {name}, {kind}", [f"{room}/{kind}"], COUNTS, env=env)
+    for library, test in TESTS.items():
+        flags = flags_of(results, prefix, library)
+        shared = [f"-l{library}" if it.startswith("-l") else it for it in flags]
+        for name, words in COMPILERS.items():
+            if not shutil.which(name):
+                print(f"not run: the tests in C by {name}, since there is none")
+                continue
+            for kind, given in {"static": flags, "shared": shared}.items():
+                if succeeds(results, [*words, test, "-x", "none", *given, "-o", f"{room}/{kind}"]) is not None:
+                    run(results, f"{os.path.basename(test)} by {name}, {kind}", [f"{room}/{kind}"], COUNTS, env=env)
 
 
 def test_by_cmake(results, room, prefix):
-    """The test by CMake's two targets."""
+    """The tests by CMake's targets."""
     if not shutil.which("cmake"):
         print("not run: the tests in C by CMake, since there is none")
         return
     os.makedirs(f"{room}/cmake")
+    targets = [(target, test) for name, test in TESTS.items() for target in TARGETS[name]]
     with open(f"{room}/cmake/CMakeLists.txt", "w", encoding="utf-8") as it:
-        it.write(CMAKE.format(test=TEST))
+        it.write(CMAKE + "".join(TARGET.format(target=target, test=test) for target, test in targets))
     words = ["cmake", "-S", f"{room}/cmake", "-B", f"{room}/cmake/made", f"-DCMAKE_PREFIX_PATH={prefix}"]
     if succeeds(results, words) is not None and succeeds(results, ["cmake", "--build", f"{room}/cmake/made"]) is not None:
-        for kind in ("static", "shared"):
-            run(results, f"test.c by CMake, {kind}", [f"{room}/cmake/made/{kind}"], COUNTS)
+        for target, test in targets:
+            run(results, f"{os.path.basename(test)} by CMake, {target}", [f"{room}/cmake/made/{target}"], COUNTS)
 
 
 def test_memory(results, room, prefix):
     """The test where each read and write is watched."""
-    given = [f"-I{prefix}/include", TEST, f"{prefix}/lib/libcalendar.a"]
+    given = [f"-I{prefix}/include", TESTS[packages.CALENDAR], f"{prefix}/lib/libcalendar.a"]
     if not shutil.which("valgrind"):
         print("not run: the tests in C under valgrind, since there is none")
     elif succeeds(results, ["cc", "-std=c99", "-O1", "-g", *given, "-o", f"{room}/watched"]) is not None:
@@ -119,12 +128,12 @@ def test_example(results, room, prefix):
         results.count(is_told, f"the example in C prints {printed}")
 
 
-def test(results, room, library, names):
+def test(results, room, library, layers, names):
     """Installs the package to a prefix and runs the tests there."""
     room = f"{room}/c"
     os.makedirs(room)
-    prefix = install(room, library)
-    compare_shared(results, f"{prefix}/lib/libcalendar.so.0", names)
+    prefix = install(room, library, layers)
+    compare_shared(results, prefix, names)
     test_example(results, room, prefix)
     test_by_pkg_config(results, room, prefix)
     test_by_cmake(results, room, prefix)

@@ -15,8 +15,6 @@ their users would, and tested there by checks/from_c.py and checks/from_python.p
 has to be called in C's tests, and to have a test of its name in the other two, but for columns and what belongs to them, which
 Python's module of columns calls. The examples of the READMEs are run too, and the uses that README.md shows have to stand in them.
 """
-import contextlib
-import io
 import os
 import re
 import shutil
@@ -29,7 +27,7 @@ sys.path.insert(0, f"{TOP}/tools")
 import from_c  # noqa: E402
 import from_python  # noqa: E402
 import from_rust  # noqa: E402
-from library import HIGHER, build_higher, find_library, is_left_by_gate, libraries_below, listed_crates  # noqa: E402
+from library import HIGHER, LAYERS, build_higher, take_library  # noqa: E402
 from results import LANGUAGES, Results, example, read, run  # noqa: E402
 
 CRATE = f"{TOP}/crates/calendar_c"
@@ -297,32 +295,21 @@ def compare_sources(results):
     return header
 
 
-def take_library(results, room):
-    """The library. Where what the gate left proved of the libraries below it serves, none of them is proved again."""
-    is_left, said = is_left_by_gate(libraries_below(listed_crates())), io.StringIO()
-    with contextlib.redirect_stdout(said):
-        library = find_library(room)
-    print(said.getvalue(), end="")
-    again = [it for it in re.findall(r"^(\w+): proving", said.getvalue(), re.M) if it != "calendar_c"]
-    serves = is_left and "nothing kept serves" not in said.getvalue()
-    results.count(not (serves and again), f"proved again, though what the gate left serves: {' '.join(again)}")
-    return library
-
-
 def main():
     results = Results()
     header = compare_sources(results)
     with tempfile.TemporaryDirectory(prefix="languages-") as room:
         library = take_library(results, room)
-        results.count(library, "there is no libcalendar_c.a, and `rt lib` does not build it")
+        layers = take_library(results, room, LAYERS)
         if library:
             compare_symbols(results, header, library)
             compare_instructions(results, library, level_of_header())
             compare_higher(results, header, library, f"{room}/higher.a")
-            from_rust.test(results, room, library)
-        if library and shutil.which("cc"):
-            from_c.test(results, room, library, sorted(header))
-            from_python.test(results, room, library)
+        if library and layers:
+            from_rust.test(results, room, library, layers)
+        if library and layers and shutil.which("cc"):
+            from_c.test(results, room, library, layers, sorted(header))
+            from_python.test(results, room, library, layers)
         elif library:
             print("not run: the tests in C and Python, since there is no C compiler")
     print(f"{results.passed} passed, {results.failed} failed")

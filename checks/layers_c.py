@@ -3,8 +3,7 @@
 
     checks/layers_c.py [ROUNDS]
 
-It takes the liblayers_c.a that `rt lib` leaves in crates/layers_c/out, if that is newer than all sources, or else runs `rt lib`
-there. Compared are the functions of the header, with results and parameters, the structs and their fields, and the symbols of the
+It takes or builds the static library as checks/languages.py does. Compared are the functions of the header, with results and parameters, the structs and their fields, and the symbols of the
 library. languages/c/test_layers.c is compiled by each compiler that is found, and run plainly, under valgrind and with
 sanitizers. checks/layers_random.c calls each function with random arguments, 2,000 rounds or so many, in the same three ways.
 """
@@ -17,11 +16,9 @@ import tempfile
 
 TOP = os.path.dirname(os.path.dirname(os.path.abspath(__file__)))
 sys.path.insert(0, f"{TOP}/tools")
-from library import below, build, listed_crates, time_of  # noqa: E402
+from library import LAYERS, take_library  # noqa: E402
 from results import LANGUAGES, Results, read, run, succeeds  # noqa: E402
 
-CRATE = "layers_c"
-LIBRARY = f"{TOP}/crates/{CRATE}/out/lib{CRATE}.a"
 HEADER = f"{LANGUAGES}/c/calendar_layers.h"
 TEST = f"{LANGUAGES}/c/test_layers.c"
 RANDOM = f"{TOP}/checks/layers_random.c"
@@ -94,16 +91,6 @@ def structs_of_crate(text):
             for name, fields in re.findall(head, text, re.S)}
 
 
-def find_library():
-    """The library, built anew if a source is newer; None if it does not build."""
-    crates = listed_crates()
-    *libraries, _ = below(next(it for it in crates if it.split()[0] == CRATE), crates)
-    parts = [f"{TOP}/crates/{name}/{part}" for name in (*libraries, CRATE) for part in ("src", "specs", "proofs")]
-    if os.path.exists(LIBRARY) and os.path.getmtime(LIBRARY) > time_of(parts, max):
-        return LIBRARY
-    return LIBRARY if shutil.which("rt") and build(TOP, CRATE) else None
-
-
 def compare(results, what, ours, theirs):
     """Counts each name, and tells of one that differs."""
     for name in sorted({*ours, *theirs}):
@@ -112,7 +99,7 @@ def compare(results, what, ours, theirs):
 
 def compare_all(results, library):
     """The header with the crate and with the symbols of the library."""
-    text, crate = re.sub(r"/\*.*?\*/", "", read(HEADER), flags=re.S), sources(CRATE)
+    text, crate = re.sub(r"/\*.*?\*/", "", read(HEADER), flags=re.S), sources(LAYERS)
     declared = functions_of_header(text)
     compare(results, "functions", declared, functions_of_crate(crate))
     compare(results, "structs", structs_of_header(text), structs_of_crate(crate))
@@ -140,14 +127,12 @@ def run_program(results, room, library, source, words):
 
 def main():
     results, rounds = Results(), sys.argv[1] if len(sys.argv) > 1 else "2000"
-    library = find_library()
-    if not library:
-        print("not run: there is no library and it does not build\n0 passed, 1 failed")
-        return 1
-    compare_all(results, library)
     with tempfile.TemporaryDirectory(prefix="layers-c-") as room:
-        run_program(results, room, library, TEST, [])
-        run_program(results, room, library, RANDOM, ["4711", rounds])
+        library = take_library(results, room, LAYERS)
+        if library:
+            compare_all(results, library)
+            run_program(results, room, library, TEST, [])
+            run_program(results, room, library, RANDOM, ["4711", rounds])
     print(f"{results.passed} passed, {results.failed} failed")
     return 1 if results.failed else 0
 

@@ -1,30 +1,34 @@
 #!/usr/bin/env python3
 """Holds the schedules of libcalendar_layers to those of croniter, and its open days to those of numpy.
 
-    /usr/bin/python3 checks/layers_peers.py [CASES [SEED]]
+    checks/layers_peers.py [CASES [SEED]]
 
-It needs crates/layers_c/out/liblayers_c.a, which `rt lib` leaves there, a C compiler, croniter and numpy. The static library becomes
-a shared one, which is called by ctypes. Each case is a generated schedule and a start: 20,000 cases, or so many. The next and the last moment have to be croniter's. Left out is what the two read otherwise: a field of days that begins with `*`
-and has a step, or lists all its numbers. So is what croniter 1.3 does not find: 29 February backwards, and a day in more than 50
-years or in a month that is too short for the days listed. As many cases count and move open days by generated weekends and holidays.
+It takes or builds the static library as checks/languages.py does, and needs a C compiler, croniter and numpy. The static library
+becomes a shared one, which is called by ctypes. Each case is a generated schedule and a start: 20,000 cases, or so many. The next
+and the last moment have to be croniter's. Left out is what the two read otherwise: a field of days that begins with `*` and has a
+step, or lists all its numbers. So is what croniter 1.3 does not find: 29 February backwards, and a day in more than 50 years or in
+a month that is too short for the days listed. As many cases count and move open days by generated weekends and holidays.
 """
 import ctypes
 import datetime
 import os
 import random
-import subprocess
 import sys
 import tempfile
+
+from results import TOP, Results
+
+sys.path.insert(0, f"{TOP}/tools")
+import packages  # noqa: E402
+from debian import restart_without  # noqa: E402
+from library import LAYERS, take_library  # noqa: E402
 
 try:
     import croniter
     import numpy
 except ImportError:
-    print("not run: there is no croniter or no numpy\n0 passed, 1 failed")
-    sys.exit(1)
+    croniter = numpy = None
 
-TOP = os.path.dirname(os.path.dirname(os.path.abspath(__file__)))
-LIBRARY = f"{TOP}/crates/layers_c/out/liblayers_c.a"
 EPOCH = datetime.datetime(1970, 1, 1)
 RANGES = ((0, 59), (0, 23), (1, 31), (1, 12), (0, 6))
 
@@ -47,12 +51,10 @@ class Fault(ctypes.Structure):
     _fields_ = [("code", ctypes.c_uint32), ("field", ctypes.c_uint32), ("byte", ctypes.c_size_t), ("end", ctypes.c_size_t)]
 
 
-def load(room):
-    """The library as a shared one."""
-    shared = f"{room}/layers.so"
-    words = ["cc", "-shared", "-nostartfiles", "-Wl,--whole-archive", LIBRARY, "-Wl,--no-whole-archive", "-o", shared]
-    subprocess.run(words, check=True)
-    library = ctypes.CDLL(shared)
+def load(library, room):
+    """The static library as a shared one."""
+    packages.build(library, room, packages.LAYERS)
+    library = ctypes.CDLL(f"{room}/lib{packages.LAYERS}.so.0")
     for name in ("next", "prev"):
         function = getattr(library, f"calendar_schedule_{name}")
         function.restype, function.argtypes = Moment, [ctypes.POINTER(Schedule), Moment]
@@ -98,9 +100,8 @@ def peer(text, start, name):
     return int((found - EPOCH).total_seconds())
 
 
-def test_open_days(library, numbers, cases):
-    """Counts and moves of open days beside numpy's; how many passed and failed."""
-    passed = failed = 0
+def test_open_days(results, library, numbers, cases):
+    """Counts and moves of open days beside numpy's."""
     library.calendar_open_days_between.restype = ctypes.c_int64
     for _ in range(cases):
         weekend = numbers.choice((96, 96, 64, 0, numbers.randrange(127)))
@@ -117,40 +118,45 @@ def test_open_days(library, numbers, cases):
         ends = (int(it.astype("i8")) + 719_163 for it in (first, last))
         count = library.calendar_open_days_between(*given, *ends)
         is_same = is_moved and count == numpy.busday_count(first, last, busdaycal=calendar)
-        passed, failed = passed + is_same, failed + (not is_same)
-        if not is_same and failed < 10:
-            print(f"weekend {weekend}, {len(holidays)} holidays: {start} and {n}, or {first} to {last}")
-    print(f"open days: {passed} passed, {failed} failed")
-    return passed, failed
+        results.count(is_same, f"weekend {weekend}, {len(holidays)} holidays: {start} and {n}, or {first} to {last}")
+
+
+def test_schedules(results, library, numbers, cases):
+    """The next and the last moment of schedules beside croniter's; how many answers were left out."""
+    left_out = 0
+    for _ in range(cases):
+        text = " ".join(field(numbers, low, high, place in (2, 4)) for place, (low, high) in enumerate(RANGES))
+        start = EPOCH + datetime.timedelta(seconds=numbers.randrange(10**9, 3 * 10**9))
+        schedule, fault = Schedule(), Fault()
+        is_read = library.calendar_schedule_read(text.encode(), len(text), ctypes.byref(schedule), ctypes.byref(fault))
+        for name in ("next", "prev"):
+            at = Moment(int((start - EPOCH).total_seconds()), 0)
+            ours = getattr(library, f"calendar_schedule_{name}")(ctypes.byref(schedule), at)
+            theirs = peer(text, start, name)
+            if is_left_out(theirs, ours, name):
+                left_out += 1
+                continue
+            is_same = is_read and ours.nanos == 0 and ours.seconds == theirs
+            results.count(is_same, f"{text}: {name} of {start} is {ours.seconds}, croniter has {theirs}")
+    return left_out
 
 
 def main():
+    restart_without(croniter)
+    if croniter is None:
+        print("not run: checks/layers_peers.py, which needs python3-croniter and python3-numpy\n0 passed, 0 failed")
+        return 0
     cases = int(sys.argv[1]) if len(sys.argv) > 1 else 20_000
-    numbers = random.Random(int(sys.argv[2]) if len(sys.argv) > 2 else 1)
-    passed = failed = none = 0
+    results, numbers = Results(), random.Random(int(sys.argv[2]) if len(sys.argv) > 2 else 1)
     with tempfile.TemporaryDirectory(prefix="layers-peers-") as room:
-        library = load(room)
-        for _ in range(cases):
-            text = " ".join(field(numbers, low, high, place in (2, 4)) for place, (low, high) in enumerate(RANGES))
-            start = EPOCH + datetime.timedelta(seconds=numbers.randrange(10**9, 3 * 10**9))
-            schedule, fault = Schedule(), Fault()
-            is_read = library.calendar_schedule_read(text.encode(), len(text), ctypes.byref(schedule), ctypes.byref(fault))
-            for name in ("next", "prev"):
-                at = Moment(int((start - EPOCH).total_seconds()), 0)
-                ours = getattr(library, f"calendar_schedule_{name}")(ctypes.byref(schedule), at)
-                theirs = peer(text, start, name)
-                if is_left_out(theirs, ours, name):
-                    none += 1
-                    continue
-                is_same = is_read and ours.nanos == 0 and ours.seconds == theirs
-                passed, failed = passed + is_same, failed + (not is_same)
-                if not is_same and failed < 10:
-                    print(f"{text}: {name} of {start} is {EPOCH + datetime.timedelta(seconds=ours.seconds)}, croniter has {theirs}")
-        print(f"schedules: {passed} passed, {failed} failed, {none} answers were left out")
-        more = test_open_days(library, numbers, cases)
-        passed, failed = passed + more[0], failed + more[1]
-    print(f"{passed} passed, {failed} failed")
-    return 1 if failed else 0
+        found = take_library(results, room, LAYERS)
+        if found:
+            library = load(found, room)
+            left_out = test_schedules(results, library, numbers, cases)
+            print(f"{left_out} answers on schedules were left out")
+            test_open_days(results, library, numbers, cases)
+    print(f"{results.passed} passed, {results.failed} failed")
+    return 1 if results.failed else 0
 
 
 if __name__ == "__main__":

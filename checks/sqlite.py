@@ -3,7 +3,7 @@
 
     checks/sqlite.py [DATES [SEED]]
 
-It takes the static libraries of crates/calendar_c and crates/layers_c as checks/languages.py and checks/layers_c.py do, and makes the
+It takes the static libraries of crates/calendar_c and crates/layers_c as checks/languages.py does, and makes the
 package by tools/packages/sqlite.py in a temporary folder. languages/sqlite/tests call every function. Each function of dates is then
 called with 20,000 drawn dates, or so many, and the answers have to be datetime's. Those of schedules have to be croniter's. The
 queries of languages/sqlite/README.md are run by the program sqlite3, and have to print what the page says. Each line of
@@ -25,7 +25,7 @@ import tempfile
 TOP = os.path.dirname(os.path.dirname(os.path.abspath(__file__)))
 sys.path.insert(0, f"{TOP}/tools")
 import packages  # noqa: E402
-from library import find_library  # noqa: E402
+from library import make_package  # noqa: E402
 from packages import sqlite  # noqa: E402
 from results import LANGUAGES, Results, read, run, succeeds  # noqa: E402
 from wrong_lines import edits, planted  # noqa: E402
@@ -49,17 +49,6 @@ SCHEDULES = (
 def loads_extensions():
     """Whether the module sqlite3 of this Python loads extensions."""
     return hasattr(sqlite3.Connection, "enable_load_extension")
-
-
-def make_package(room):
-    """Makes the package in a folder; the path of the extension and of the library of the calendar."""
-    built, dist = f"{room}/built", f"{room}/dist"
-    os.makedirs(built)
-    library = find_library(room)
-    if not library:
-        raise RuntimeError("there is no libcalendar_c.a, and `rt lib` does not build it")
-    packages.build(library, built)
-    return sqlite.make(TOP, built, dist)[0], f"{built}/libcalendar.a"
 
 
 def load(path):
@@ -179,7 +168,7 @@ def try_wrong_lines(results, room, libraries):
 
 def test(results, room, count, seed):
     """All of it."""
-    path, library = make_package(room)
+    (path, *_), libraries = make_package(room, "sqlite")
     if not loads_extensions():
         print(f"not run: the tests of the SQLite extension, since no Python here loads extensions; {os.path.basename(path)} is built")
     else:
@@ -188,7 +177,7 @@ def test(results, room, count, seed):
         compare_dates(results, load(path), numbers, count)
         compare_schedules(results, load(path), numbers, max(1, count // 1000))
         run_watched(results, path)
-        try_wrong_lines(results, room, [library, sqlite.layers()])
+        try_wrong_lines(results, room, libraries)
     run_page(results, path)
 
 

@@ -1,7 +1,7 @@
 """What users of each language install: a module for each, with `make(top, built, dist)`.
 
-`top` is this repository, `built` a folder with `libcalendar.a` and `libcalendar.so.0`, and for C with HIGHER too, and `dist` the folder to fill. `make`
-answers the paths that it made. It raises `Missing` where a program or a package that it needs is not there.
+`top` is this repository, and `dist` the folder to fill. `built` is a folder with `libcalendar.a` and `libcalendar.so.0`, the same of
+LAYERS, and for C with HIGHER too. `make` answers the paths that it made. It raises `Missing` where a program or a package that it needs is not there.
 """
 import re
 import shutil
@@ -10,6 +10,9 @@ import subprocess
 # What each package holds beside what it is made of.
 LICENCES = ("LICENSE-APACHE", "LICENSE-MIT")
 
+
+# The name of each library: that of calendar.h, and that of calendar_layers.h.
+CALENDAR, LAYERS = "calendar", "calendar_layers"
 
 # The static library for processors with AVX2.
 HIGHER = "libcalendar-v3.a"
@@ -25,15 +28,15 @@ def version(top):
         return re.search(r"^#define CALENDAR_VERSION \"([^\"]+)\"$", it.read(), re.M)[1]
 
 
-def build(library, built):
-    """Puts the static library into a folder as libcalendar.a, and beside it libcalendar.so.0, which shows its own names alone."""
-    shutil.copy(library, f"{built}/libcalendar.a")
-    names = f"{built}/names.map"
+def build(library, built, name=CALENDAR):
+    """Puts a static library into a folder as libNAME.a, and beside it libNAME.so.0, which shows its own names alone."""
+    static, shared, names = f"{built}/lib{name}.a", f"lib{name}.so.0", f"{built}/names.map"
+    shutil.copy(library, static)
     with open(names, "w", encoding="utf-8") as it:
         it.write("{ global: calendar_*; local: *; };\n")
-    flags = ["-shared", "-nostartfiles", "-Wl,-soname,libcalendar.so.0", f"-Wl,--version-script={names}", "-Wl,-z,defs"]
-    whole = ["-Wl,--whole-archive", f"{built}/libcalendar.a", "-Wl,--no-whole-archive"]
-    run(["cc", *flags, *whole, "-o", f"{built}/libcalendar.so.0"])
+    flags = ["-shared", "-nostartfiles", f"-Wl,-soname,{shared}", f"-Wl,--version-script={names}", "-Wl,-z,defs"]
+    whole = ["-Wl,--whole-archive", static, "-Wl,--no-whole-archive"]
+    run(["cc", *flags, *whole, "-o", f"{built}/{shared}"])
 
 
 def run(words, **how):

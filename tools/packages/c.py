@@ -1,40 +1,47 @@
-"""The package for C and C++: header, static and shared library, and how pkg-config and CMake find them, from any prefix."""
+"""The package for C and C++: headers, static and shared libraries, and how pkg-config and CMake find them, from any prefix."""
 import os
 import shutil
 
-from . import HIGHER, LICENCES, version
+from . import CALENDAR, HIGHER, LAYERS, LICENCES, version
 
+# What each library has, as pkg-config says it.
+DESCRIPTIONS = {
+    CALENDAR: "The proleptic Gregorian calendar, by functions that are proved",
+    LAYERS: "Schedules, recurrence rules, open days and holidays, by functions that are proved",
+}
+
+# (it links the static library, so that a program runs without the shared one)
 PKG_CONFIG = """\
 prefix=${{pcfiledir}}/../..
 includedir=${{prefix}}/include
 libdir=${{prefix}}/lib
 
-Name: calendar
-Description: The proleptic Gregorian calendar, by functions that are proved
+Name: {name}
+Description: {description}
 Version: {version}
 Cflags: -I${{includedir}}
-Libs: -L${{libdir}} -lcalendar
+Libs: -L${{libdir}} -l:lib{name}.a
 """
 
 CMAKE = """\
-# The targets calendar::calendar (static) and calendar::shared, beside the files of this package wherever they lie.
+# The targets calendar::calendar and calendar::layers (static), calendar::shared and calendar::layers_shared, beside the files of
+# this package wherever they lie.
 get_filename_component(_calendar_prefix "${CMAKE_CURRENT_LIST_DIR}/../../.." ABSOLUTE)
-foreach(_calendar_target calendar shared)
-  if(NOT TARGET calendar::${_calendar_target})
-    if(_calendar_target STREQUAL shared)
-      add_library(calendar::shared SHARED IMPORTED)
-      set_target_properties(calendar::shared PROPERTIES
-        IMPORTED_LOCATION "${_calendar_prefix}/lib/libcalendar.so.0"
-        IMPORTED_SONAME libcalendar.so.0)
-    else()
-      add_library(calendar::calendar STATIC IMPORTED)
-      set_target_properties(calendar::calendar PROPERTIES IMPORTED_LOCATION "${_calendar_prefix}/lib/libcalendar.a")
-    endif()
-    set_target_properties(calendar::${_calendar_target} PROPERTIES
+function(_calendar_add static shared name)
+  if(NOT TARGET calendar::${static})
+    add_library(calendar::${static} STATIC IMPORTED)
+    set_target_properties(calendar::${static} PROPERTIES
+      IMPORTED_LOCATION "${_calendar_prefix}/lib/lib${name}.a"
+      INTERFACE_INCLUDE_DIRECTORIES "${_calendar_prefix}/include")
+    add_library(calendar::${shared} SHARED IMPORTED)
+    set_target_properties(calendar::${shared} PROPERTIES
+      IMPORTED_LOCATION "${_calendar_prefix}/lib/lib${name}.so.0"
+      IMPORTED_SONAME lib${name}.so.0
       INTERFACE_INCLUDE_DIRECTORIES "${_calendar_prefix}/include")
   endif()
-endforeach()
-unset(_calendar_target)
+endfunction()
+_calendar_add(calendar shared calendar)
+_calendar_add(layers layers_shared calendar_layers)
 unset(_calendar_prefix)
 """
 
@@ -54,19 +61,19 @@ endif()
 def make(top, built, dist):
     """Makes include/, lib/ and share/; the paths of their files."""
     copied = {
-        f"{top}/languages/c/calendar.h": "include/calendar.h",
-        f"{built}/libcalendar.a": "lib/libcalendar.a",
-        f"{built}/libcalendar.so.0": "lib/libcalendar.so.0",
+        **{f"{top}/languages/c/{it}.h": f"include/{it}.h" for it in (CALENDAR, LAYERS)},
+        **{f"{built}/lib{it}.{kind}": f"lib/lib{it}.{kind}" for it in (CALENDAR, LAYERS) for kind in ("a", "so.0")},
         **{f"{top}/{it}": f"share/doc/calendar/{it}" for it in LICENCES},
     }
     if os.path.exists(f"{built}/{HIGHER}"):
         copied[f"{built}/{HIGHER}"] = f"lib/{HIGHER}"
     written = {
-        "lib/pkgconfig/calendar.pc": PKG_CONFIG.format(version=version(top)),
+        **{f"lib/pkgconfig/{it}.pc": PKG_CONFIG.format(name=it, description=DESCRIPTIONS[it], version=version(top)) for it in DESCRIPTIONS},
         "lib/cmake/calendar/calendar-config.cmake": CMAKE,
         "lib/cmake/calendar/calendar-config-version.cmake": CMAKE_VERSION.format(version=version(top)),
     }
-    paths = [f"{dist}/{it}" for it in (*copied.values(), *written)]
+    links = {f"lib/lib{it}.so": f"lib{it}.so.0" for it in (CALENDAR, LAYERS)}
+    paths = [f"{dist}/{it}" for it in (*copied.values(), *written, *links)]
     for it in paths:
         os.makedirs(os.path.dirname(it), exist_ok=True)
     for source, path in copied.items():
@@ -74,4 +81,8 @@ def make(top, built, dist):
     for path, text in written.items():
         with open(f"{dist}/{path}", "w", encoding="utf-8") as it:
             it.write(text)
+    for path, target in links.items():
+        if os.path.lexists(f"{dist}/{path}"):
+            os.remove(f"{dist}/{path}")
+        os.symlink(target, f"{dist}/{path}")
     return paths

@@ -3,7 +3,7 @@ import glob
 import os
 import shutil
 
-from . import LICENCES, Missing, run
+from . import CALENDAR, LAYERS, LICENCES, Missing, run
 
 NAME = "proved_calendar.so"
 # (a file without debug information, that shows nothing but where SQLite begins)
@@ -28,23 +28,13 @@ def compile_extension(top, folder, libraries, path):
     return path
 
 
-def layers():
-    """The static library of the layers, which `rt lib` builds if it is older than its sources."""
-    import library  # noqa: F401  (it knows where the checks are)
-    from layers_c import find_library
-    found = find_library()
-    if not found:
-        raise RuntimeError("there is no liblayers_c.a, and `rt lib` does not build it")
-    return found
-
-
 def make(top, built, dist):
     """Makes sqlite/ with the extension, its page and the licences; their paths."""
     if not has_headers():
         raise Missing("no sqlite3ext.h: tools/setup installs Debian's")
     os.makedirs(f"{dist}/sqlite", exist_ok=True)
     folder = f"{top}/languages/sqlite"
-    paths = [compile_extension(top, folder, [f"{built}/libcalendar.a", layers()], f"{dist}/sqlite/{NAME}")]
+    paths = [compile_extension(top, folder, [f"{built}/lib{it}.a" for it in (CALENDAR, LAYERS)], f"{dist}/sqlite/{NAME}")]
     for file in (f"{folder}/README.md", *(f"{top}/{it}" for it in LICENCES)):
         paths.append(shutil.copy(file, f"{dist}/sqlite/"))
     return paths

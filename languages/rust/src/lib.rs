@@ -7,6 +7,7 @@ extern crate alloc;
 #[cfg(feature = "std")]
 extern crate std;
 
+mod business;
 mod calls;
 pub mod chrono;
 pub mod columns;
@@ -14,7 +15,10 @@ mod date;
 mod date_range;
 mod date_time;
 mod duration;
+mod layer_calls;
 mod parse_error;
+mod schedule;
+mod text_error;
 mod weekday;
 mod weekday_set;
 #[cfg(feature = "chrono")]
@@ -27,6 +31,7 @@ mod with_time;
 #[cfg(any(feature = "chrono", feature = "time"))]
 mod conversion_error;
 
+pub use business::{BusinessCalendar, DayCount, Fraction, Roll};
 #[cfg(any(feature = "chrono", feature = "time"))]
 pub use conversion_error::ConversionError;
 pub use date::{days_in_month, is_leap_year, Date};
@@ -34,5 +39,7 @@ pub use date_range::DateRange;
 pub use date_time::DateTime;
 pub use duration::Duration;
 pub use parse_error::ParseError;
+pub use schedule::{Schedule, ScheduleTimes};
+pub use text_error::TextError;
 pub use weekday::Weekday;
 pub use weekday_set::{WeekdaySet, Weekdays};

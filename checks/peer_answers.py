@@ -1,0 +1,63 @@
+#!/usr/bin/env python3
+"""Prints generated cases of the layers with the answers of other programs, as lines that each wrapper's test reads.
+
+    /usr/bin/python3 checks/peer_answers.py [CASES [SEED]]
+
+It needs croniter and numpy. Of each kind it prints 20,000 cases, or so many. A line has fields with a tab between them.
+
+  schedule  its text, a start, and croniter's next and last moment, in seconds since 1970, or `-` where it has none
+  open      a weekend as a set of weekdays, holidays with a comma between them, an open day, a number of open days, numpy's date so far
+            from it, two dates and numpy's count of open days from one to the other; dates are day numbers
+"""
+import datetime
+import random
+import sys
+
+import layers_peers
+import numpy
+
+# The day number of 1 January 1970.
+EPOCH_DAY = 719_163
+
+
+def schedule_cases(numbers, cases):
+    """Lines of schedules."""
+    for _ in range(cases):
+        fields = (layers_peers.field(numbers, low, high, place in (2, 4)) for place, (low, high) in enumerate(layers_peers.RANGES))
+        text = " ".join(fields)
+        seconds = numbers.randrange(10**9, 3 * 10**9)
+        start = layers_peers.EPOCH + datetime.timedelta(seconds=seconds)
+        found = (layers_peers.peer(text, start, name) for name in ("next", "prev"))
+        yield "schedule", text, seconds, *("-" if it is None else it for it in found)
+
+
+def day_of(date):
+    """The day number of a date of numpy."""
+    return int(date.astype("i8")) + EPOCH_DAY
+
+
+def open_cases(numbers, cases):
+    """Lines of open days."""
+    for _ in range(cases):
+        weekend = numbers.choice((96, 96, 64, 0, numbers.randrange(127)))
+        days = numpy.unique(numpy.array([numbers.randrange(10_000, 30_000) for _ in range(numbers.randrange(60))], "M8[D]"))
+        calendar = numpy.busdaycalendar([not weekend >> k & 1 for k in range(7)], days)
+        first, last = (numpy.datetime64(numbers.randrange(10_000, 30_000), "D") for _ in range(2))
+        start, n = numpy.busday_offset(first, 0, "forward", busdaycal=calendar), numbers.randrange(-400, 400)
+        moved = numpy.busday_offset(start, n, busdaycal=calendar)
+        # (numpy counts backwards from the day after; forwards both count the first day alone)
+        first, last = sorted((first, last))
+        count = int(numpy.busday_count(first, last, busdaycal=calendar))
+        yield "open", weekend, ",".join(str(day_of(it)) for it in days), day_of(start), n, day_of(moved), day_of(first), day_of(last), count
+
+
+def main():
+    cases = int(sys.argv[1]) if len(sys.argv) > 1 else 20_000
+    numbers = random.Random(int(sys.argv[2]) if len(sys.argv) > 2 else 1)
+    for kind in (schedule_cases, open_cases):
+        for case in kind(numbers, cases):
+            print(*case, sep="\t")
+
+
+if __name__ == "__main__":
+    main()
