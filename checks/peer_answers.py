@@ -3,9 +3,11 @@
 
     /usr/bin/python3 checks/peer_answers.py [CASES [SEED]]
 
-It needs croniter and numpy. Of each kind it prints 20,000 cases, or so many. A line has fields with a tab between them.
+It needs croniter, numpy and dateutil. Of each kind it prints 20,000 cases, or so many. A line has fields with a tab between them.
 
   schedule  its text, a start, and croniter's next and last moment, in seconds since 1970, or `-` where it has none
+  rule      its text, a start, a day, the next and the last instance of dateutil from there, or `-` where it has none, and the first ones
+            with a comma between them; dates are day numbers
   open      a weekend as a set of weekdays, holidays with a comma between them, an open day, a number of open days, numpy's date so far
             from it, two dates and numpy's count of open days from one to the other; dates are day numbers
 """
@@ -15,6 +17,10 @@ import sys
 
 import layers_peers
 import numpy
+import rules_days
+
+# So many instances of a rule are compared.
+SHOWN = 100
 
 # The day number of 1 January 1970.
 EPOCH_DAY = 719_163
@@ -29,6 +35,18 @@ def schedule_cases(numbers, cases):
         start = layers_peers.EPOCH + datetime.timedelta(seconds=seconds)
         found = (layers_peers.peer(text, start, name) for name in ("next", "prev"))
         yield "schedule", text, seconds, *("-" if it is None else it for it in found)
+
+
+def rule_cases(numbers, cases):
+    """Lines of recurrence rules."""
+    for _ in range(cases):
+        rule, start = rules_days.at_random(numbers)
+        rule.until = start + datetime.timedelta(numbers.choice((400, 2_000)))
+        days = [it.toordinal() for it in rules_days.of_dateutil(rule, start)]
+        day = start.toordinal() + numbers.randrange(-50, 2_100)
+        after, before = ([it for it in days if it > day], [it for it in days if it < day])
+        ends = [*after[:1], "-"][0], [*before[-1:], "-"][0]
+        yield "rule", rule.text(), start.toordinal(), day, *ends, ",".join(map(str, days[:SHOWN]))
 
 
 def day_of(date):
@@ -54,7 +72,7 @@ def open_cases(numbers, cases):
 def main():
     cases = int(sys.argv[1]) if len(sys.argv) > 1 else 20_000
     numbers = random.Random(int(sys.argv[2]) if len(sys.argv) > 2 else 1)
-    for kind in (schedule_cases, open_cases):
+    for kind in (schedule_cases, rule_cases, open_cases):
         for case in kind(numbers, cases):
             print(*case, sep="\t")
 

@@ -341,6 +341,24 @@ export class Schedule {
   readonly [Symbol.toStringTag]: "Schedule";
 }
 
+/** A recurrence rule of RFC 5545 from a start on, such as `FREQ=MONTHLY;BYDAY=-1FR`. Its instances are days. */
+export class Rule implements Iterable<PlainDate> {
+  /** Throws a TextError if the text is no rule. */
+  constructor(text: string, start: DateLike);
+  readonly start: PlainDate;
+  /** The first instance after a date; undefined if there is none. */
+  nextAfter(date: DateLike): PlainDate | undefined;
+  /** The last instance before a date; undefined if there is none. */
+  previousBefore(date: DateLike): PlainDate | undefined;
+  /** Whether a date is an instance. */
+  includes(date: DateLike): boolean;
+  /** The instances in order, from a date on and up to another; both count. */
+  iterate(options?: { from?: DateLike; until?: DateLike }): IterableIterator<PlainDate>;
+  [Symbol.iterator](): IterableIterator<PlainDate>;
+  toString(): string;
+  readonly [Symbol.toStringTag]: "Rule";
+}
+
 /** Where a closed date goes (ISDA 2006, section 4.12). */
 export type Roll =
   | "unadjusted"

@@ -2,7 +2,7 @@
 
 import { PlainDate, PlainDateTime, TextError } from "../src/index.js";
 import { answerOf } from "./answers.js";
-import { datesOfText, faultNodes, showOpenDays, showSchedule } from "./layer_parts.js";
+import { datesOfText, faultNodes, showOpenDays, showSchedule, showYear } from "./layer_parts.js";
 import { dateOfText, element, LONG_WEEKDAYS, MONTHS, moveOfKey, showBetween, showMonth, showRow } from "./parts.js";
 
 /** The commands of caltool: one line for each, and what it asks. */
@@ -32,6 +32,17 @@ const CRON_EXAMPLES = {
   "0 9 * * 1#1": "the first Monday of the month",
   "@daily": "a nickname",
   "0 25 * * *": "an hour that there is not",
+};
+
+/** Rules, and what each shows. */
+const RULE_EXAMPLES = {
+  "FREQ=MONTHLY;BYDAY=-1FR": "the last Friday of each month",
+  "FREQ=WEEKLY;INTERVAL=2;BYDAY=MO,WE": "Mondays and Wednesdays of every other week",
+  "FREQ=YEARLY;BYMONTH=11;BYDAY=4TH": "the fourth Thursday of November",
+  "FREQ=DAILY;COUNT=10": "ten days",
+  "FREQ=MONTHLY;BYMONTHDAY=31": "the 31st, where there is one",
+  "FREQ=MONTHLY;BYDAY=MO,TU,WE,TH,FR;BYSETPOS=-1": "the last weekday of each month",
+  "FREQ=YEARLY;BYWEEKNO=1,99": "a week that there is not",
 };
 
 /** Saturday and Sunday. */
@@ -161,6 +172,24 @@ function startMonth() {
   show(today);
 }
 
+/** The year of a text; a RangeError if the calendar does not have it. */
+const yearOfText = (text) => new PlainDate(text === "" ? NaN : text, 1, 1).year;
+
+function startRule() {
+  const [rule, start, year, sheet, words, trouble] = ["rule", "rule-start", "rule-year", "year-sheet", "rule-words", "rule-trouble"].map(at);
+  const show = () => {
+    sheet.replaceChildren();
+    words.replaceChildren();
+    orRefused(trouble, [rule, start, year], () => {
+      const [from, shown] = [read(start, dateOfText), read(year, yearOfText)];
+      read(rule, (text) => showYear(sheet, words, text, from, shown));
+    });
+  };
+  [rule, start, year].forEach((it) => it.addEventListener("input", show));
+  chips(at("rule-examples"), rule, RULE_EXAMPLES, String, show);
+  show();
+}
+
 /** Boxes for the weekdays that are closed. */
 function weekendBoxes(fieldset) {
   const boxes = LONG_WEEKDAYS.map((name, index) => {
@@ -208,6 +237,7 @@ function startRow() {
 }
 
 startSchedule();
+startRule();
 startBetween();
 startMonth();
 startLine();

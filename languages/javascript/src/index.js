@@ -8,5 +8,6 @@ export { Instant } from "./instant.js";
 export { version } from "./layers.js";
 export { daysUntil, isLeapYear, PlainDate } from "./plain_date.js";
 export { PlainDateTime } from "./plain_date_time.js";
+export { Rule } from "./rule.js";
 export { Schedule } from "./schedule.js";
 export { TextError } from "./text_error.js";

@@ -7,7 +7,7 @@ import { strict as assert } from "node:assert";
 import { inspect } from "node:util";
 import { test } from "node:test";
 
-import { BusinessCalendar, dayCount, PlainDate, PlainDateTime, Schedule, TextError, version } from "proved-calendar";
+import { BusinessCalendar, dayCount, PlainDate, PlainDateTime, Rule, Schedule, TextError, version } from "proved-calendar";
 
 const refused = (call) => assert.throws(call, RangeError);
 const texts = (moments) => Array.from(moments, String);
@@ -189,4 +189,49 @@ test("calendars as values", () => {
   refused(() => new BusinessCalendar({ weekend: [], holidays: days }));
   refused(() => new BusinessCalendar({ weekend: [8] }));
   refused(() => new BusinessCalendar({ holidays: ["2024-02-30"] }));
+});
+
+test("rule_check", () => {
+  const rule = new Rule("FREQ=MONTHLY;BYDAY=-1FR", "2024-01-01");
+  assert.equal(`${rule} ${rule.start} ${inspect(rule)}`, "FREQ=MONTHLY;BYDAY=-1FR 2024-01-01 Rule FREQ=MONTHLY;BYDAY=-1FR from 2024-01-01");
+  assert.equal(Object.prototype.toString.call(new Rule("freq=daily", rule.start)), "[object Rule]");
+  refused(() => new Rule("FREQ=DAILY", "2024-02-30"));
+});
+
+test("rule_fault_text", () => {
+  for (const [text, start, end] of [["FREQ=YEARLY;BYMONTH=13", 20, 22], ["FREQ=DAILY;BYMONTH=1,13,2", 21, 23], ["", 0, 0]]) {
+    assert.throws(() => new Rule(text, "2024-01-01"), { name: "TextError", text, start, end });
+  }
+  assert.throws(() => new Rule("FREQ=YEARLY;BYMONTH=13", "2024-01-01"), /BYMONTH, byte 20/);
+});
+
+test("rule_next", () => {
+  const fridays = new Rule("FREQ=MONTHLY;BYDAY=-1FR", "2024-01-01");
+  const found = ["2024-01-01", "2024-01-26", "2023-01-01"].map((it) => `${fridays.nextAfter(it)}`);
+  assert.deepEqual(found, ["2024-01-26", "2024-02-23", "2024-01-26"]);
+  assert.equal(new Rule("FREQ=DAILY;COUNT=3", "2024-01-01").nextAfter("2024-01-03"), undefined);
+});
+
+test("rule_prev", () => {
+  const fridays = new Rule("FREQ=MONTHLY;BYDAY=-1FR", "2024-01-01");
+  assert.deepEqual(["2024-03-01", "2024-02-23"].map((it) => `${fridays.previousBefore(it)}`), ["2024-02-23", "2024-01-26"]);
+  assert.equal(fridays.previousBefore("2024-01-26"), undefined);
+});
+
+test("rule_is_instance", () => {
+  const rule = new Rule("FREQ=MONTHLY;BYMONTHDAY=31", "2024-01-01");
+  assert.deepEqual(["2024-01-31", "2024-02-29", "2024-03-31", "2023-12-31"].map((it) => rule.includes(it)), [true, false, true, false]);
+});
+
+test("rule_instances", () => {
+  const daily = new Rule("FREQ=DAILY", "2024-02-01");
+  for (const count of [0, 1, 63, 64, 65, 200]) {
+    const found = [...daily.iterate({ until: PlainDate.from("2024-01-31").add({ days: count }) })];
+    assert.equal(found.length, count);
+    assert.ok(found.every((it, index) => it.dayNumber === daily.start.dayNumber + index));
+  }
+  assert.deepEqual(texts(daily.iterate({ from: "2024-02-29", until: "2024-03-01" })), ["2024-02-29", "2024-03-01"]);
+  assert.deepEqual(texts(new Rule("FREQ=WEEKLY;COUNT=3", "2024-02-01")), ["2024-02-01", "2024-02-08", "2024-02-15"]);
+  assert.deepEqual(texts(new Rule("FREQ=DAILY", "+262142-12-31")), ["+262142-12-31"]);
+  refused(() => daily.iterate({ from: "2024-02-30" }));
 });

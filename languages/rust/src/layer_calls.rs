@@ -55,6 +55,25 @@ unsafe extern "C" {
         out: *mut Moment,
         room: usize,
     ) -> usize;
+    pub(crate) fn calendar_rule_check(text: *const u8, length: usize, fault: &mut Fault) -> bool;
+    pub(crate) fn calendar_rule_fault_text(fault: &Fault, text: *mut u8, room: usize) -> i32;
+    pub(crate) fn calendar_rule_next(text: *const u8, length: usize, start: i32, day: i32) -> i32;
+    pub(crate) fn calendar_rule_prev(text: *const u8, length: usize, start: i32, day: i32) -> i32;
+    pub(crate) fn calendar_rule_is_instance(
+        text: *const u8,
+        length: usize,
+        start: i32,
+        day: i32,
+    ) -> bool;
+    pub(crate) fn calendar_rule_instances(
+        text: *const u8,
+        length: usize,
+        start: i32,
+        from: i32,
+        until: i32,
+        out: *mut i32,
+        room: usize,
+    ) -> usize;
     pub(crate) fn calendar_is_open_day(
         weekend: u8,
         holidays: *const i32,

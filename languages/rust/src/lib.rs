@@ -17,6 +17,8 @@ mod date_time;
 mod duration;
 mod layer_calls;
 mod parse_error;
+#[cfg(feature = "alloc")]
+mod rule;
 mod schedule;
 mod text_error;
 mod weekday;
@@ -39,6 +41,8 @@ pub use date_range::DateRange;
 pub use date_time::DateTime;
 pub use duration::Duration;
 pub use parse_error::ParseError;
+#[cfg(feature = "alloc")]
+pub use rule::{Rule, RuleDays};
 pub use schedule::{Schedule, ScheduleTimes};
 pub use text_error::TextError;
 pub use weekday::Weekday;

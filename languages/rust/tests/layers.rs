@@ -2,7 +2,7 @@
 //! function, named after it, and then what Rust adds.
 
 use proved_calendar::{
-    BusinessCalendar, Date, DateTime, DayCount, Roll, Schedule, Weekday, WeekdaySet,
+    BusinessCalendar, Date, DateTime, DayCount, Roll, Rule, Schedule, Weekday, WeekdaySet,
 };
 use Weekday::{Fri, Sat, Sun};
 
@@ -308,4 +308,99 @@ fn calendars() {
         (calendar.weekend(), calendar.holidays()),
         (weekend(), &days[..])
     );
+}
+
+fn rule(text: &str) -> Rule {
+    text.parse().unwrap()
+}
+
+#[test]
+fn rule_check() {
+    for text in [
+        "FREQ=MONTHLY;BYDAY=-1FR",
+        "freq=daily;count=3",
+        "FREQ=YEARLY;BYWEEKNO=20;BYDAY=MO",
+    ] {
+        assert_eq!(rule(text).to_string(), text);
+    }
+    for (text, start, end) in [
+        ("FREQ=YEARLY;BYMONTH=13", 20, 22),
+        ("FREQ=DAILY;BYMONTH=1,13,2", 21, 23),
+        ("", 0, 0),
+    ] {
+        let wrong = text.parse::<Rule>().unwrap_err();
+        assert_eq!((wrong.start(), wrong.end()), (start, end), "{text}");
+    }
+}
+
+#[test]
+fn rule_fault_text() {
+    let wrong = "FREQ=YEARLY;BYMONTH=13".parse::<Rule>().unwrap_err();
+    assert!(
+        wrong.to_string().contains("BYMONTH") && wrong.to_string().contains("20"),
+        "{wrong}"
+    );
+}
+
+#[test]
+fn rule_next() {
+    let fridays = rule("FREQ=MONTHLY;BYDAY=-1FR");
+    let start = date("2024-01-01");
+    for (day, wanted) in [
+        ("2024-01-01", "2024-01-26"),
+        ("2024-01-26", "2024-02-23"),
+        ("2023-01-01", "2024-01-26"),
+        ("+262142-12-31", "none"),
+    ] {
+        assert_eq!(text(fridays.next_after(start, date(day))), wanted);
+    }
+    assert_eq!(
+        rule("FREQ=DAILY;COUNT=3").next_after(start, date("2024-01-03")),
+        None
+    );
+}
+
+#[test]
+fn rule_prev() {
+    let fridays = rule("FREQ=MONTHLY;BYDAY=-1FR");
+    let start = date("2024-01-01");
+    for (day, wanted) in [
+        ("2024-03-01", "2024-02-23"),
+        ("2024-02-23", "2024-01-26"),
+        ("2024-01-26", "none"),
+    ] {
+        assert_eq!(text(fridays.prev_before(start, date(day))), wanted);
+    }
+}
+
+#[test]
+fn rule_is_instance() {
+    let thirty_first = rule("FREQ=MONTHLY;BYMONTHDAY=31");
+    let days = ["2024-01-31", "2024-02-29", "2024-03-31", "2023-12-31"]
+        .map(|it| thirty_first.is_instance(date("2024-01-01"), date(it)));
+    assert_eq!(days, [true, false, true, false]);
+}
+
+#[test]
+fn rule_instances() {
+    let daily = rule("FREQ=DAILY");
+    let start = date("2024-02-01");
+    for count in [1, 2, 5, 6, 20, 21, 85, 86, 1_000] {
+        let until = start.checked_add_days(count - 1).unwrap();
+        let found: Vec<Date> = daily.instances_between(start, start, until).collect();
+        assert_eq!((found.len(), found.last()), (count as usize, Some(&until)));
+        assert!(found.windows(2).all(|it| it[1] - it[0] == 1));
+    }
+    let shown = daily.instances_between(start, date("2024-02-28"), date("2024-03-01"));
+    assert_eq!(shown.map(|it| it.day()).collect::<Vec<_>>(), [28, 29, 1]);
+    assert_eq!(
+        rule("FREQ=WEEKLY;COUNT=3")
+            .instances(start)
+            .map(|it| it.day())
+            .collect::<Vec<_>>(),
+        [1, 8, 15]
+    );
+    assert_eq!(daily.instances(Date::MAX).collect::<Vec<_>>(), [Date::MAX]);
+    let mut none = daily.instances_between(start, date("2024-01-01"), date("2024-01-31"));
+    assert_eq!((none.next(), none.next()), (None, None));
 }
