@@ -362,7 +362,7 @@ def use_schedule(results, page):
     for text, wrong, reason in WRONG_SCHEDULES:
         page.type("#cron", text)
         results.equal(page.run("[...document.querySelectorAll('#cron-trouble mark')].map((it) => it.textContent)"), [wrong], f"the mark in {text!r}")
-        results.equal(page.run("document.querySelector('#cron-trouble .at').textContent"), text + " " * (wrong == " "), f"the text of {text!r}")
+        results.equal(page.run("document.querySelector('#cron-trouble .at').textContent"), text + wrong * (wrong == "\u00a0"), f"the text of {text!r}")
         results.equal(page.text("#cron-trouble span"), reason, f"what is wrong with {text!r}")
         results.equal((page.text("#cron-words"), marked(page)), ("", ["cron"]), f"what else is shown of {text!r}")
     page.type("#cron", "0 0 30 2 *")
