@@ -376,6 +376,13 @@ export type DayCount = "actualActualIsda" | "actual360" | "actual365Fixed" | "th
 export class BusinessCalendar {
   /** The weekend has weekdays from 1 for Monday to 7, and is [6, 7] if left out. RangeError above 1,000 holidays. */
   constructor(options?: { weekend?: number[]; holidays?: Iterable<DateLike> });
+  /** The calendar with the known holidays of some years; New Year's Day can be kept in the year before. */
+  static of(
+    name: "usFederal" | "target" | "englandAndWales",
+    firstYear: number,
+    lastYear: number,
+    options?: { weekend?: number[] },
+  ): BusinessCalendar;
   readonly weekend: number[];
   /** The holidays that are not on the weekend, in order. */
   readonly holidays: PlainDate[];
@@ -390,3 +397,6 @@ export class BusinessCalendar {
 
 /** The part of a year from one date to another by a day count: a fraction that is not reduced. */
 export function dayCount(kind: DayCount, from: DateLike, to: DateLike): { numerator: number; denominator: number };
+
+/** Easter Sunday of a year, as the Gregorian churches have it. */
+export function easter(year: number): PlainDate;

@@ -1,6 +1,6 @@
 /** Ties what is typed to what is shown. */
 
-import { PlainDate, PlainDateTime, TextError } from "../src/index.js";
+import { BusinessCalendar, PlainDate, PlainDateTime, TextError } from "../src/index.js";
 import { answerOf } from "./answers.js";
 import { datesOfText, faultNodes, showOpenDays, showSchedule, showYear } from "./layer_parts.js";
 import { dateOfText, element, LONG_WEEKDAYS, MONTHS, moveOfKey, showBetween, showMonth, showRow } from "./parts.js";
@@ -44,6 +44,9 @@ const RULE_EXAMPLES = {
   "FREQ=MONTHLY;BYDAY=MO,TU,WE,TH,FR;BYSETPOS=-1": "the last weekday of each month",
   "FREQ=YEARLY;BYWEEKNO=1,99": "a week that there is not",
 };
+
+/** Calendars whose holidays are known. */
+const KNOWN = { "": "my own list", usFederal: "the United States", target: "the euro (TARGET)", englandAndWales: "England and Wales" };
 
 /** Saturday and Sunday. */
 const USUAL_WEEKEND = [6, 7];
@@ -190,6 +193,21 @@ function startRule() {
   show();
 }
 
+/** A list to choose known holidays from, which are put into a field for the years of two dates. */
+function knownHolidays(select, field, years, weekend, show) {
+  select.replaceChildren(...Object.entries(KNOWN).map(([value, name]) => element("option", { value }, name)));
+  select.addEventListener("change", () => {
+    orRefused(at("holidays-trouble"), [field], () => {
+      const chosen = select.value === "" ? [] : BusinessCalendar.of(select.value, ...years(), { weekend: weekend() }).holidays;
+      field.value = chosen.join(" ");
+      show();
+    });
+  });
+  field.addEventListener("input", () => {
+    select.value = "";
+  });
+}
+
 /** Boxes for the weekdays that are closed. */
 function weekendBoxes(fieldset) {
   const boxes = LONG_WEEKDAYS.map((name, index) => {
@@ -213,6 +231,8 @@ function startBetween() {
     });
   };
   [from, to, holidays, at("weekend")].forEach((it) => it.addEventListener("input", show));
+  const years = () => [from, to].map((it) => dateOfText(it.value).year).sort((one, other) => one - other);
+  knownHolidays(at("known"), holidays, years, weekend, show);
   at("swap").addEventListener("click", () => {
     [from.value, to.value] = [to.value, from.value];
     show();

@@ -2,7 +2,7 @@
  * The calendar, by functions that are proved: dates, date-times and durations with the names of Temporal, and layers above them.
  */
 
-export { BusinessCalendar, dayCount } from "./business_calendar.js";
+export { BusinessCalendar, dayCount, easter } from "./business_calendar.js";
 export { Duration } from "./duration.js";
 export { Instant } from "./instant.js";
 export { version } from "./layers.js";

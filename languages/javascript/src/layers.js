@@ -6,6 +6,7 @@
 
 import { instantiate } from "./instantiate.js";
 import { MODULE } from "./layers_module.js";
+import { NONE } from "./library.js";
 import { getMoment, MOMENT_SIZE, setMoment } from "./moments.js";
 import { TextError } from "./text_error.js";
 
@@ -130,6 +131,23 @@ function putCalendar(room, { weekend, holidays }) {
   holidays.forEach((it, index) => room.view.setInt32(HOLIDAYS + 4 * index, it, true));
   return [weekend, address(room, HOLIDAYS), BigInt(holidays.length)];
 }
+
+/** Whether holidays are those of a calendar: they rise strictly, none is on the weekend, and they are not too many. */
+export function areHolidays(calendar) {
+  const room = open();
+  return room.layers.calendar_holidays_check(...putCalendar(room, calendar), address(room, FAULT)) !== 0;
+}
+
+/** The numbers of the holidays of a known calendar in some years; undefined if they are too many, or there is no such year. */
+export function holidaysOf(which, firstYear, lastYear, weekend) {
+  const room = open();
+  const out = [address(room, HOLIDAYS), BigInt(MOST_HOLIDAYS)];
+  const count = room.layers.calendar_holidays_of(which, firstYear, lastYear, weekend, ...out);
+  return count === NONE ? undefined : Int32Array.from({ length: count }, (_, index) => room.view.getInt32(HOLIDAYS + 4 * index, true));
+}
+
+/** The number of Easter Sunday of a year; the number of no date if there is no such year. */
+export const easterOf = (year) => open().layers.calendar_easter(year);
 
 /** Whether a date, by its number, is open in a calendar: a set of weekdays, and the numbers of holidays. */
 export function isOpenDay(calendar, date) {

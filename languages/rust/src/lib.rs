@@ -33,7 +33,9 @@ mod with_time;
 #[cfg(any(feature = "chrono", feature = "time"))]
 mod conversion_error;
 
-pub use business::{BusinessCalendar, DayCount, Fraction, Roll};
+pub use business::{
+    easter, BusinessCalendar, DayCount, Fraction, HolidaysError, KnownCalendar, Roll,
+};
 #[cfg(any(feature = "chrono", feature = "time"))]
 pub use conversion_error::ConversionError;
 pub use date::{days_in_month, is_leap_year, Date};
