@@ -570,6 +570,7 @@ def take_picture(path):
         page.call("Emulation.setEmulatedMedia", features=[{"name": "prefers-color-scheme", "value": "light"}])
         page.call("Emulation.setDeviceMetricsOverride", height=900, **size)
         page.open(javascript.make(TOP, None, room)[1])
+        page.type("#after", "2024-02-09T04:30:00")
         page.type("#year", "2024")
         page.run("(() => { const it = document.querySelector('#month'); it.value = '2'; it.dispatchEvent(new Event('change')); })()")
         page.run("(() => { document.querySelector('#sheet [data-date=\"2024-02-29\"]').click(); document.activeElement.blur(); })()")
