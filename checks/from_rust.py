@@ -100,8 +100,8 @@ def unpacked(room, built):
 
 
 def make_project(project, package, tests, features=()):
-    """A project that uses the package and has its tests; the project."""
-    named = ", ".join(f'"{it}"' for it in (*features, *(["std"] if features else [])))
+    """A project that uses the package, with std if it has tests, and has its tests; the project."""
+    named = ", ".join(f'"{it}"' for it in (*features, *(["std"] if tests else [])))
     others = "".join(f"{it} = {FEATURES[it]}\n" for it in features)
     write(f"{project}/Cargo.toml", PROJECT.format(package=package, features=named, others=others))
     write(f"{project}/src/lib.rs", "")
@@ -122,8 +122,16 @@ def test_examples(results, room, package):
     built = f"{room}/target/debug/deps"
     library = max(glob.glob(f"{built}/libproved_calendar-*.rlib"), key=os.path.getmtime)
     words = ["rustdoc", "--test", "--edition", "2021", "--crate-name", "proved_calendar", f"{package}/src/lib.rs"]
+    words += [it for name in ("alloc", "std") for it in ("--cfg", f'feature="{name}"')]
     words += ["-L", f"dependency={built}", "--extern", f"proved_calendar={library}"]
     run(results, "the examples in Rust", words, COUNTS, cwd=package)
+
+
+def test_bare(results, room, package):
+    """The package builds with no feature, so without std."""
+    words = ["cargo", "check", "--offline"]
+    ran = subprocess.run(words, cwd=make_project(f"{room}/bare", package, []), env=environment(room), capture_output=True, text=True)
+    results.count(ran.returncode == 0, f"a build with no feature says:\n{ran.stderr[-2000:]}")
 
 
 def test_missing(results, room, package):
@@ -178,5 +186,6 @@ def test(results, room, library, layers):
     run(results, "cargo test", words, COUNTS, cwd=project, env=environment(room))
     test_examples(results, room, package)
     chrono_docs.test(results, room, package, environment(room))
+    test_bare(results, room, package)
     test_missing(results, room, package)
     try_wrong_lines(results, room, built)

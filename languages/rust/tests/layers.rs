@@ -482,10 +482,8 @@ fn rule_check() {
 #[test]
 fn rule_fault_text() {
     let wrong = "FREQ=YEARLY;BYMONTH=13".parse::<Rule>().unwrap_err();
-    assert!(
-        wrong.to_string().contains("BYMONTH") && wrong.to_string().contains("20"),
-        "{wrong}"
-    );
+    assert_eq!(wrong.to_string(), "BYMONTH: number out of range");
+    assert_eq!(wrong.field(), Some(5));
 }
 
 #[test]
