@@ -21,7 +21,7 @@ from wrong_lines import edits, planted
 
 TOP = os.path.dirname(os.path.dirname(os.path.abspath(__file__)))
 sys.path.insert(0, f"{TOP}/tools")
-from debian import FROM_DEBIAN, REGISTRY  # noqa: E402
+from debian import FROM_DEBIAN, PYTHON, REGISTRY  # noqa: E402
 from packages import CALENDAR, LAYERS, rust  # noqa: E402
 
 FOLDER = f"{TOP}/languages/rust"
@@ -127,6 +127,19 @@ def test_examples(results, room, package):
     run(results, "the examples in Rust", words, COUNTS, cwd=package)
 
 
+def test_peers(results, room, package):
+    """The layers beside croniter, dateutil and numpy, on 20,000 drawn cases each."""
+    answers = f"{room}/answers.txt"
+    with open(answers, "w", encoding="utf-8") as it:
+        ran = subprocess.run([PYTHON, f"{TOP}/checks/peer_answers.py"], stdout=it, stderr=subprocess.PIPE, text=True)
+    if ran.returncode:
+        print(f"not run: Rust's layers beside other programs: {ran.stderr.strip()[-200:] or 'there is no croniter, dateutil or numpy'}")
+        return
+    project = make_project(f"{room}/peers", package, ("peers",))
+    words = ["cargo", "test", "--offline", "--quiet", "--test", "peers"]
+    run(results, "Rust's layers beside other programs", words, COUNTS, cwd=project, env={**environment(room), "PEER_ANSWERS": answers})
+
+
 def test_bare(results, room, package):
     """The package builds with no feature, so without std."""
     words = ["cargo", "check", "--offline"]
@@ -186,6 +199,7 @@ def test(results, room, library, layers):
     run(results, "cargo test", words, COUNTS, cwd=project, env=environment(room))
     test_examples(results, room, package)
     chrono_docs.test(results, room, package, environment(room))
+    test_peers(results, room, package)
     test_bare(results, room, package)
     test_missing(results, room, package)
     try_wrong_lines(results, room, built)
