@@ -183,6 +183,119 @@ static void open_days(void)
     free(days);
 }
 
+/* A text near to a rule's: parts of rules, and now and then any letters. */
+static uint8_t *rule(size_t *length)
+{
+    static const char *const parts[] = {
+        "FREQ=DAILY", "FREQ=WEEKLY", "FREQ=MONTHLY", "FREQ=YEARLY", "INTERVAL=2", "INTERVAL=0", "COUNT=5", "UNTIL=20300101", "BYMONTH=2,12",
+        "BYMONTHDAY=31,-1", "BYDAY=MO,-1FR", "BYDAY=SA,SU", "BYYEARDAY=366", "BYWEEKNO=53", "BYSETPOS=-1", "WKST=SU", "RRULE:", "X=1",
+    };
+    if (any() % 8 == 0) {
+        *length = any() % 40;
+        return text(*length);
+    }
+    char made[256] = "";
+    for (uint64_t k = any() % 5 + 1; k > 0; k--) {
+        strcat(made, parts[any() % (sizeof parts / sizeof *parts)]);
+        strcat(made, k > 1 ? ";" : "");
+    }
+    *length = strlen(made);
+    uint8_t *copy = bytes(*length);
+    memcpy(copy, made, *length);
+    return copy;
+}
+
+/* A day of the years around 2024, or now and then any number. */
+static int32_t near_day(void)
+{
+    return any() % 16 ? 738000 + (int32_t)(any() % 2000) : date();
+}
+
+static void rules(void)
+{
+    size_t length;
+    uint8_t *given = rule(&length);
+    calendar_fault fault = {0, 0, 0, 0};
+    bool is_rule = calendar_rule_check(given, length, &fault);
+    HOLDS(is_rule ? fault.code == 0 : fault.byte <= fault.end && fault.end <= length);
+    int32_t start = near_day(), day = near_day(), until = near_day();
+    int32_t next = calendar_rule_next(given, length, start, day), last = calendar_rule_prev(given, length, start, day);
+    HOLDS(next == CALENDAR_NONE || (is_rule && next > day && calendar_rule_is_instance(given, length, start, next)));
+    HOLDS(last == CALENDAR_NONE || (is_rule && last < day && calendar_rule_is_instance(given, length, start, last)));
+    size_t room = any() % 9;
+    int32_t *out = (int32_t *)malloc((room ? room : 1) * sizeof *out);
+    size_t written = calendar_rule_instances(given, length, start, day, until, out, room);
+    HOLDS(written <= room && (is_rule || written == 0));
+    for (size_t i = 0; i < written; i++) {
+        int32_t before = i ? out[i - 1] : day - 1;
+        HOLDS(before < out[i] && out[i] <= until && calendar_rule_next(given, length, start, before) == out[i]);
+    }
+    free(out);
+    free(given);
+    fill(&fault, sizeof fault);
+    fault.code = (uint32_t)(any() % 40);
+    fault.field = (uint32_t)(any() % 16);
+    room = any() % 70;
+    uint8_t *said = bytes(room);
+    int32_t told = calendar_rule_fault_text(&fault, said, room);
+    HOLDS(told == CALENDAR_NONE || (told > 0 && (size_t)told <= room));
+    free(said);
+}
+
+static void known_holidays(void)
+{
+    size_t room = any() % 200;
+    int32_t *days = (int32_t *)malloc((room ? room : 1) * sizeof *days);
+    int32_t first = any() % 8 ? 1960 + (int32_t)(any() % 100) : (int32_t)any() / 4, last = first + (int32_t)(any() % 20) - 1;
+    uint8_t weekend = any() % 2 ? 96 : (uint8_t)any();
+    calendar_fault fault = {0, 0, 0, 0};
+    int32_t found = calendar_holidays_of((uint32_t)(any() % 4), first, last, weekend, days, room);
+    HOLDS(found == CALENDAR_NONE || (found >= 0 && (size_t)found <= room && calendar_holidays_check(weekend, days, (size_t)found, &fault)));
+    HOLDS(fault.code == 0);
+    int32_t year = any() % 2 ? first : (int32_t)any(), easter = calendar_easter(year);
+    HOLDS(easter == CALENDAR_NONE || (((int64_t)easter % 7) + 7) % 7 == 0);
+    free(days);
+}
+
+static void columns(void)
+{
+    uint8_t weekend = any() % 2 ? 96 : (uint8_t)any();
+    int32_t days[30];
+    size_t length = holidays(weekend, days, 30), room = any() % 20, other = any() % 4 ? room : any() % 20;
+    int32_t *dates = (int32_t *)malloc((room ? room : 1) * sizeof *dates), *out = (int32_t *)malloc((other ? other : 1) * sizeof *out);
+    int64_t *counted = (int64_t *)malloc((other ? other : 1) * sizeof *counted);
+    uint8_t *marks = bytes(other);
+    for (size_t i = 0; i < room; i++) {
+        dates[i] = length && any() % 4 ? (int32_t)((uint32_t)days[any() % length] + (uint32_t)(any() % 9) - 4) : date();
+    }
+    fill(out, other * sizeof *out);
+    calendar_fault fault;
+    bool is_right = room == other && calendar_holidays_check(weekend, days, length, &fault);
+    int64_t n = any() % 8 ? (int64_t)(any() % 400) - 200 : (int64_t)any();
+    uint32_t roll = (uint32_t)(any() % 8);
+    HOLDS(calendar_column_is_open_day(weekend, days, length, dates, room, marks, other) == is_right);
+    HOLDS(calendar_column_open_days_between(weekend, days, length, dates, room, dates, room, counted, other) == is_right);
+    HOLDS(calendar_column_add_open_days(weekend, days, length, dates, room, n, out, other) == is_right);
+    for (size_t i = 0; is_right && i < room; i++) {
+        HOLDS(marks[i] == calendar_is_open_day(weekend, days, length, dates[i]));
+        HOLDS(counted[i] == calendar_open_days_between(weekend, days, length, dates[i], dates[i]));
+        HOLDS(out[i] == calendar_add_open_days(weekend, days, length, dates[i], n));
+    }
+    HOLDS(calendar_column_roll(weekend, days, length, dates, room, roll, out, other) == (is_right && roll < 7));
+    for (size_t i = 0; is_right && roll < 7 && i < room; i++) {
+        HOLDS(out[i] == calendar_roll(weekend, days, length, dates[i], roll));
+    }
+    HOLDS(calendar_column_to_date32(dates, room, out, other) == (room == other));
+    for (size_t i = 0; room == other && i < room; i++) {
+        int32_t back;
+        HOLDS(calendar_column_from_date32(&out[i], 1, &back, 1) && (out[i] == CALENDAR_NONE || back == dates[i]));
+    }
+    free(marks);
+    free(counted);
+    free(out);
+    free(dates);
+}
+
 static void day_counts(void)
 {
     int32_t from = date(), to = date();
@@ -208,7 +321,10 @@ int main(int count_of_words, char **words)
         versions();
         schedule_texts();
         schedules();
+        rules();
         open_days();
+        known_holidays();
+        columns();
         day_counts();
     }
     printf("%d passed, %d failed\n", passed, failed);

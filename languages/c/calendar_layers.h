@@ -1,4 +1,5 @@
-/* calendar_layers.h of proved_calendar: cron schedules, open days and day counts, by functions that are proved.
+/* calendar_layers.h of proved_calendar: cron schedules, recurrence rules, open days, holidays and day counts, by functions that
+ * are proved.
  *
  * For example, calendar_schedule_read reads `30 4 1,15 * fri` into a calendar_schedule. calendar_schedule_next then finds the
  * next time at which it is due.
@@ -104,6 +105,66 @@ bool calendar_schedule_is_due(const calendar_schedule *schedule, calendar_date_t
 size_t calendar_schedule_due(const calendar_schedule *schedule, calendar_date_time start, calendar_date_time until,
                              calendar_date_time *out, size_t room);
 
+/* ---- recurrence rules
+ *
+ * A rule is its text (RFC 5545, section 3.3.10), such as `FREQ=MONTHLY;BYDAY=-1FR`, and each call reads it. Rules are over days. To
+ * give the instances a time of day, add it to each. A rule that begins on `start` has `start` as an instance only if the rule fits it. */
+
+/* What is wrong with a rule: the codes of calendar_fault. Its fields are 1 for FREQ, INTERVAL, COUNT, UNTIL, BYMONTH, BYMONTHDAY, BYDAY,
+ * BYYEARDAY, BYWEEKNO, BYSETPOS, and 11 for WKST. */
+enum {
+    CALENDAR_RULE_UNKNOWN = 1,
+    CALENDAR_RULE_OF_HOURS,
+    CALENDAR_RULE_OF_MINUTES,
+    CALENDAR_RULE_OF_SECONDS,
+    CALENDAR_RULE_EXTENSION,
+    CALENDAR_RULE_OF_CALENDARS,
+    CALENDAR_RULE_OF_SKIPS,
+    CALENDAR_RULE_BLANK,
+    CALENDAR_RULE_MISSING,
+    CALENDAR_RULE_TWICE,
+    CALENDAR_RULE_EMPTY,
+    CALENDAR_RULE_NOT_A_FREQUENCY,
+    CALENDAR_RULE_NOT_A_NUMBER,
+    CALENDAR_RULE_RANGE,
+    CALENDAR_RULE_OUT_OF_RANGE,
+    CALENDAR_RULE_NOT_A_DATE,
+    CALENDAR_RULE_WITH_TIME,
+    CALENDAR_RULE_NOT_A_WEEKDAY,
+    CALENDAR_RULE_BESIDE_COUNT,
+    CALENDAR_RULE_NUMBERS_BESIDE_WEEKS,
+    CALENDAR_RULE_ALONE,
+    CALENDAR_RULE_NOT_WITH_DAILY,
+    CALENDAR_RULE_NOT_WITH_WEEKLY,
+    CALENDAR_RULE_NOT_WITH_MONTHLY,
+    CALENDAR_RULE_NOT_WITH_YEARLY,
+    CALENDAR_RULE_NUMBERS_NOT_WITH_DAILY,
+    CALENDAR_RULE_NUMBERS_NOT_WITH_WEEKLY,
+    CALENDAR_RULE_NUMBERS_NOT_WITH_MONTHLY,
+    CALENDAR_RULE_NUMBERS_NOT_WITH_YEARLY
+};
+
+/* Returns whether a text is a rule. If it is none, fault says what is wrong first. */
+bool calendar_rule_check(const uint8_t *text, size_t length, calendar_fault *fault);
+
+/* Writes what a fault of a rule says, such as `BYMONTHDAY: number out of range`, and returns the number of bytes, at most 64. If fault
+ * has no such code, or room is too small, writes nothing and returns CALENDAR_NONE. */
+int32_t calendar_rule_fault_text(const calendar_fault *fault, uint8_t *text, size_t room);
+
+/* Returns the first instance after a day of the rule that begins on start. Returns CALENDAR_NONE if there is none, if the text is not a
+ * rule, or if one of the days is not a date. */
+int32_t calendar_rule_next(const uint8_t *text, size_t length, int32_t start, int32_t day);
+
+/* Returns the last instance before a day. */
+int32_t calendar_rule_prev(const uint8_t *text, size_t length, int32_t start, int32_t day);
+
+/* Returns whether a day is an instance. */
+bool calendar_rule_is_instance(const uint8_t *text, size_t length, int32_t start, int32_t day);
+
+/* Writes the instances on `from` and later, up to until, in order, and returns how many it wrote. It writes at most room. The other
+ * elements stay as they were. Begin again from the day after the last one if it wrote room of them. */
+size_t calendar_rule_instances(const uint8_t *text, size_t length, int32_t start, int32_t from, int32_t until, int32_t *out, size_t room);
+
 /* ---- open days
  *
  * A calendar is a weekend, a set of weekdays, and holidays: a pointer to their day numbers and how many there are. The pointer must
@@ -140,6 +201,57 @@ int64_t calendar_open_days_between(uint8_t weekend, const int32_t *holidays, siz
 /* Returns the date that a date goes to by a roll, such as CALENDAR_ROLL_FOLLOWING. An open date stays. Returns CALENDAR_NONE if there
  * is no such open day, or no such roll. */
 int32_t calendar_roll(uint8_t weekend, const int32_t *holidays, size_t count, int32_t date, uint32_t roll);
+
+/* What is wrong with holidays: the codes of calendar_fault. Its byte is the place of the wrong one, from 0. */
+enum {
+    CALENDAR_HOLIDAYS_TOO_MANY = 1,
+    CALENDAR_HOLIDAYS_NOT_A_DATE,
+    CALENDAR_HOLIDAYS_NOT_RISING,
+    CALENDAR_HOLIDAYS_ON_WEEKEND
+};
+
+/* Returns whether holidays are those of a calendar with a weekend. If they are not, fault says which is the first wrong one. */
+bool calendar_holidays_check(uint8_t weekend, const int32_t *holidays, size_t count, calendar_fault *fault);
+
+/* Calendars whose holidays are known: the federal ones of the United States, those of the euro's payment system TARGET, and the bank
+ * holidays of England and Wales. */
+enum { CALENDAR_US_FEDERAL = 0, CALENDAR_TARGET, CALENDAR_ENGLAND_AND_WALES };
+
+/* Writes the holidays of a known calendar for some years, but for those on the weekend, in order, and returns how many there are. The
+ * other elements stay as they were. If they are more than room or CALENDAR_MOST_HOLIDAYS, or there is no such calendar or year,
+ * writes nothing and returns CALENDAR_NONE. New Year's Day can be kept in the year before, so ask for one year more. */
+int32_t calendar_holidays_of(uint32_t which, int32_t first_year, int32_t last_year, uint8_t weekend, int32_t *out, size_t room);
+
+/* Returns Easter Sunday of a year, as the Gregorian churches have it. Returns CALENDAR_NONE if the calendar has no such year. */
+int32_t calendar_easter(int32_t year);
+
+/* ---- columns of open days
+ *
+ * As in calendar.h, a column is a pointer and the number of its elements. Each function writes all elements of its last column and
+ * returns true. If the columns have different lengths, or the holidays are wrong, it writes nothing and returns false. It looks at the
+ * holidays once. An element that is not a date gives 0, CALENDAR_NONE or INT64_MIN. */
+
+/* Writes for each date 1 if it is open, and 0 otherwise. */
+bool calendar_column_is_open_day(uint8_t weekend, const int32_t *holidays, size_t count, const int32_t *dates, size_t dates_length,
+                                 uint8_t *marks, size_t marks_length);
+
+/* Writes what calendar_add_open_days returns for each date. */
+bool calendar_column_add_open_days(uint8_t weekend, const int32_t *holidays, size_t count, const int32_t *dates, size_t dates_length,
+                                   int64_t n, int32_t *moved, size_t moved_length);
+
+/* Writes what calendar_open_days_between returns for the dates at each place. */
+bool calendar_column_open_days_between(uint8_t weekend, const int32_t *holidays, size_t count, const int32_t *from, size_t from_length,
+                                       const int32_t *to, size_t to_length, int64_t *days, size_t days_length);
+
+/* Writes what calendar_roll returns for each date. It also returns false if there is no such roll. */
+bool calendar_column_roll(uint8_t weekend, const int32_t *holidays, size_t count, const int32_t *dates, size_t dates_length,
+                          uint32_t roll, int32_t *rolled, size_t rolled_length);
+
+/* Writes the date of each 32-bit number of days since 1 January 1970, as Arrow's date32 has them. */
+bool calendar_column_from_date32(const int32_t *days, size_t days_length, int32_t *dates, size_t dates_length);
+
+/* Writes the days from 1 January 1970 to each date, as Arrow's date32 has them. */
+bool calendar_column_to_date32(const int32_t *dates, size_t dates_length, int32_t *days, size_t days_length);
 
 /* ---- day counts */
 

@@ -138,6 +138,81 @@ static void times_of_schedules(void)
     IS_MOMENT(calendar_schedule_next(&schedule, moment(MARCH, 0)), MARCH + 60, 0);
 }
 
+static bool is_rule(const char *text, calendar_fault *fault)
+{
+    return calendar_rule_check((const uint8_t *)text, strlen(text), fault);
+}
+
+static bool is_wrong_rule(const char *text, uint32_t code, uint32_t field, size_t byte, size_t end, const char *sentence)
+{
+    calendar_fault fault;
+    uint8_t said[64];
+    return !is_rule(text, &fault) && fault.code == code && fault.field == field && fault.byte == byte && fault.end == end
+        && calendar_rule_fault_text(&fault, said, sizeof said) == (int32_t)strlen(sentence) && memcmp(said, sentence, strlen(sentence)) == 0;
+}
+
+static void texts_of_rules(void)
+{
+    calendar_fault fault = {7, 8, 9, 10};
+    uint8_t said[64];
+    IS(is_rule("FREQ=MONTHLY;BYDAY=-1FR", &fault), true);
+    IS(fault.code, 7u);
+    IS(fault.end, 10u);
+    IS(is_wrong_rule("FREQ=MONTHLY;BYMONTHDAY=1,32", CALENDAR_RULE_OUT_OF_RANGE, 6, 26, 28, "BYMONTHDAY: number out of range"), true);
+    IS(is_wrong_rule("FREQ=WEEKLY;BYMONTHDAY=1;COUNT=3", CALENDAR_RULE_NOT_WITH_WEEKLY, 6, 12, 24, "BYMONTHDAY: does not go with WEEKLY"), true);
+    IS(is_wrong_rule("FREQ=DAILY;BYDAY=1MO", CALENDAR_RULE_NUMBERS_NOT_WITH_DAILY, 7, 11, 20, "BYDAY: number does not go with DAILY"), true);
+    IS(is_wrong_rule("FREQ=DAILY;BYHOUR=9", CALENDAR_RULE_OF_HOURS, 0, 11, 19, "BYHOUR: not in rules over days"), true);
+    IS(is_wrong_rule("COUNT=3", CALENDAR_RULE_MISSING, 1, 7, 7, "FREQ: missing"), true);
+    IS(is_wrong_rule("FREQ=YEARLY;BYSETPOS=1", CALENDAR_RULE_ALONE, 10, 12, 22, "BYSETPOS: needs another BY part"), true);
+    IS(is_wrong_rule("", CALENDAR_RULE_EMPTY, 0, 0, 0, "empty"), true);
+    fault.code = 0;
+    IS(calendar_rule_fault_text(&fault, said, sizeof said), CALENDAR_NONE);
+    fault.code = 30;
+    IS(calendar_rule_fault_text(&fault, said, sizeof said), CALENDAR_NONE);
+    fault.code = CALENDAR_RULE_EMPTY;
+    fault.field = 0;
+    IS(calendar_rule_fault_text(&fault, said, 5), 5);
+    IS(calendar_rule_fault_text(&fault, said, 4), CALENDAR_NONE);
+}
+
+/* 1 January 2024, a Monday, and the last Fridays of the three months from it on. */
+#define JANUARY_1 738886
+#define JANUARY_26 738911
+#define FEBRUARY_23 738939
+#define MARCH_29 738974
+
+static void days_of_rules(void)
+{
+    static const char last_friday[] = "FREQ=MONTHLY;BYDAY=-1FR", two[] = "RRULE:FREQ=WEEKLY;COUNT=2;", none[] = "FREQ=HOURLY";
+    const uint8_t *rule = (const uint8_t *)last_friday, *twice = (const uint8_t *)two, *wrong = (const uint8_t *)none;
+    size_t length = sizeof last_friday - 1, twice_length = sizeof two - 1, wrong_length = sizeof none - 1;
+    int32_t out[4] = {1, 2, 3, 4};
+    IS(calendar_rule_next(rule, length, JANUARY_1, JANUARY_1), JANUARY_26);
+    IS(calendar_rule_next(rule, length, JANUARY_1, JANUARY_26), FEBRUARY_23);
+    IS(calendar_rule_prev(rule, length, JANUARY_1, MARCH_29), FEBRUARY_23);
+    IS(calendar_rule_prev(rule, length, JANUARY_1, JANUARY_26), CALENDAR_NONE);
+    IS(calendar_rule_is_instance(rule, length, JANUARY_1, FEBRUARY_23), true);
+    IS(calendar_rule_is_instance(rule, length, JANUARY_1, JANUARY_1), false);
+    IS(calendar_rule_next(twice, twice_length, JANUARY_1, JANUARY_1), JANUARY_1 + 7);
+    IS(calendar_rule_next(twice, twice_length, JANUARY_1, JANUARY_1 + 7), CALENDAR_NONE);
+    IS(calendar_rule_instances(rule, length, JANUARY_1, JANUARY_1, MARCH_29, out, 4), 3u);
+    IS(out[0], JANUARY_26);
+    IS(out[1], FEBRUARY_23);
+    IS(out[2], MARCH_29);
+    IS(out[3], 4);
+    IS(calendar_rule_instances(rule, length, JANUARY_1, JANUARY_26, MARCH_29 - 1, out, 4), 2u);
+    IS(calendar_rule_instances(rule, length, JANUARY_1, JANUARY_26 + 1, CALENDAR_MAX, out, 1), 1u);
+    IS(out[0], FEBRUARY_23);
+    IS(calendar_rule_instances(rule, length, JANUARY_1, JANUARY_1, CALENDAR_MAX, out, 0), 0u);
+    IS(calendar_rule_instances(wrong, wrong_length, JANUARY_1, JANUARY_1, CALENDAR_MAX, out, 4), 0u);
+    IS(calendar_rule_instances(rule, length, JANUARY_1, JANUARY_1, INT32_MAX, out, 4), 0u);
+    IS(calendar_rule_next(wrong, wrong_length, JANUARY_1, JANUARY_1), CALENDAR_NONE);
+    IS(calendar_rule_next(rule, length, CALENDAR_NONE, JANUARY_1), CALENDAR_NONE);
+    IS(calendar_rule_prev(rule, length, JANUARY_1, CALENDAR_NONE), CALENDAR_NONE);
+    IS(calendar_rule_is_instance(wrong, wrong_length, JANUARY_1, JANUARY_1), false);
+    IS(calendar_rule_is_instance(rule, length, INT32_MAX, JANUARY_1), false);
+}
+
 /* 29 February 2024 and some days around it. 1 January of year 1 is day 1. */
 #define FEB_29 738945
 #define FRIDAY_MARCH_1 738946
@@ -191,6 +266,85 @@ static void many_holidays(void)
     IS(calendar_add_open_days(0, holidays, CALENDAR_MOST_HOLIDAYS + 1, FEB_29, 0), CALENDAR_NONE);
 }
 
+static bool is_wrong_at(const int32_t *days, size_t length, uint32_t code, size_t place)
+{
+    calendar_fault fault;
+    return !calendar_holidays_check(WEEKEND, days, length, &fault) && fault.code == code && fault.byte == place;
+}
+
+static void holidays(void)
+{
+    /* TARGET's closing days of 2024 (the ECB's calendar) */
+    const int32_t target[] = {738886, 738974, 738977, 739007, 739245, 739246};
+    const int32_t saturday[] = {738974, 738975}, twice[] = {738974, 738974}, no_date[] = {738974, CALENDAR_NONE};
+    int32_t out[20], many[CALENDAR_MOST_HOLIDAYS + 1];
+    calendar_fault fault = {7, 8, 9, 10};
+    out[6] = 5;
+    IS(calendar_holidays_of(CALENDAR_TARGET, 2024, 2024, WEEKEND, out, 20), 6);
+    IS(memcmp(out, target, sizeof target), 0);
+    IS(out[6], 5);
+    IS(calendar_holidays_of(CALENDAR_TARGET, 2024, 2024, WEEKEND, out, 6), 6);
+    IS(calendar_holidays_of(CALENDAR_TARGET, 2024, 2024, WEEKEND, out, 5), CALENDAR_NONE);
+    /* New Year's Day of 2022 was kept in 2021 */
+    IS(calendar_holidays_of(CALENDAR_US_FEDERAL, 2022, 2022, WEEKEND, out, 20), 11);
+    IS(out[0], 738155);
+    IS(calendar_holidays_of(CALENDAR_ENGLAND_AND_WALES, 2024, 2024, WEEKEND, out, 20), 8);
+    IS(calendar_holidays_of(CALENDAR_TARGET, 2024, 2023, WEEKEND, out, 20), 0);
+    IS(calendar_holidays_of(CALENDAR_TARGET, 1999, 2300, WEEKEND, many, CALENDAR_MOST_HOLIDAYS + 1), CALENDAR_NONE);
+    IS(calendar_holidays_of(3, 2024, 2024, WEEKEND, out, 20), CALENDAR_NONE);
+    IS(calendar_holidays_of(CALENDAR_TARGET, INT32_MIN, 2024, WEEKEND, out, 20), CALENDAR_NONE);
+    IS(calendar_holidays_of(CALENDAR_TARGET, 2024, INT32_MAX, WEEKEND, out, 20), CALENDAR_NONE);
+    IS(calendar_easter(2024), 738976);
+    IS(calendar_easter(INT32_MAX), CALENDAR_NONE);
+    IS(calendar_holidays_check(WEEKEND, target, 6, &fault), true);
+    IS(fault.code, 7u);
+    IS(is_wrong_at(saturday, 2, CALENDAR_HOLIDAYS_ON_WEEKEND, 1), true);
+    IS(is_wrong_at(twice, 2, CALENDAR_HOLIDAYS_NOT_RISING, 1), true);
+    IS(is_wrong_at(no_date, 2, CALENDAR_HOLIDAYS_NOT_A_DATE, 1), true);
+    for (int k = 0; k <= CALENDAR_MOST_HOLIDAYS; k++) {
+        many[k] = FEB_29 + 7 * k;
+    }
+    IS(calendar_holidays_check(WEEKEND, many, CALENDAR_MOST_HOLIDAYS, &fault), true);
+    IS(is_wrong_at(many, CALENDAR_MOST_HOLIDAYS + 1, CALENDAR_HOLIDAYS_TOO_MANY, CALENDAR_MOST_HOLIDAYS), true);
+}
+
+static void columns(void)
+{
+    const int32_t easter[] = {738974, 738977}, falling[] = {738977, 738974};
+    const int32_t dates[] = {738973, 738974, CALENDAR_NONE}, ends[] = {738978, CALENDAR_NONE, 738978};
+    const int32_t days[] = {0, 19782, INT32_MAX, INT32_MIN};
+    uint8_t marks[3] = {9, 9, 9};
+    int32_t moved[4] = {9, 9, 9, 9};
+    int64_t counted[3] = {9, 9, 9};
+    IS(calendar_column_is_open_day(WEEKEND, falling, 2, dates, 3, marks, 3), false);
+    IS(calendar_column_is_open_day(WEEKEND, easter, 2, dates, 3, marks, 2), false);
+    IS(marks[0], 9);
+    IS(calendar_column_is_open_day(WEEKEND, easter, 2, dates, 3, marks, 3), true);
+    IS(marks[0] == 1 && marks[1] == 0 && marks[2] == 0, true);
+    IS(calendar_column_add_open_days(WEEKEND, falling, 2, dates, 3, 1, moved, 3), false);
+    IS(calendar_column_add_open_days(WEEKEND, easter, 2, dates, 3, 1, moved, 2), false);
+    IS(moved[0], 9);
+    IS(calendar_column_add_open_days(WEEKEND, easter, 2, dates, 3, 2, moved, 3), true);
+    IS(moved[0] == 738979 && moved[1] == 738979 && moved[2] == CALENDAR_NONE, true);
+    IS(calendar_column_open_days_between(WEEKEND, easter, 2, dates, 3, ends, 2, counted, 3), false);
+    IS(calendar_column_open_days_between(WEEKEND, easter, 2, dates, 3, ends, 3, counted, 2), false);
+    IS(calendar_column_open_days_between(WEEKEND, falling, 2, dates, 3, ends, 3, counted, 3), false);
+    IS(counted[0], 9);
+    IS(calendar_column_open_days_between(WEEKEND, easter, 2, dates, 3, ends, 3, counted, 3), true);
+    IS(counted[0] == 1 && counted[1] == INT64_MIN && counted[2] == INT64_MIN, true);
+    IS(calendar_column_roll(WEEKEND, easter, 2, dates, 3, 7, moved, 3), false);
+    IS(calendar_column_roll(WEEKEND, easter, 2, dates, 3, 1, moved, 4), false);
+    IS(calendar_column_roll(WEEKEND, falling, 2, dates, 3, 1, moved, 3), false);
+    IS(calendar_column_roll(WEEKEND, easter, 2, dates, 3, CALENDAR_ROLL_FOLLOWING, moved, 3), true);
+    IS(moved[0] == 738973 && moved[1] == 738978 && moved[2] == CALENDAR_NONE && moved[3] == 9, true);
+    IS(calendar_column_from_date32(days, 4, moved, 3), false);
+    IS(calendar_column_from_date32(days, 4, moved, 4), true);
+    IS(moved[0] == 719163 && moved[1] == FEB_29 && moved[2] == CALENDAR_NONE && moved[3] == CALENDAR_NONE, true);
+    IS(calendar_column_to_date32(ends, 3, moved, 2), false);
+    IS(calendar_column_to_date32(ends, 3, moved, 3), true);
+    IS(moved[0] == 19815 && moved[1] == CALENDAR_NONE, true);
+}
+
 static bool counts(uint32_t kind, int32_t from, int32_t to, int64_t numerator, int64_t denominator)
 {
     calendar_fraction found = calendar_day_count(kind, from, to);
@@ -229,8 +383,12 @@ int main(void)
     texts_of_schedules();
     sentences_of_schedules();
     times_of_schedules();
+    texts_of_rules();
+    days_of_rules();
     open_days();
     many_holidays();
+    holidays();
+    columns();
     day_counts();
     printf("%d passed, %d failed\n", passed, failed);
     return failed != 0;

@@ -1,8 +1,12 @@
 -- These serve this crate's own proofs alone.
+mod ColumnLemmas
 mod DigitLemmas
 mod FilledLists
 mod FoundNumbers
+mod KnownHolidays
 mod MomentLemmas
 mod Numbered
+mod PlainLists
+mod RuleLemmas
 mod SaidLemmas
 mod SetsOfFields

@@ -2,7 +2,7 @@
 use Rattle.std.proofs.Common.{◌≡◌, ◌-◌, ◌≤◌, ◌<◌, ℕ, true, nat_le, List, length, get_or, Some, None, sym, arith}
 use Rattle.std.proofs.lemmas.Bool.{le-leb}
 use Rattle.std.proofs.lemmas.Option.{slice_get_past, slice_get-get_or}
-use Rattle.layers_c.specs.Schedules.{numbered}
+use Rattle.layers_c.specs.Faults.{numbered}
 
 pub numbered_past : {A : Type 0} (list : List A) (n : ℕ) → (n ≡ 0 → ⊥) → length list ≤ n - 1 → None ≡ numbered list n
 numbered_past list n some past =

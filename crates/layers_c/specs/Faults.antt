@@ -1,7 +1,11 @@
--- Where a wrong part of a text ends.
-use Rattle.std.specs.Prelude.{◌≡◌, ℕ, ◌==◌, ◌≤◌, ◌<◌, Bool, true, false, ◌||◌, List, length, slice_index}
+-- What is wrong by its number, and where a wrong part of a text ends.
+use Rattle.std.specs.Prelude.{◌≡◌, ℕ, ◌-◌, ◌==◌, ◌≤◌, ◌<◌, nat_le, if◌then◌else◌, Bool, true, false, ◌||◌, List, length, slice_get, slice_index, Option, None}
 use Rattle.std.specs.Str.{byte}
 use Rattle.chrono_text.specs.Lists.{is_blank}
+
+-- the value of a list with a number, counted from 1
+abbrev pub numbered : {A : Type 0} → List A → ℕ → Option A
+numbered list n = if nat_le 1 n then slice_get list (n - 1) else None
 
 -- a byte stands behind a part: a comma, a semicolon or a blank
 unfoldable pub is_behind_part : ℕ → Bool

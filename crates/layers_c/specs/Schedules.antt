@@ -1,5 +1,5 @@
 -- Schedules by the numbers that stand for them in C.
-use Rattle.std.specs.Prelude.{ℕ, ◌-◌, ◌==◌, nat_le, if◌then◌else◌, Bool, false, List, [], ◌∷◌, map, slice_get, take, take_while, Option, Some, None, IfSome, IfNone, IsTrue}
+use Rattle.std.specs.Prelude.{ℕ, ◌==◌, Bool, false, List, [], ◌∷◌, map, take, take_while, Option, Some, None, IfSome, IfNone, IsTrue}
 use Rattle.std.specs.Int.{bit_at}
 use Rattle.std.specs.Option.{option_map}
 use Rattle.std.specs.Ordering.{is_le}
@@ -9,6 +9,7 @@ use Rattle.chrono_cron.specs.DueMoments.{dues_after}
 use Rattle.chrono_cron.specs.declared.field_sets.FieldSets.{FieldSets}
 use Rattle.numbers_c.specs.DateTimes.{numbers_for_c}
 use Rattle.numbers_c.specs.declared.date_time_numbers.CalendarDateTime.{CalendarDateTime}
+use Rattle.layers_c.specs.Faults.{numbered}
 use Rattle.layers_c.specs.NumberSets.{set_of_digits}
 use Rattle.chrono_cron.specs.declared.text.schedule_error.ScheduleError.{ScheduleError}
 use Rattle.chrono_cron.specs.declared.text.schedule_error.ScheduleFault.{ScheduleFault}
@@ -78,10 +79,6 @@ schedule_faults =
 -- the fields, numbered from 1
 abbrev pub schedule_fields : List ScheduleField
 schedule_fields = Minute ∷ Hour ∷ Day ∷ Month ∷ Weekday ∷ []
-
--- the value of a list with a number, counted from 1
-abbrev pub numbered : {A : Type 0} → List A → ℕ → Option A
-numbered list n = if nat_le 1 n then slice_get list (n - 1) else None
 
 -- what is wrong by its number, in the field of another, at a byte
 abbrev pub error_numbered : ℕ → ℕ → ℕ → Option ScheduleError

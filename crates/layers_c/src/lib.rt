@@ -7,9 +7,14 @@
 
 mod day_counts;
 mod faults;
+mod holidays;
 mod number_sets;
+mod open_day_columns;
 mod open_days;
 mod part_end;
+mod rule_faults;
+mod rule_texts;
+mod rules;
 mod schedule_faults;
 mod schedule_numbers;
 mod schedule_texts;

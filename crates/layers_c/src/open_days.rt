@@ -95,7 +95,7 @@ pub extern "C" fn calendar_roll(weekend: u8, holidays: &[i32], date: i32, roll: 
 }
 
 // The roll with a number, in their order.
-fn roll_of(number: u32) -> Option<Roll>
+pub(crate) fn roll_of(number: u32) -> Option<Roll>
     ensures { result ≡ roll_numbered number }
 {
     match number {
@@ -130,7 +130,7 @@ pub(crate) fn calendar_of<'a>(
 }
 
 // The dates with these numbers, if each is a date's and there is room for all.
-fn dates_of<'a>(numbers: &[i32], room: &'a mut [NaiveDate]) -> Option<&'a [NaiveDate]>
+pub(crate) fn dates_of<'a>(numbers: &[i32], room: &'a mut [NaiveDate]) -> Option<&'a [NaiveDate]>
     ensures dates { IfSome result (λ days. days.now ≡ numbers.now) }
     ensures none { IfNone result (All IsDate numbers.now → length room.old < length numbers.now) }
 {

@@ -1,8 +1,8 @@
 //! What is wrong with a text that is no schedule, as numbers.
 ghost use Rattle.std.specs.Prelude.{◌≡◌, ◌≤◌, Some, length};
 ghost use Rattle.std.specs.Option.{option_map};
-ghost use Rattle.layers_c.specs.Faults.{IsPartEnd};
-ghost use Rattle.layers_c.specs.Schedules.{numbered, schedule_error_from_c, schedule_faults, schedule_fields};
+ghost use Rattle.layers_c.specs.Faults.{IsPartEnd, numbered};
+ghost use Rattle.layers_c.specs.Schedules.{schedule_error_from_c, schedule_faults, schedule_fields};
 
 use crate::faults::CalendarFault;
 use crate::part_end::part_end;

@@ -1,0 +1,15 @@
+-- The rules with a number.
+use Rattle.std.proofs.Common.{◌≡◌, ℕ, List, Some}
+use Rattle.chrono_business.specs.PublicHolidays.{england_and_wales_rules, target_rules, us_federal_rules}
+use Rattle.chrono_business.specs.declared.holiday_rule.HolidayRule.{HolidayRule}
+use Rattle.layers_c.specs.Holidays.{rules_numbered}
+use Rattle.std.proofs.lemmas.Option.{same_Some}
+
+pub united_states : (which : ℕ) (rules : List HolidayRule) → which ≡ 0 → rules_numbered which ≡ Some rules → us_federal_rules ≡ rules
+united_states which rules is numbered = same_Some us_federal_rules rules (rw is at numbered)
+
+pub target : (which : ℕ) (rules : List HolidayRule) → which ≡ 1 → rules_numbered which ≡ Some rules → target_rules ≡ rules
+target which rules is numbered = same_Some target_rules rules (rw is at numbered)
+
+pub england : (which : ℕ) (rules : List HolidayRule) → which ≡ 2 → rules_numbered which ≡ Some rules → england_and_wales_rules ≡ rules
+england which rules is numbered = same_Some england_and_wales_rules rules (rw is at numbered)

@@ -1,0 +1,26 @@
+use Rattle.std.proofs.Common.{◌∙◌, sym, refl, ℤ, FitsSigned, rules, w32, w64}
+use Rattle.std.proofs.lemmas.Int.{to_z-of_z}
+use Rattle.chrono_calendar.proofs.NamedDates.{date_of_day-number, none-date_of_day}
+use Rattle.chrono_calendar.specs.Days.{IsDate}
+use Rattle.chrono_business.specs.OpenDays.{IsMovedByOpenDays}
+use Rattle.layers_c.proofs.FoundNumbers.{found-holds, none-holds}
+use Rattle.layers_c.proofs.open_day_columns.moved_of.Goals as goal
+
+pub returns-in-Some : goal.returns-in-Some
+returns-in-Some c =
+    let fits : FitsSigned w32 c.number_or_none.result = search rules in
+    let number = to_z-of_z w32 c.number_or_none.result fits in
+    let day = (date_of_day-number c.in-Some.date c.args.number (sym (rw (to_z-of_z w32 c.args.number c.ranges.number) at c.in-Some.ensures.date))).1 in
+    let moved = rw (← day, to_z-of_z w64 c.args.n c.ranges.n) at c.add_open_days.ensures.moved in
+    let unmoved = rw (← day, to_z-of_z w64 c.args.n c.ranges.n) at c.add_open_days.ensures.none in
+    record {
+      moved = found-holds c.add_open_days.result (IsMovedByOpenDays c.args.calendar.now c.args.number c.args.n) _ (number ∙ c.number_or_none.ensures.number) moved;
+      none = λ none _. none-holds c.add_open_days.result ((e : ℤ) → IsDate e → IsMovedByOpenDays c.args.calendar.now c.args.number c.args.n e → ⊥) _
+          (number ∙ c.number_or_none.ensures.number) c.add_open_days.ensures.exists unmoved none;
+    }
+
+pub returns-in-None : goal.returns-in-None
+returns-in-None c = record {
+  moved = λ some. absurd (some refl);
+  none = λ _ date. absurd (none-date_of_day c.args.number (rw (to_z-of_z w32 c.args.number c.ranges.number) at c.in-None.ensures.date) date);
+}
