@@ -16,5 +16,5 @@ const part: { numerator: number; denominator: number } = dayCount("thirty360", d
 const known: PlainDate[] = [easter(2024), ...BusinessCalendar.of("target", 2024, 2025, { weekend: [] }).holidays];
 const place = (wrong: TextError): [number, number, string] => [wrong.start, wrong.end, wrong.reason];
 const seconds: Duration = Instant.from("2024-02-29T12:00Z").until(new Instant(0n), { largestUnit: "hours" });
-const days: PlainDate[] = [...new Rule("FREQ=DAILY;COUNT=3", due)];
-export const more = [days, known, next, third, seconds, part, place, calendar.add(due, 2).dayNumber];
+const ruleDays: PlainDate[] = [...new Rule("FREQ=DAILY;COUNT=3", due)];
+export const more = [ruleDays, known, next, third, seconds, part, place, calendar.add(due, 2).dayNumber];
