@@ -37,15 +37,45 @@ def schedule_cases(numbers, cases):
         yield "schedule", text, seconds, *("-" if it is None else it for it in found)
 
 
+def signed(numbers, most):
+    """One to three numbers up to one, from either end."""
+    return sorted({numbers.choice((1, 1, -1)) * numbers.randint(1, most) for _ in range(numbers.randint(1, 3))})
+
+
+def matching_rule(numbers):
+    """A rule that has an instance in almost each period, and how many days its UNTIL lies ahead: dateutil looks for one up to the year 9999."""
+    rule = rules_days.Rule(numbers.randint(rules_days.DAILY, rules_days.YEARLY), interval=numbers.choice((1, 1, 2, 3)))
+    weekdays = sorted({numbers.randrange(7) for _ in range(numbers.randint(1, 3))})
+    rule.weekdays = [(None, it) for it in weekdays]
+    kind = numbers.randrange(3)
+    if rule.frequency == rules_days.DAILY:
+        rule.weekdays, rule.months = [], sorted({numbers.randint(1, 12) for _ in range(6)}) if kind == 0 else []
+    elif rule.frequency == rules_days.WEEKLY:
+        rule.week_start = numbers.choice((0, 0, 6))
+    elif kind == 0:
+        rule.weekdays, rule.month_days = [], signed(numbers, 28)
+        rule.months = [numbers.randint(1, 12)] if rule.frequency == rules_days.YEARLY else []
+    elif kind == 1:
+        rule.weekdays = [(it, numbers.randrange(7)) for it in signed(numbers, 4)]
+    elif rule.frequency == rules_days.MONTHLY:
+        rule.positions = signed(numbers, 4)
+    else:
+        rule.weeks = sorted({numbers.randint(1, 51) for _ in range(2)})
+    return rule, rule.interval * (60, 250, 800, 5_000)[rule.frequency]
+
+
 def rule_cases(numbers, cases):
-    """Lines of recurrence rules."""
+    """Lines of recurrence rules, some with COUNT in place of UNTIL."""
     for _ in range(cases):
-        rule, start = rules_days.at_random(numbers)
-        rule.until = start + datetime.timedelta(numbers.choice((400, 2_000)))
+        rule, length = matching_rule(numbers)
+        start = datetime.date.fromordinal(numbers.randrange(726_000, 745_000))
+        rule.until = start + datetime.timedelta(length)
         days = [it.toordinal() for it in rules_days.of_dateutil(rule, start)]
-        day = start.toordinal() + numbers.randrange(-50, 2_100)
-        after, before = ([it for it in days if it > day], [it for it in days if it < day])
-        ends = [*after[:1], "-"][0], [*before[-1:], "-"][0]
+        if days and numbers.randrange(3) == 0:
+            rule.count, rule.until = numbers.randint(1, len(days)), None
+            days = days[: rule.count]
+        day = start.toordinal() + numbers.randrange(-50, length + 50)
+        ends = [next((it for it in days if it > day), "-"), next((it for it in reversed(days) if it < day), "-")]
         yield "rule", rule.text(), start.toordinal(), day, *ends, ",".join(map(str, days[:SHOWN]))
 
 
