@@ -28,6 +28,7 @@ from debian import build_over_chrono  # noqa: E402
 from packages import python  # noqa: E402
 
 LIBRARY = os.path.join(TOP, "crates", "calendar_c", "out", "libcalendar_c.a")
+LAYERS = os.path.join(TOP, "crates", "layers_c", "out", "liblayers_c.a")
 SOURCES = os.path.join(TOP, "benches", "languages")
 
 # What each language is timed beside, and with how many calls fewer.
@@ -54,6 +55,7 @@ def build(folder):
     compiler = ["cc", "-std=c99", "-O2", f"-I{os.path.join(TOP, 'languages', 'c')}"]
     subprocess.run([*compiler, f"{SOURCES}/c_sums.c", LIBRARY, "-o", f"{folder}/c_sums"], check=True)
     packages.build(LIBRARY, folder)
+    packages.build(LAYERS, folder, packages.LAYERS)
     _, wheel = sorted(python.make(TOP, folder, f"{folder}/dist"))
     with zipfile.ZipFile(wheel) as it:
         it.extractall(f"{folder}/python")

@@ -9,7 +9,8 @@ It needs numpy and pandas, of this interpreter or Debian's, what the wheel needs
 The dates are of the 400 years from 1800 on; those for datetime64[ns] are of the years from 1900 to 2099. What ours answer has to be
 what numpy and pandas answer before any is timed. All take turns in each round, and the best one counts, by the thread's processor
 time. numpy has dates as datetime64[D] and pandas as datetime64[ns]; ours have both, and day numbers of 32 bits. Where numpy has no
-call of its own, the shortest way by others is measured.
+call of its own, the shortest way by others is measured. The weekend is Saturday and Sunday, and the holidays are four days of each
+year from 1980 to 2029. `Months` is the offset that pandas adds to a Series, beside pandas' own, and not a call of columns.
 """
 import os
 import sys
@@ -31,21 +32,23 @@ except ImportError:
     sys.exit("numpy and pandas are wanted: tools/setup installs Debian's")
 
 LIBRARY = os.path.join(TOP, "crates", "calendar_c", "out", "libcalendar_c.a")
-EPOCH, MONTHS, DAYS = 719_163, 13, 1_000
+LAYERS = os.path.join(TOP, "crates", "layers_c", "out", "liblayers_c.a")
+EPOCH, MONTHS, DAYS, OPEN_DAYS = 719_163, 13, 1_000, 20
 
 
 def install(folder):
-    """Makes the wheel and finds the package in it; its module of columns."""
+    """Makes the wheel and finds the package in it; its modules of columns and for pandas."""
     if not os.path.exists(LIBRARY):
         sys.exit(f"there is no {LIBRARY}: run `rt lib` in crates/calendar_c")
     packages.build(LIBRARY, folder)
+    packages.build(LAYERS, folder, packages.LAYERS)
     _, wheel = sorted(python.make(TOP, folder, f"{folder}/dist"))
     with zipfile.ZipFile(wheel) as it:
         it.extractall(f"{folder}/python")
     sys.path.insert(0, f"{folder}/python")
-    from proved_calendar import columns
+    from proved_calendar import columns, pandas
 
-    return columns
+    return columns, pandas
 
 
 def month_move(days):
@@ -76,7 +79,33 @@ class Data:
         self.time_names = (*(self.frame[it].to_numpy(kind) for it, kind in (("year", "int32"), ("month", "uint8"), ("day", "uint8"))),)
 
 
-def calls(columns, data):
+def open_days(columns, data):
+    """The calls over open days, which pandas has none of over a whole Series."""
+    from proved_calendar import BusinessCalendar, Date
+
+    closed = [Date(year, month, day) for year in range(1980, 2030) for month, day in ((1, 1), (5, 1), (12, 25), (12, 26))]
+    calendar, theirs = BusinessCalendar(closed), np.busdaycalendar(holidays=[str(it) for it in closed])
+    days, dates = data.days, (data.numbers, data.days, data.times)
+
+    def ours(function, *rest):
+        return [lambda it=it: function(it, *rest) for it in dates]
+
+    return {
+        "is_open": (*ours(columns.is_open, calendar), lambda: np.is_busday(days, busdaycal=theirs), None),
+        # (numpy moves from the last open day, as ours do from a closed one)
+        "add_open_days": (*ours(columns.add_open_days, OPEN_DAYS, calendar),
+                          lambda: np.busday_offset(days, OPEN_DAYS, "preceding", busdaycal=theirs), None),
+        "roll": (*ours(columns.roll, "modified_following", calendar), lambda: np.busday_offset(days, 0, "modifiedfollowing", busdaycal=theirs), None),
+        "open_days_between": (
+            lambda: columns.open_days_between(data.numbers, data.numbers[::-1], calendar),
+            lambda: columns.open_days_between(days, data.others, calendar),
+            lambda: columns.open_days_between(data.times, data.other_times, calendar),
+            lambda: np.busday_count(days, data.others, busdaycal=theirs), None,
+        ),
+    }
+
+
+def calls(columns, of_pandas, data):
     """Each call: ours on day numbers, datetime64[D] and datetime64[ns], and those of numpy and pandas; None where there is none."""
     days, times, numbers, series = data.days, data.times, data.numbers, data.series
     years, months, of_month = data.names
@@ -97,6 +126,8 @@ def calls(columns, data):
         "iso_weeks": (*ours(columns.iso_weeks), None, lambda: tuple(series.dt.isocalendar()[it] for it in ("year", "week"))),
         "add_days": (*ours(columns.add_days, DAYS), lambda: days + a_move, lambda: series + pd.Timedelta(DAYS, "D")),
         "add_months": (*ours(columns.add_months, MONTHS), lambda: month_move(days), lambda: series + pd.DateOffset(months=MONTHS)),
+        "Months": (None, None, lambda: series + of_pandas.Months(MONTHS), None, lambda: series + pd.DateOffset(months=MONTHS)),
+        **open_days(columns, data),
         "days_between": (
             lambda: columns.days_between(numbers, numbers[::-1]), lambda: columns.days_between(days, data.others),
             lambda: columns.days_between(times, data.other_times), lambda: days - data.others,
@@ -132,16 +163,24 @@ def plain(answer):
 def compare(name, measured):
     """Ends the program if ours on datetime64[D] answers otherwise than numpy, or on datetime64[ns] than pandas."""
     by_number, by_day, by_time, numpy, pandas = (plain(it()) if it else None for it in measured)
-    same_days = by_number + (-EPOCH if name.startswith(("add", "from")) else 0) if by_number.dtype.kind == "i" else by_number
+    is_date = name.startswith(("add", "from", "roll"))
+    same_days = None if by_number is None else by_number - EPOCH * is_date if by_number.dtype.kind == "i" else by_number
     for what, one, other in (("numpy", by_day, numpy), ("pandas", by_time, pandas), ("int32", same_days, by_day)):
-        if other is not None and not np.array_equal(one, other):
+        if one is not None and other is not None and not np.array_equal(one, other):
             sys.exit(f"{name}: {what} answers otherwise")
+
+
+def row(name, times, count):
+    """The line of a table: nanoseconds an element, and how many times as fast ours are."""
+    numbers, days, stamps, numpy, pandas = (it / count * 1e9 for it in times)
+    cells = [numbers, days, numpy, numpy / days, stamps, pandas, pandas / stamps]
+    return " | ".join([f"| `{name}`", *(f"{it:.1f}" if 0 < it < float("inf") else "" for it in cells)]) + " |"
 
 
 def main():
     count, rounds = (int(it) for it in (sys.argv[1:] + ["1000000", "9"][len(sys.argv) - 1:])[:2])
     with tempfile.TemporaryDirectory() as folder:
-        measured = calls(install(folder), Data(count))
+        measured = calls(*install(folder), Data(count))
         for name, each in measured.items():
             compare(name, each)
         best = {name: [float("inf")] * len(each) for name, each in measured.items()}
@@ -154,10 +193,8 @@ def main():
                         best[name][at] = min(best[name][at], time.thread_time() - began)
     print(f"Nanoseconds an element, of {count:,}; numpy {np.__version__}, pandas {pd.__version__}\n")
     print("| Call | int32 | datetime64[D] | numpy | times as fast | datetime64[ns] | pandas | times as fast |\n|---|---|---|---|---|---|---|---|")
-    for name, each in best.items():
-        numbers, days, times, numpy, pandas = (it / count * 1e9 for it in each)
-        by_numpy = (f"{numpy:.1f}", f"{numpy / days:.1f}") if numpy < float("inf") else ("", "")
-        print(f"| `{name}` | {numbers:.1f} | {days:.1f} | {by_numpy[0]} | {by_numpy[1]} | {times:.1f} | {pandas:.1f} | {pandas / times:.1f} |")
+    for name, times in best.items():
+        print(row(name, times, count))
 
 
 if __name__ == "__main__":

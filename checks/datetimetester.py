@@ -5,7 +5,7 @@
 
 The tests are those of TestDate, TestDateOnly, TestDateTime and TestTimeDelta in test/datetimetester.py, which Debian has in
 libpython3.11-testsuite. The adapter gives them the types by datetime's names, and nothing else: `repr` of ours with the prefix
-`datetime.`, which the tests cut off, and the years of our calendar. A test that cannot pass stands below with its reason; each of
+`datetime.`, which the tests cut off, the years of our calendar, and a `timezone` that gives datetime's own a timedelta for a Duration. A test that cannot pass stands below with its reason; each of
 them has to fail, and each other test to pass. It needs Python 3.11 with proved_calendar installed; checks/from_python.py runs it.
 """
 import builtins
@@ -18,14 +18,13 @@ import unittest
 import proved_calendar
 from proved_calendar import Date, DateTime, Duration, Time
 
-ZONE = "a DateTime has no time zone and no fold"
 FINER = "a nanosecond is kept where datetime rounds to a microsecond"
 WIDER = "the years go beyond 1 to 9999, and durations beyond 999,999,999 days"
 DAYS = "the difference of two dates is a whole number of days, and a date plus a whole number is a date"
 LEAP = "second 60 is a leap second"
 NO_BYTES = "no date is made of the bytes that datetime pickles"
-NAMED = "what isocalendar returns stays a named tuple when it is pickled"
 PROPERTY = "date and time are properties of a date-time, without brackets"
+WITH_T = "the text of a date-time has a T, and a separator that is read is no digit"
 
 # Each test that fails, and why.
 EXCLUDED = {
@@ -34,20 +33,13 @@ EXCLUDED = {
     },
     "TestDateOnly": {"test_delta_non_days_ignored": "a date is moved by whole days, and a part of one is refused"},
     "TestDate": {
-        "test_computations": DAYS, "test_extreme_timedelta": DAYS, "test_isocalendar_pickling": NAMED,
-        "test_compat_unpickle": NO_BYTES, "test_backdoor_resistance": NO_BYTES, "test_fromisocalendar_value_errors": WIDER,
+        "test_computations": DAYS, "test_extreme_timedelta": DAYS, "test_compat_unpickle": NO_BYTES, "test_backdoor_resistance": NO_BYTES,
+        "test_fromisocalendar_value_errors": WIDER,
     },
     "TestDateTime": {
-        "test_isocalendar_pickling": NAMED, "test_compat_unpickle": NO_BYTES, "test_backdoor_resistance": NO_BYTES,
-        "test_fromisocalendar_value_errors": WIDER, "test_extreme_timedelta": FINER,
-        "test_bad_constructor_arguments": LEAP, "test_extract": PROPERTY, "test_combine": PROPERTY,
-        **dict.fromkeys((
-            "test_isoformat", "test_isoformat_timezone", "test_strftime_with_bad_tzname_replace", "test_timestamp_naive",
-            "test_timestamp_aware", "test_timestamp_limits", "test_utcfromtimestamp_limits", "test_strptime", "test_more_strftime",
-            "test_astimezone", "test_fromisoformat_datetime", "test_fromisoformat_timezone", "test_fromisoformat_timespecs",
-            "test_fromisoformat_datetime_examples", "test_fromisoformat_utc", "test_fromisoformat_subclass",
-            "test_subclass_alternate_constructors_datetime", "test_subclass_now",
-        ), ZONE),
+        "test_compat_unpickle": NO_BYTES, "test_backdoor_resistance": NO_BYTES, "test_fromisocalendar_value_errors": WIDER,
+        "test_timestamp_limits": WIDER, "test_extreme_timedelta": FINER, "test_bad_constructor_arguments": LEAP, "test_extract": PROPERTY,
+        "test_combine": PROPERTY, "test_isoformat": WITH_T, "test_fromisoformat_datetime_examples": WITH_T,
     },
 }
 
@@ -58,11 +50,20 @@ def repr_of(it):
     return f"datetime.{shown}" if isinstance(it, (Date, DateTime, Duration)) else shown
 
 
+class Timezone:
+    """datetime.timezone, which takes a timedelta: here it is given our Duration."""
+
+    utc = datetime.timezone.utc
+
+    def __new__(cls, offset, *name):
+        return datetime.timezone(offset.to_timedelta(), *name)
+
+
 def load_tests_over_ours():
     """The module of tests, which finds our types in a module of datetime's name."""
     adapter = types.ModuleType("datetime")
     adapter.__dict__.update(
-        date=Date, datetime=DateTime, time=Time, timedelta=Duration, tzinfo=datetime.tzinfo, timezone=datetime.timezone,
+        date=Date, datetime=DateTime, time=Time, timedelta=Duration, tzinfo=datetime.tzinfo, timezone=Timezone,
         UTC=datetime.timezone.utc, MINYEAR=Date.min.year, MAXYEAR=Date.max.year,
     )
     # (what the tests import keeps the true datetime)

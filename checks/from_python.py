@@ -1,6 +1,6 @@
 """The package for Python as its users install it: the wheel into fresh environments with no network, its tests and the example
-there, the same wheel under other versions of Python and beside numpy and pandas, CPython's own tests of datetime over it, the package
-of sources built, its types by mypy, and wrong lines planted in its C and its Python."""
+there, the same wheel under other versions of Python and beside numpy, pandas and Dask, CPython's own tests of datetime over it, the
+package of sources built, its types by mypy, and wrong lines planted in its C and its Python."""
 import glob
 import os
 import re
@@ -20,7 +20,15 @@ TESTS = f"{PACKAGE}/tests"
 COUNTS = (r"\.\.\. ok()$", r"\.\.\. (?:FAIL|ERROR)()$")
 # Debian's Python, which may have numpy and pandas, and the tests that need no other package.
 DEBIAN = "/usr/bin/python3"
-ALONE = ("test_calls.py", "test_habits.py", "test_like_datetime.py")
+ALONE = ("test_calls.py", "test_habits.py", "test_like_datetime.py", "test_layers.py", "test_zoned.py")
+# The test that finds wrong lines soonest, by what stands in the path of a file.
+NEAREST = {"schedule": "test_layers.py", "business": "test_layers.py", "rule": "test_layers.py", "_zoned": "test_zoned.py"}
+# The tests and the pages that need other packages, which Debian's Python may have, and those packages.
+BESIDE = {"test_columns.py": ("numpy",), "test_pandas.py": ("numpy", "pandas"), "test_dask.py": ("numpy", "pandas", "dask.dataframe")}
+PAGES = {"columns.md": ("numpy",), "pandas.md": ("numpy", "pandas"), "dask.md": ("numpy", "pandas", "dask.dataframe")}
+# The tests of each file that needs other packages.
+TESTS_OF = {"columns.c": "test_columns.py", "_arrays.py": "test_columns.py", "columns.py": "test_columns.py", "pandas.py": "test_pandas.py",
+            "dask.py": "test_dask.py"}
 # The versions from 3.10 on, which one wheel serves.
 VERSIONS = [f"python3.{it}" for it in range(10, 16)]
 WARNINGS = ["-std=c99", "-O1", "-fPIC", "-Wall", "-Wextra", "-Wpedantic", "-Werror"]
@@ -37,14 +45,14 @@ def install(results, room, name, program, wheel, *options):
     return f"{folder}/bin/python"
 
 
-def test_examples(results, room, program, with_numpy):
-    """The examples of README, of which those with numpy stand behind the others."""
-    blocks = re.findall(r"^```python\n(.*?)^```$", read(f"{PACKAGE}/README.md"), re.M | re.S)
+def test_examples(results, room, program, with_numpy, page="README.md"):
+    """The examples of a page, of which those with numpy stand behind the others."""
+    blocks = re.findall(r"^```python\n(.*?)^```$", read(f"{PACKAGE}/{page}"), re.M | re.S)
     text = "\n".join(it for it in blocks if with_numpy or "numpy" not in it)
     with open(f"{room}/example.txt", "w", encoding="utf-8") as it:
         it.write(text)
     counts = (r"^(\d+) passed and", r"(\d+) failed\.")
-    run(results, "the examples in Python", [program, "-m", "doctest", "-v", f"{room}/example.txt"], counts, env=QUIET)
+    run(results, f"the examples of {page}", [program, "-m", "doctest", "-v", f"{room}/example.txt"], counts, env=QUIET)
 
 
 def test_installed(results, room, program):
@@ -70,21 +78,37 @@ def test_versions(results, room, wheel):
 
 def debian_has(*modules):
     """Whether Debian's Python has modules."""
-    asked = [DEBIAN, "-c", f"import {', '.join(modules)}"]
+    asked = [DEBIAN, "-c", f"import {', '.join(('sys', *modules))}"]
     return os.path.exists(DEBIAN) and subprocess.run(asked, capture_output=True).returncode == 0
 
 
 def test_beside_others(results, room, wheel):
-    """Columns, and the habits beside numpy and pandas, which Debian's Python may have and a fresh environment has not."""
+    """Columns, the accessors and the habits beside numpy, pandas and Dask, which Debian's Python may have and a fresh environment has not."""
     if not debian_has("ensurepip", "numpy", "pandas"):
         print("not run: the tests in Python beside numpy and pandas, which Debian's Python has not")
         return
     program = install(results, room, "with_numpy", DEBIAN, wheel, "--system-site-packages")
-    for name in ("test_columns.py", *ALONE[1:]) if program else ():
-        run(results, f"{name} beside numpy and pandas", [program, f"{TESTS}/{name}", "-v"], COUNTS, env=QUIET)
+    for name in (*BESIDE, *ALONE[1:]) if program else ():
+        if debian_has(*BESIDE.get(name, ())):
+            run(results, f"{name} beside numpy and pandas", [program, f"{TESTS}/{name}", "-v"], COUNTS, env=QUIET)
+        else:
+            print(f"not run: {name}, since Debian's Python has not {' and '.join(BESIDE[name])}")
+    for page, modules in PAGES.items() if program else ():
+        if debian_has(*modules):
+            test_examples(results, room, program, True, page)
+        else:
+            print(f"not run: the examples of {page}, since Debian's Python has not {' and '.join(modules)}")
     if program:
         test_examples(results, room, program, True)
         test_stubs(results, room, program)
+    if program and debian_has("croniter", "dateutil"):
+        test_peers(results, program)
+
+
+def test_peers(results, program):
+    """Schedules, open days and rules beside croniter, numpy and dateutil."""
+    counts = (r"^all: (\d+) passed", r"^all: .* (\d+) failed")
+    run(results, "schedules, open days and rules in Python", [program, f"{TOP}/checks/python_layers.py"], counts, env=QUIET)
 
 
 def test_stubs(results, room, program):
@@ -113,8 +137,9 @@ def test_by_datetime(results, room, wheel):
 
 def test_columns_called(results):
     """Each function for columns is called, but for those that change a column in place."""
-    text = read(f"{PACKAGE}/proved_calendar/columns.py")
-    for name in re.findall(r"^\w+ calendar_column_(\w+)\(", read(f"{LANGUAGES}/c/calendar.h"), re.M):
+    text = "".join(read(f"{PACKAGE}/proved_calendar/{it}") for it in ("columns.py", "_arrays.py"))
+    headers = "".join(read(f"{LANGUAGES}/c/{it}.h") for it in ("calendar", "calendar_layers"))
+    for name in re.findall(r"^\w+ calendar_column_(\w+)\(", headers, re.M):
         if not name.endswith("in_place"):
             results.count(re.search(rf"\"{name}\"|calendar_column_{name}\b", text), f"columns.py calls no calendar_column_{name}")
 
@@ -153,14 +178,14 @@ def compile_c(folder, names, flags):
     return ""
 
 
-def fails(folder, objects, library, tests):
+def fails(folder, objects, libraries, tests):
     """Whether one of some tests fails, or does not end, over an extension that is linked of these objects."""
     module = f"{folder}/proved_calendar/_calendar.abi3.so"
-    subprocess.run(["cc", "-shared", *objects, library, "-o", module], check=True)
+    subprocess.run(["cc", "-shared", *objects, *libraries, "-o", module], check=True)
     env = dict(QUIET, PYTHONPATH=folder, SKIP_MEMORY="1")
     try:
         for name in tests:
-            program = DEBIAN if name == "test_columns.py" else python.python()
+            program = DEBIAN if name in BESIDE else python.python()
             if subprocess.run([program, f"{TESTS}/{name}"], env=env, capture_output=True, timeout=120).returncode:
                 return True
     except subprocess.TimeoutExpired:
@@ -169,13 +194,15 @@ def fails(folder, objects, library, tests):
 
 
 def tests_of(path):
-    """The tests that a wrong line in a file has to fail: the columns have their own."""
-    if not path.endswith("columns.py"):
-        return ALONE
-    return ("test_columns.py",) if debian_has("numpy") else ()
+    """The tests one of which a wrong line in a file has to fail, the nearest first: what needs other packages has its own."""
+    name = TESTS_OF.get(os.path.basename(path))
+    if not name:
+        nearest = [test for word, test in NEAREST.items() if word in path]
+        return (*nearest, *(it for it in ALONE if it not in nearest))
+    return (name,) if debian_has(*BESIDE[name]) else ()
 
 
-def test_wrong_lines(results, room, library):
+def test_wrong_lines(results, room, libraries):
     """Each wrong line in the C and the Python of the package fails its tests, and none of them fails without."""
     flags = [*WARNINGS, f"-I{LANGUAGES}/c", f"-I{headers()}"]
     right = f"{room}/right"
@@ -184,25 +211,26 @@ def test_wrong_lines(results, room, library):
     said = compile_c(right, names, flags)
     results.count(not said, f"the extension in C: {said}")
     right_objects = [f"{right}/src/{it}.o" for it in names]
-    every = (*ALONE, *tests_of("columns.py"))
-    results.count(not said and not fails(right, right_objects, library, every), "a test fails over right lines")
+    every = (*ALONE, *dict.fromkeys(it for path in TESTS_OF for it in tests_of(path)))
+    results.count(not said and not fails(right, right_objects, libraries, every), "a test fails over right lines")
     for number, edit in enumerate(edits("python")):
         tests, changed = tests_of(edit[0]), os.path.basename(edit[0])
         if not tests:
-            print(f"not run: the wrong line {edit[2]!r} in {edit[0]}, since Debian's Python has no numpy")
+            print(f"not run: the wrong line {edit[2]!r} in {edit[0]}, since Debian's Python has not what its tests need")
             continue
         folder = planted("python", f"{room}/wrong_{number}", edit)
         compiled = names if changed.endswith(".h") else [changed] if changed.endswith(".c") else []
         said = compile_c(folder, compiled, flags)
         objects = [f"{folder if it in compiled else right}/src/{it}.o" for it in names]
-        results.count(not said and fails(folder, objects, library, tests), f"no test in Python fails with {edit[2]!r} in {edit[0]} {said}")
+        results.count(not said and fails(folder, objects, libraries, tests), f"no test in Python fails with {edit[2]!r} in {edit[0]} {said}")
 
 
-def test(results, room, library):
+def test(results, room, library, layers):
     """Makes the packages, installs the wheel and runs the tests there."""
     room, built = f"{room}/python", f"{room}/python/built"
     os.makedirs(built)
     packages.build(library, built)
+    packages.build(layers, built, packages.LAYERS)
     try:
         sources, wheel = sorted(python.make(TOP, built, f"{room}/dist"))
     except packages.Missing as it:
@@ -217,4 +245,4 @@ def test(results, room, library):
     test_beside_others(results, room, wheel)
     test_by_datetime(results, room, wheel)
     test_sources(results, f"{room}/again", sources)
-    test_wrong_lines(results, room, library)
+    test_wrong_lines(results, room, [layers, library])

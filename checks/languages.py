@@ -309,7 +309,7 @@ def main():
             from_rust.test(results, room, library, layers)
         if library and layers and shutil.which("cc"):
             from_c.test(results, room, library, layers, sorted(header))
-            from_python.test(results, room, library)
+            from_python.test(results, room, library, layers)
         elif library:
             print("not run: the tests in C and Python, since there is no C compiler")
     print(f"{results.passed} passed, {results.failed} failed")

@@ -1,7 +1,7 @@
-"""Builds the extension in C over the static library of the calendar.
+"""Builds the extension in C over the static libraries of the calendar and of its layers.
 
-`include/calendar.h` and `lib/libcalendar.a` lie beside this file, as `tools/dist` puts them and the source package has them, or
-in the folder that CALENDAR_PREFIX names.
+`include/` has their headers and `lib/` the libraries. They lie beside this file, as `tools/dist` puts them and the source package
+has them, or in the folder that CALENDAR_PREFIX names.
 """
 import glob
 import os
@@ -18,7 +18,7 @@ setup(
             sources=sorted(glob.glob("src/*.c")),
             depends=["src/package.h"],
             include_dirs=[f"{PREFIX}/include"],
-            extra_objects=[f"{PREFIX}/lib/libcalendar.a"],
+            extra_objects=[f"{PREFIX}/lib/libcalendar_layers.a", f"{PREFIX}/lib/libcalendar.a"],
             extra_compile_args=["-std=c99", "-O2", "-g0", "-fno-plt", "-fvisibility=hidden", *WARNINGS],
             extra_link_args=["-s"],
             # (an older Python has no symbols of a later one: one build serves all from 3.10 on)

@@ -1,4 +1,4 @@
-"""The packages for Python: a wheel that serves every CPython from 3.10 on, and its sources with the static library."""
+"""The packages for Python: a wheel that serves every CPython from 3.10 on, and its sources with the static libraries."""
 import glob
 import os
 import shutil
@@ -6,7 +6,7 @@ import subprocess
 import sys
 import tempfile
 
-from . import LICENCES, Missing, run
+from . import CALENDAR, LAYERS, LICENCES, Missing, run
 
 # What a Python needs to build the packages: setuptools with the command for wheels, and the headers of C.
 PROBE = """
@@ -34,9 +34,11 @@ def make(top, built, dist):
         source = f"{room}/source"
         skipped = shutil.ignore_patterns("__pycache__", "*.so", "build", "*.egg-info")
         shutil.copytree(f"{top}/languages/python", source, ignore=skipped)
-        for part, file in {"include": f"{top}/languages/c/calendar.h", "lib": f"{built}/libcalendar.a"}.items():
+        for part in ("include", "lib"):
             os.makedirs(f"{source}/{part}")
-            shutil.copy(file, f"{source}/{part}/")
+        for name in (CALENDAR, LAYERS):
+            shutil.copy(f"{top}/languages/c/{name}.h", f"{source}/include/")
+            shutil.copy(f"{built}/lib{name}.a", f"{source}/lib/")
         for licence in LICENCES:
             shutil.copy(f"{top}/{licence}", source)
         for kind in ("sdist", "bdist_wheel"):

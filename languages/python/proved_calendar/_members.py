@@ -10,8 +10,9 @@ from collections.abc import Callable
 from typing import Any
 
 from . import _calendar
-from ._texts import iso_text_of_duration, nanoseconds_of_text, ratio_of, rounded
-from .time_of_day import Time
+from ._texts import iso_text_of_duration, nanoseconds_of_text, ratio_of, rounded, text_of_offset
+from ._zoned import asked, from_utc, length_asked, local_zone, of_timestamp, timestamp_of_local, utc_of, wanted
+from .time_of_day import Time, attributes
 
 _DAYS = ("Mon", "Tue", "Wed", "Thu", "Fri", "Sat", "Sun")
 _MONTHS = ("Jan", "Feb", "Mar", "Apr", "May", "Jun", "Jul", "Aug", "Sep", "Oct", "Nov", "Dec")
@@ -27,20 +28,29 @@ def _microseconds(timestamp: Any) -> int:
     return rounded(over * 10**6, under)
 
 
-def _local(timestamp: Any) -> tuple[c_time.struct_time, int]:
-    """The local time of a POSIX timestamp, and the microseconds after it."""
-    seconds, microseconds = divmod(_microseconds(timestamp), 10**6)
-    return c_time.localtime(seconds), microseconds
-
-
 def _year_text(year: int) -> str:
     return f"{year:04}" if 0 <= year <= 9999 else f"{year:+05}"
+
+
+def _offset_text(date: Any) -> str:
+    """The offset from UTC without colons; empty without a time zone."""
+    offset = date.utcoffset() if isinstance(date, _calendar.DateTime) else None
+    return "" if offset is None else text_of_offset(offset).replace(":", "")
+
+
+def _zone_text(date: Any) -> str:
+    """The name of the time zone; empty without one."""
+    name = date.tzname() if isinstance(date, _calendar.DateTime) else None
+    shown = "" if name is None else name.replace("%", "%%")
+    if not isinstance(shown, str):
+        raise TypeError("tzinfo.tzname() answers None or a str")
+    return shown
 
 
 # The text of each of them for a date and a fraction of a second.
 _DIRECTIVES: dict[str, Callable[[Any, int], str]] = {
     "%": lambda date, fraction: "%%", "f": lambda date, fraction: f"{fraction // 1_000:06}",
-    "z": lambda date, fraction: "", "Z": lambda date, fraction: "",
+    "z": lambda date, fraction: _offset_text(date), "Z": lambda date, fraction: _zone_text(date),
     "Y": lambda date, fraction: _year_text(date.year), "G": lambda date, fraction: _year_text(date.isocalendar().year),
     "y": lambda date, fraction: f"{date.year % 100:02}", "C": lambda date, fraction: f"{date.year // 100:02}",
     "F": lambda date, fraction: f"{_year_text(date.year)}-{date.month:02}-{date.day:02}",
@@ -56,9 +66,9 @@ def _formatted(date: Any, format: str, fraction: int) -> str:
     return c_time.strftime(_OWN.sub(lambda found: _DIRECTIVES[found[1]](date, fraction), format), moment)
 
 
-def _named(date: Any, clock: tuple[int, int, int]) -> c_time.struct_time:
+def _named(date: Any, clock: tuple[int, int, int], saving: int = -1) -> c_time.struct_time:
     ordinal = _calendar.Date.fromordinal(date.toordinal()).ordinal
-    return c_time.struct_time((date.year, date.month, date.day, *clock, date.weekday(), ordinal, -1))
+    return c_time.struct_time((date.year, date.month, date.day, *clock, date.weekday(), ordinal, saving))
 
 
 def _shown(date: Any, clock: str) -> str:
@@ -74,7 +84,7 @@ class Date:
     @classmethod
     def fromtimestamp(cls: Any, timestamp: Any, /) -> Any:
         """Returns the local date of a POSIX timestamp."""
-        local, _ = _local(timestamp)
+        local = c_time.localtime(_microseconds(timestamp) // 10**6)
         return cls(local.tm_year, local.tm_mon, local.tm_mday)
 
     def timetuple(self) -> c_time.struct_time:
@@ -110,8 +120,8 @@ class DateTime:
         return cls(_calendar.Date.from_iso_week(year, week, day))
 
     @classmethod
-    def combine(cls: Any, date: Any, time: Any) -> Any:
-        """Returns the date-time of a date, or of the date of a date-time, and a Time.
+    def combine(cls: Any, date: Any, time: Any, tzinfo: Any = None) -> Any:
+        """Returns the date-time of a date, or of the date of a date-time, and a Time, in a time zone if one is given.
 
         >>> DateTime.combine(Date(2024, 2, 29), Time(12, 30)) == DateTime(2024, 2, 29, 12, 30)
         True
@@ -122,12 +132,13 @@ class DateTime:
             raise TypeError(f"a Date is wanted, not {type(date).__name__}")
         if not isinstance(time, Time):
             raise TypeError(f"a Time is wanted, not {type(time).__name__}")
-        return cls(date, time.hour, time.minute, time.second, nanosecond=time.nanosecond)
+        zone = {"tzinfo": tzinfo} if tzinfo is not None else {}
+        return cls(date, time.hour, time.minute, time.second, nanosecond=time.nanosecond, **zone)
 
     @classmethod
-    def now(cls: Any) -> Any:
-        """Returns the local time of now, in whole microseconds."""
-        return cls.fromtimestamp(c_time.time())
+    def now(cls: Any, tz: Any = None) -> Any:
+        """Returns the time of now, local or in a time zone, in whole microseconds."""
+        return cls.fromtimestamp(c_time.time(), tz)
 
     @classmethod
     def today(cls: Any) -> Any:
@@ -140,11 +151,11 @@ class DateTime:
         return cls.utcfromtimestamp(c_time.time())
 
     @classmethod
-    def fromtimestamp(cls: Any, timestamp: Any, /) -> Any:
-        """Returns the local time of a POSIX timestamp, rounded to a microsecond."""
-        local, microseconds = _local(timestamp)
-        clock = local.tm_hour, local.tm_min, min(local.tm_sec, 59)
-        return cls(_calendar.Date(local.tm_year, local.tm_mon, local.tm_mday), *clock, microsecond=microseconds)
+    def fromtimestamp(cls: Any, timestamp: Any, /, tz: Any = None) -> Any:
+        """Returns the time of a POSIX timestamp, local or in a time zone, rounded to a microsecond."""
+        if wanted(tz) is None:
+            return of_timestamp(cls, _microseconds(timestamp))
+        return from_utc(cls.utcfromtimestamp(timestamp), tz)
 
     @classmethod
     def utcfromtimestamp(cls: Any, timestamp: Any, /) -> Any:
@@ -164,19 +175,51 @@ class DateTime:
 
     def timetuple(self: Any) -> c_time.struct_time:
         """Returns the date-time as a time.struct_time."""
-        return _named(self, (self.hour, self.minute, self.second))
+        saving = self.dst()
+        return _named(self, (self.hour, self.minute, self.second), -1 if saving is None else int(bool(saving)))
+
+    def utctimetuple(self: Any) -> c_time.struct_time:
+        """Returns what UTC shows as a time.struct_time; without a time zone, what the date-time shows."""
+        utc = self if self.utcoffset() is None else utc_of(self)
+        return _named(utc, (utc.hour, utc.minute, utc.second), 0)
+
+    def utcoffset(self) -> _calendar.Duration | None:
+        """Returns the offset from UTC that the time zone has, east of it above 0, or None without a time zone."""
+        return length_asked(self, "utcoffset")
+
+    def dst(self) -> _calendar.Duration | None:
+        """Returns how far the time zone's clock is put ahead, as in summer, or None if it does not say."""
+        return length_asked(self, "dst")
+
+    def tzname(self) -> Any:
+        """Returns the name of the time zone's time, such as CEST, or None without a time zone."""
+        return asked(self, "tzname")
+
+    def astimezone(self: Any, tz: Any = None) -> Any:
+        """Returns the same instant by the clock of a time zone, or of this machine. Without a zone it is taken as local time.
+
+        >>> import zoneinfo
+        >>> berlin = zoneinfo.ZoneInfo('Europe/Berlin')
+        >>> print(DateTime.fromisoformat('2024-07-01T10:00:00Z').astimezone(berlin))
+        2024-07-01T12:00:00+02:00
+        """
+        utc = utc_of(self)
+        zone = local_zone(utc) if wanted(tz) is None else tz
+        return self if zone is self.tzinfo else from_utc(utc, zone)
 
     def timestamp(self: Any) -> float:
-        """Returns the POSIX timestamp of this local time; of a time that comes twice, the one that C's mktime takes."""
-        nanosecond: int = self.nanosecond
-        return (int(c_time.mktime(self.timetuple())) * 10**9 + nanosecond) / 10**9
+        """Returns the POSIX timestamp. Without a time zone it is that of the local time, by the fold where that comes twice."""
+        utc = utc_of(self) if self.utcoffset() is not None else None
+        whole: int = timestamp_of_local(self) if utc is None else utc.seconds
+        nanosecond: int = self.nanosecond if utc is None else utc.nanosecond
+        return (whole * 10**9 + nanosecond) / 10**9
 
     def ctime(self: Any) -> str:
         """Returns the date-time as C's ctime writes it."""
         return _shown(self, f"{self.hour:02}:{self.minute:02}:{self.second:02}")
 
     def strftime(self: Any, format: str, /) -> str:
-        """Returns the date-time as a format of time.strftime says. %f has six digits, and %z and %Z are empty.
+        """Returns the date-time as a format of time.strftime says. %f has six digits. Without a zone %z and %Z are empty.
 
         >>> DateTime(2024, 2, 29, 12, 30).strftime('%H.%M on %d %b')
         '12.30 on 29 Feb'
@@ -214,7 +257,7 @@ def _extend(kind: type, members: type, first: Any, last: Any, resolution: Any) -
     """Gives a type the members of a class here, and its ends and resolution."""
     ends = {"min": first, "max": last, "resolution": resolution}
     own = {name: it for name, it in vars(members).items() if not name.startswith("__")}
-    for name, it in {**own, **ends}.items():
+    for name, it in {**own, **ends, "__dir__": attributes}.items():
         _calendar.extend(kind, name, it)
 
 

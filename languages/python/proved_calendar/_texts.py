@@ -3,9 +3,13 @@
 A text in another form is written anew in the form of the proved reader, which then reads it. So whether there is such a date or
 time, and which one it is, comes from there. Nothing here is proved.
 """
+import datetime
+import itertools
 import operator
 import re
-from typing import Any
+from typing import Any, NoReturn
+
+from .text_error import TextError
 
 _DATE = (
     r"(?P<year>[-+]?[0-9]{4,6})-(?P<month>[0-9]{2})-(?P<day>[0-9]{2})"
@@ -17,6 +21,9 @@ _CLOCK = (
     r"|(?P<compact_minute>[0-9]{2})(?:(?P<compact_second>[0-9]{2})(?:[.,](?P<compact_fraction>[0-9]{1,9}))?)?)?"
 )
 _OFFSET = r"(?P<offset>Z|[-+][0-9:.,]+)?"
+_OF_OFFSET = re.compile(
+    r"(?P<sign>[-+])(?P<hours>[0-9]{2})(?:(?P<colon>:?)(?P<minutes>[0-9]{2})(?:(?P=colon)(?P<seconds>[0-9]{2})(?:[.,](?P<fraction>[0-9]{1,9}))?)?)?"
+)
 _OF_DATE = re.compile(_DATE)
 _OF_DATE_TIME = re.compile(rf"(?:{_DATE})(?:[^0-9]{_CLOCK}{_OFFSET})?", re.S)
 _OF_TIME = re.compile(rf"T?{_CLOCK}{_OFFSET}")
@@ -46,10 +53,21 @@ def date_of_text(kind: Any, text: str) -> Any:
     return _date_of(kind, found) if found and not found["year"] else None
 
 
-def _clock_of(found: re.Match[str], text: str, kind: str) -> str:
+def _zone_of(text: str) -> datetime.timezone:
+    """The time zone of the text of an offset; a ValueError if it is none, or not within a day."""
+    if text == "Z":
+        return datetime.timezone.utc
+    found = _OF_OFFSET.fullmatch(text)
+    if not found or int(found["minutes"] or 0) > 59 or int(found["seconds"] or 0) > 59:
+        raise ValueError(f"{text!r} is no text of an offset")
+    microseconds = int((found["fraction"] or "").ljust(6, "0")[:6])
+    parts = {name: int(found[name] or 0) for name in ("hours", "minutes", "seconds")}
+    length = datetime.timedelta(**parts, microseconds=microseconds)
+    return datetime.timezone(-length if found["sign"] == "-" else length) if length else datetime.timezone.utc
+
+
+def _clock_of(found: re.Match[str]) -> str:
     """The time of day that was found in a text, in the form of the proved reader."""
-    if found["offset"]:
-        raise ValueError(f"{text!r} has an offset, and a {kind} has no time zone")
     minute = found["minute"] or found["compact_minute"] or "00"
     second = found["second"] or found["compact_second"] or "00"
     fraction = found["fraction"] or found["compact_fraction"]
@@ -63,14 +81,23 @@ def date_time_of_text(kind: Any, text: str) -> Any:
     found = _OF_DATE_TIME.fullmatch(text)
     if not found:
         return None
-    plain = f"{_date_of(Date, found)}T{_clock_of(found, text, 'DateTime')}"
+    plain = f"{_date_of(Date, found)}T{_clock_of(found)}"
+    if found["offset"]:
+        return kind.fromisoformat(plain).replace(tzinfo=_zone_of(found["offset"]))
     return kind.fromisoformat(plain) if plain != text else None
+
+
+def zoned_again(kind: Any, date: Any, clock: tuple[int, int, int, int], zone: Any, fold: int) -> Any:
+    """The date-time with a time zone that was pickled."""
+    return kind(date, *clock, tzinfo=zone, fold=fold)
 
 
 def clock_of_text(text: str) -> str | None:
     """The time of day of a text in one of datetime's forms, in the form of the proved reader, or None if it has none of them."""
     found = _OF_TIME.fullmatch(text)
-    return _clock_of(found, text, "Time") if found else None
+    if found and found["offset"]:
+        raise ValueError(f"{text!r} has an offset, and a Time has no time zone")
+    return _clock_of(found) if found else None
 
 
 def nanoseconds_of_text(text: str) -> int:
@@ -81,6 +108,26 @@ def nanoseconds_of_text(text: str) -> int:
     units = {"weeks": 7 * _DAY, "days": _DAY, "hours": _HOUR, "minutes": _MINUTE, "seconds": _SECOND}
     whole = sum(int(found[name] or 0) * unit for name, unit in units.items()) + int((found["fraction"] or "").ljust(9, "0"))
     return -whole if found["sign"] == "-" else whole
+
+
+# ---- parts of a sequence of instances
+
+
+def slice_of(rule: Any, part: slice) -> list[Any]:
+    """The instances of a slice; with a number below 0 it is taken of all of them."""
+    if any(it is not None and it < 0 for it in (part.start, part.stop, part.step)):
+        return list(rule)[part]
+    return list(itertools.islice(rule, part.start, part.stop, part.step))
+
+
+# ---- texts that are refused
+
+
+def refuse(text: str, said: str, start: int, end: int) -> NoReturn:
+    """Raises a TextError, of which start and end are given as bytes of UTF-8."""
+    encoded = text.encode()
+    start, end = (len(encoded[:it].decode(errors="ignore")) for it in (start, end))
+    raise TextError(said, text, start, max(start, end))
 
 
 # ---- texts that are written
@@ -101,6 +148,17 @@ def text_of_duration(duration: Any) -> str:
         text = f"{days} day{'' if abs(days) == 1 else 's'}, {text}"
     fraction = nanoseconds % _SECOND
     return f"{text}.{fraction:09}" if fraction % 1_000 else f"{text}.{fraction // 1_000:06}" if fraction else text
+
+
+def text_of_offset(offset: Any) -> str:
+    """The text of an offset from UTC, such as +02:00, with seconds and a fraction where it has them; empty for None."""
+    if offset is None:
+        return ""
+    minutes, rest = divmod(abs(offset.nanoseconds), _MINUTE)
+    text = f"{'-' if offset.nanoseconds < 0 else '+'}{minutes // 60:02}:{minutes % 60:02}"
+    seconds, fraction = divmod(rest, _SECOND)
+    digits = f".{fraction:09}" if fraction % 1_000 else f".{fraction // 1_000:06}" if fraction else ""
+    return f"{text}:{seconds:02}{digits}" if rest else text
 
 
 def iso_text_of_duration(duration: Any) -> str:

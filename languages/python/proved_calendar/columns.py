@@ -7,49 +7,47 @@ A column is an array of any shape. Its type says what an element is:
 - datetime64 in hours, minutes, s, ms, us or ns: a date with a time of day, in no time zone.
 
 NaT is no date, and so is a number that no date has. What has no answer is NaT in a datetime64 or timedelta64, the least number of a
-signed type, and 0 in an unsigned one. What comes back as dates has the type of what was given; smaller whole numbers become int64.
+signed type, 0 in an unsigned one, and NaN in a float. What comes back as dates has the type of what was given; smaller whole numbers
+become int64.
 
-The answers come from the proved functions. numpy itself divides times into days and their rest, and puts them together again.
+The answers come from the proved functions. What divides times into days and their rest, and puts them together again, is not proved.
 An array of int32 is read and written where it lies. Others are converted in pieces, so that little memory is taken. No call
 of the library holds Python's lock.
 
 >>> import numpy
->>> from proved_calendar import columns
->>> columns.add_months(numpy.array(['2024-01-31', 'NaT'], 'M8[D]'), 1)
+>>> from proved_calendar import BusinessCalendar, columns
+>>> dates = numpy.array(['2024-01-31', 'NaT'], 'M8[D]')
+>>> columns.add_months(dates, 1)
 array(['2024-02-29',        'NaT'], dtype='datetime64[D]')
+>>> columns.add_open_days(dates, 3, BusinessCalendar())
+array(['2024-02-05',        'NaT'], dtype='datetime64[D]')
 """
 from __future__ import annotations
 
 import ctypes
-import importlib
-from collections.abc import Callable, Iterable, Iterator
+import functools
+from collections.abc import Callable, Iterable
 from typing import Any, NamedTuple, SupportsIndex
 
 from . import _calendar
-
-try:
-    _np: Any = importlib.import_module("numpy")
-except ModuleNotFoundError as _missing:
-    raise ModuleNotFoundError("proved_calendar.columns needs numpy") from _missing
+from ._arrays import (
+    LIBRARY, NAT, NONE, TEXT, UNITS, Dates, Int32, Layout, Times, array_of, call as _call, flat64, layout_of, loop as _loop, np as _np,
+    pieces, small_of, whole,
+)
 
 __all__ = [
-    "Fields", "IsoWeeks", "add_days", "add_months", "count_dates", "days_between", "fields", "first_on", "from_fields", "from_texts",
-    "is_date", "iso_weeks", "numbers", "ordinals", "texts", "weekdays", "years",
+    "Fields", "Fractions", "IsoWeeks", "add_days", "add_months", "add_open_days", "count_dates", "day_counts", "days_between", "fields",
+    "first_on", "from_fields", "from_texts", "from_time_texts", "from_unix_days", "is_date", "is_open", "iso_weeks", "next_due", "numbers",
+    "open_days_between", "ordinals", "roll", "texts", "time_texts", "unix_days", "weekdays", "year_fractions", "years",
 ]
 
-_LIBRARY = ctypes.CDLL(_calendar.__file__)
-_FIRST, _LAST, _EPOCH = _calendar.Date.MIN.number, _calendar.Date.MAX.number, 719_163
-_NONE, _NAT = -(2**31), -(2**63)
-_MOST = 2**63 - 1
-
-# So many elements are converted at once: their day numbers stay in a processor's cache.
-_PIECE = 1 << 15
-# The bytes of a date's text in a column.
-_TEXT = 10
-# How many of a unit of datetime64 make a day.
-_UNITS = {
-    "D": 1, "h": 24, "m": 1_440, "s": 86_400, "ms": 86_400 * 10**3, "us": 86_400 * 10**6, "ns": 86_400 * 10**9,
-}
+# The rolls and the day counts, in the order of calendar_layers.h.
+_ROLLS = (
+    "unadjusted", "following", "preceding", "modified_following", "modified_preceding", "nearest_isda", "nearest_quantlib",
+)
+_DAY_COUNTS = ("actual_actual_isda", "actual_360", "actual_365_fixed", "thirty_360", "thirty_e_360")
+# The bytes of a date-time's text in a column.
+_TIME_TEXT = 32
 
 
 class Fields(NamedTuple):
@@ -67,179 +65,11 @@ class IsoWeeks(NamedTuple):
     weeks: Any
 
 
-# ---- calls of the library
+class Fractions(NamedTuple):
+    """Exact fractions, which are not reduced."""
 
-
-def _call(name: str, *arguments: Any) -> None:
-    """Calls a function for columns. An array is passed as its address and its length, and a number as 32 bits."""
-    words: list[Any] = []
-    for it in arguments:
-        if isinstance(it, int):
-            words.append(ctypes.c_int32(it))
-        else:
-            words += [ctypes.c_void_p(it.__array_interface__["data"][0]), ctypes.c_size_t(it.size)]
-    function = getattr(_LIBRARY, f"calendar_column_{name}")
-    function.restype = ctypes.c_bool
-    if not function(*words):
-        raise RuntimeError(f"calendar_column_{name} is given columns of different lengths")
-
-
-def _flat64(values: Any) -> Any:
-    """The 64 bits of each element, in one row without gaps."""
-    return _np.require(values, requirements="CA").view(_np.int64)
-
-
-def _from_unix_days(days: Any) -> Any:
-    """Day numbers from days since 1970."""
-    found = _np.empty(days.size, _np.int32)
-    _call("from_unix_days", days, found)
-    return found
-
-
-# ---- what an array holds
-
-
-class _Layout:
-    """How an array holds dates: its day numbers, and an array of the same type from those."""
-
-    def __init__(self, dtype: Any) -> None:
-        self.dtype = dtype
-
-    def numbers(self, values: Any) -> Any:
-        """The day numbers of a piece."""
-        raise NotImplementedError
-
-    def put(self, found: Any, out: Any) -> None:
-        """Writes a piece of dates, without a time of day, from their day numbers."""
-        raise NotImplementedError
-
-    def move(self, found: Any, values: Any, starts: Any, out: Any) -> None:
-        """Writes a piece of dates after a move of their day numbers from the starts, with their times of day."""
-        self.put(found, out)
-
-
-class _Int32(_Layout):
-    """Day numbers as the library has them."""
-
-    def numbers(self, values: Any) -> Any:
-        return _np.require(values, _np.int32, "CA")
-
-    def put(self, found: Any, out: Any) -> None:
-        out[...] = found
-
-
-class _Int64(_Layout):
-    """Day numbers of 64 bits."""
-
-    def numbers(self, values: Any) -> Any:
-        return _np.clip(values.astype(_np.int64, copy=False), _FIRST - 1, _LAST + 1).astype(_np.int32)
-
-    def put(self, found: Any, out: Any) -> None:
-        out[...] = found
-        out[found == _NONE] = _NAT
-
-
-class _Days(_Layout):
-    """Days since 1970, as numpy counts them."""
-
-    def numbers(self, values: Any) -> Any:
-        return _from_unix_days(_flat64(values))
-
-    def put(self, found: Any, out: Any) -> None:
-        _call("to_unix_days", found, out.view(_np.int64))
-
-
-class _Times(_Layout):
-    """Times since 1970, of which so many make a day."""
-
-    def __init__(self, dtype: Any, day: int) -> None:
-        super().__init__(dtype)
-        self.day = day
-
-    def numbers(self, values: Any) -> Any:
-        times = _flat64(values)
-        days = times // self.day
-        if times.min(initial=0) == _NAT:
-            days[times == _NAT] = _NAT
-        return _from_unix_days(days)
-
-    def put(self, found: Any, out: Any) -> None:
-        self.move(found, _np.zeros((), _np.int64), _EPOCH, out)
-
-    def move(self, found: Any, values: Any, starts: Any, out: Any) -> None:
-        times, end = _flat64(values), out.view(_np.int64)
-        _np.subtract(found, starts, out=end, dtype=_np.int64)
-        end *= self.day
-        end += times
-        least, most = (int(it) - _EPOCH for it in (found.min(initial=_EPOCH), found.max(initial=_EPOCH)))
-        # (64 bits of any longer unit hold all dates)
-        if self.day == _UNITS["ns"] and (least <= _NAT // self.day or most >= _MOST // self.day):
-            end[~self.holds(found, times % self.day)] = _NAT
-        elif least == _NONE - _EPOCH:
-            end[found == _NONE] = _NAT
-
-    def holds(self, found: Any, rest: Any) -> Any:
-        """Whether 64 bits hold the time that is the rest after the beginning of a day; none is no date's."""
-        days = found.astype(_np.int64) - _EPOCH
-        first, last = _NAT // self.day, _MOST // self.day
-        is_late = (days > last) | ((days == last) & (rest > _MOST - last * self.day))
-        is_early = (days < first) | ((days == first) & (rest <= _NAT - first * self.day))
-        return ~(is_late | is_early | (found == _NONE))
-
-
-def _layout(dtype: Any) -> _Layout:
-    """How an array of a type holds dates; a TypeError if it cannot."""
-    if dtype.kind == "M":
-        unit, count = _np.datetime_data(dtype)
-        if count == 1 and unit in _UNITS and dtype.isnative:
-            return _Days(dtype) if unit == "D" else _Times(dtype, _UNITS[unit])
-    if dtype == _np.int32 and dtype.isnative:
-        return _Int32(dtype)
-    if dtype.kind in "iu" and _np.can_cast(dtype, _np.int64):
-        return _Int64(_np.dtype(_np.int64))
-    raise TypeError(f"an array of {dtype} is no column of dates")
-
-
-def _array(it: Any) -> Any:
-    """An array of native byte order."""
-    found = _np.asarray(it)
-    return found if found.dtype.isnative else found.astype(found.dtype.newbyteorder("="))
-
-
-def _pieces(size: int) -> Iterator[slice]:
-    return (slice(start, min(start + _PIECE, size)) for start in range(0, size, _PIECE))
-
-
-def _whole(name: str, it: SupportsIndex) -> int:
-    """A whole number of 32 bits for a move: a larger one leads beyond the calendar, as the largest does."""
-    if isinstance(it, (bool, _np.bool_)) or not hasattr(it, "__index__"):
-        raise TypeError(f"{name} is a whole number, not {type(it).__name__}")
-    return max(-(2**31) + 1, min(2**31 - 1, it.__index__()))
-
-
-class _Dates:
-    """A column of dates, which is read in pieces."""
-
-    def __init__(self, dates: Any, shape: Any = None) -> None:
-        values = _array(dates)
-        self.layout, self.shape = _layout(values.dtype), values.shape if shape is None else shape
-        self.values = _spread(values, self.shape)
-        self.size = self.values.size
-
-    def numbers(self, piece: slice) -> Any:
-        """The day numbers of a piece."""
-        return self.layout.numbers(self.values[piece])
-
-    def pieces(self) -> Iterator[slice]:
-        return _pieces(self.size)
-
-
-def _spread(values: Any, shape: Any) -> Any:
-    """An array as one row, as long as a shape is large; what is one element for all takes no memory."""
-    size = _np.prod(shape, dtype=_np.int64)
-    if values.size == 1 and values.ndim <= len(shape):
-        return _np.broadcast_to(values.reshape(()), size)
-    return _np.broadcast_to(values, shape).reshape(-1)
+    numerators: Any
+    denominators: Any
 
 
 # ---- what dates are called
@@ -247,7 +77,7 @@ def _spread(values: Any, shape: Any) -> Any:
 
 def _asked(name: str, dates: Any, *kinds: Any) -> tuple[Any, ...]:
     """What a function of the library tells of each date, in arrays of some types."""
-    column = _Dates(dates)
+    column = Dates(dates)
     outs = [_np.empty(column.size, kind) for kind in kinds]
     for piece in column.pieces():
         _call(name, column.numbers(piece), *(out[piece] for out in outs))
@@ -284,12 +114,12 @@ def texts(dates: Any) -> Any:
 
     `texts(dates).astype(str)` makes texts of Python of them.
     """
-    return _asked("write_dates", dates, f"S{_TEXT}")[0]
+    return _asked("write_dates", dates, f"S{TEXT}")[0]
 
 
 def numbers(dates: Any) -> Any:
     """Returns the day number of each date as int32: 1 for 1 January of year 1, and -2147483648 for no date."""
-    column = _Dates(dates)
+    column = Dates(dates)
     out = _np.empty(column.size, _np.int32)
     for piece in column.pieces():
         _call("add_days", column.numbers(piece), 0, out[piece])
@@ -303,7 +133,7 @@ def is_date(dates: Any) -> Any:
 
 def count_dates(dates: Any) -> int:
     """Returns how many elements are dates."""
-    column, function = _Dates(dates), _LIBRARY.calendar_column_count_dates
+    column, function = Dates(dates), LIBRARY.calendar_column_count_dates
     function.restype, function.argtypes = ctypes.c_size_t, (ctypes.c_void_p, ctypes.c_size_t)
     found = 0
     for piece in column.pieces():
@@ -315,34 +145,23 @@ def count_dates(dates: Any) -> int:
 # ---- dates
 
 
-def _moved(name: str, column: _Dates, by: Callable[[slice], Any]) -> Any:
-    """Each date after a move by what stands in a piece: one number, or one for each date."""
+def _moved_by(column: Dates, move: Callable[[slice, Any, Any], None]) -> Any:
+    """Each date after a move, which is given a piece, its day numbers and where to write those after it."""
     out = _np.empty(column.size, column.layout.dtype)
     for piece in column.pieces():
         starts = column.numbers(piece)
-        if type(column.layout) is _Int32:
-            _call(name, starts, by(piece), out[piece])
+        if type(column.layout) is Int32:
+            move(piece, starts, out[piece])
         else:
             moved = _np.empty(starts.size, _np.int32)
-            _call(name, starts, by(piece), moved)
+            move(piece, starts, moved)
             column.layout.move(moved, column.values[piece], starts, out[piece])
     return out.reshape(column.shape)
 
 
-def _small(name: str, it: Any, kind: Any, shape: Any) -> Callable[[slice], Any]:
-    """Pieces of whole numbers as a smaller type; what lies beyond it becomes its bound."""
-    values, bounds = _array(it), _np.iinfo(kind)
-    if values.dtype.kind not in "iu" or not _np.can_cast(values.dtype, _np.int64):
-        raise TypeError(f"{name} are whole numbers, not {values.dtype}")
-    flat = _spread(values, shape)
-
-    def small(piece: slice) -> Any:
-        part = flat[piece]
-        if part.dtype == kind:
-            return _np.require(part, requirements="CA")
-        return _np.clip(part.astype(_np.int64, copy=False), bounds.min, bounds.max).astype(kind)
-
-    return small
+def _moved(name: str, column: Dates, by: Callable[[slice], Any]) -> Any:
+    """Each date after a move by what stands in a piece: one number, or one for each date."""
+    return _moved_by(column, lambda piece, starts, moved: _call(name, starts, by(piece), moved))
 
 
 def add_days(dates: Any, days: Any) -> Any:
@@ -350,10 +169,10 @@ def add_days(dates: Any, days: Any) -> Any:
 
     A time of day stays the same.
     """
-    column = _Dates(dates)
+    column = Dates(dates)
     if _np.ndim(days):
-        return _moved("add_days_each", column, _small("days", days, _np.int32, column.shape))
-    number = _whole("days", days)
+        return _moved("add_days_each", column, small_of("days", days, _np.int32, column.shape))
+    number = whole("days", days)
     return _moved("add_days", column, lambda _: number)
 
 
@@ -362,8 +181,8 @@ def add_months(dates: Any, months: SupportsIndex) -> Any:
 
     A time of day stays the same.
     """
-    number = _whole("months", months)
-    return _moved("add_months", _Dates(dates), lambda _: number)
+    number = whole("months", months)
+    return _moved("add_months", Dates(dates), lambda _: number)
 
 
 def first_on(dates: Any, weekdays: Iterable[SupportsIndex]) -> Any:
@@ -372,7 +191,17 @@ def first_on(dates: Any, weekdays: Iterable[SupportsIndex]) -> Any:
     if not chosen:
         raise ValueError("no weekday is given")
     number = sum(1 << it for it in chosen)
-    return _moved("first_on", _Dates(dates), lambda _: number)
+    return _moved("first_on", Dates(dates), lambda _: number)
+
+
+def _pair(dates: Any, others: Any) -> tuple[Dates, Dates]:
+    """Two columns of one shape; a TypeError if only one of them is datetime64."""
+    shape = _np.broadcast_shapes(_np.shape(dates), _np.shape(others))
+    column, other = Dates(dates, shape), Dates(others, shape)
+    kinds = column.layout.dtype, other.layout.dtype
+    if (kinds[0].kind == "M") != (kinds[1].kind == "M"):
+        raise TypeError(f"dates of {kinds[0]} are not compared with dates of {kinds[1]}")
+    return column, other
 
 
 def days_between(dates: Any, bases: Any) -> Any:
@@ -380,34 +209,30 @@ def days_between(dates: Any, bases: Any) -> Any:
 
     The days are timedelta64[D] if both are datetime64, and int32 if neither is. Times of day do not count.
     """
-    shape = _np.broadcast_shapes(_np.shape(dates), _np.shape(bases))
-    column, base = _Dates(dates, shape), _Dates(bases, shape)
-    kinds = column.layout.dtype, base.layout.dtype
-    is_time = kinds[0].kind == "M"
-    if is_time != (kinds[1].kind == "M"):
-        raise TypeError(f"dates of {kinds[0]} are not compared with dates of {kinds[1]}")
+    column, base = _pair(dates, bases)
+    is_time = column.layout.dtype.kind == "M"
     out = _np.empty(column.size, _np.int64 if is_time else _np.int32)
     for piece in column.pieces():
         days = _np.empty(piece.stop - piece.start, _np.int32)
         _call("days_between", column.numbers(piece), base.numbers(piece), days)
         out[piece] = days
-        if is_time and days.min(initial=0) == _NONE:
-            out[piece][days == _NONE] = _NAT
-    return (out.view("m8[D]") if is_time else out).reshape(shape)
+        if is_time and days.min(initial=0) == NONE:
+            out[piece][days == NONE] = NAT
+    return (out.view("m8[D]") if is_time else out).reshape(column.shape)
 
 
-def _made_of(dtype: Any) -> _Layout:
+def _made_of(dtype: Any) -> Layout:
     """How an array that is made anew holds dates; each has no time of day."""
-    layout = _layout(_np.dtype(dtype))
+    layout = layout_of(_np.dtype(dtype))
     if layout.dtype != _np.dtype(dtype):
         raise TypeError(f"dates are not written as {_np.dtype(dtype)}")
     return layout
 
 
-def _new(layout: _Layout, shape: Any, number: Callable[[slice], Any]) -> Any:
+def _new(layout: Layout, shape: Any, number: Callable[[slice], Any]) -> Any:
     """An array of dates without a time of day, from a function that answers the day numbers of a piece."""
     out = _np.empty(_np.prod(shape, dtype=_np.int64), layout.dtype)
-    for piece in _pieces(out.size):
+    for piece in pieces(out.size):
         layout.put(number(piece), out[piece])
     return out.reshape(shape)
 
@@ -416,7 +241,7 @@ def from_fields(years: Any, months: Any, days: Any, dtype: Any = "M8[D]") -> Any
     """Returns the date of each year, month and day of the month. Each may be an array, or one number for all."""
     layout, shape = _made_of(dtype), _np.broadcast_shapes(*(_np.shape(it) for it in (years, months, days)))
     parts = (
-        _small("years", years, _np.int32, shape), _small("months", months, _np.uint8, shape), _small("days", days, _np.uint8, shape),
+        small_of("years", years, _np.int32, shape), small_of("months", months, _np.uint8, shape), small_of("days", days, _np.uint8, shape),
     )
 
     def names(piece: slice) -> Any:
@@ -430,15 +255,23 @@ def from_fields(years: Any, months: Any, days: Any, dtype: Any = "M8[D]") -> Any
 def _bytes_of(texts: Any) -> Any:
     """Texts as ten bytes each; a text of another length, or with another character than ASCII's, becomes ten that are no date's."""
     width = texts.dtype.itemsize // (4 if texts.dtype.kind == "U" else 1)
-    if texts.dtype == f"S{_TEXT}":
+    if texts.dtype == f"S{TEXT}":
         return _np.require(texts, requirements="CA")
     letters = _np.require(texts, requirements="CA").view(_np.uint32 if texts.dtype.kind == "U" else _np.uint8)
     letters = letters.reshape(-1, width) if width else _np.zeros((texts.size, 1), _np.uint8)
-    is_whole = (letters[:, :_TEXT] < 128).all(axis=1) & ~letters[:, _TEXT:].any(axis=1)
-    found = _np.zeros((texts.size, _TEXT), _np.uint8)
-    found[:, : letters.shape[1]] = letters[:, :_TEXT]
+    is_whole = (letters[:, :TEXT] < 128).all(axis=1) & ~letters[:, TEXT:].any(axis=1)
+    found = _np.zeros((texts.size, TEXT), _np.uint8)
+    found[:, : letters.shape[1]] = letters[:, :TEXT]
     found[~is_whole] = 0
-    return found.reshape(-1).view(f"S{_TEXT}")
+    return found.reshape(-1).view(f"S{TEXT}")
+
+
+def _texts_of(texts: Any) -> Any:
+    """An array of texts; a TypeError if it is none."""
+    column = array_of(texts)
+    if column.dtype.kind not in "SU":
+        raise TypeError(f"texts are bytes or str, not {column.dtype}")
+    return column
 
 
 def from_texts(texts: Any, dtype: Any = "M8[D]") -> Any:
@@ -446,9 +279,7 @@ def from_texts(texts: Any, dtype: Any = "M8[D]") -> Any:
 
     texts is an array of bytes (S) or of Unicode (U); that of S10 is read fastest.
     """
-    layout, column = _made_of(dtype), _array(texts)
-    if column.dtype.kind not in "SU":
-        raise TypeError(f"texts are bytes or str, not {column.dtype}")
+    layout, column = _made_of(dtype), _texts_of(texts)
     flat = column.reshape(-1)
 
     def read(piece: slice) -> Any:
@@ -457,3 +288,201 @@ def from_texts(texts: Any, dtype: Any = "M8[D]") -> Any:
         return found
 
     return _new(layout, column.shape, read)
+
+
+# ---- days since 1970
+
+
+def unix_days(dates: Any) -> Any:
+    """Returns the days from 1 January 1970 to each date as int32, which is date32 of Arrow; -2147483648 for no date."""
+    column = Dates(dates)
+    out = _np.empty(column.size, _np.int32)
+    for piece in column.pieces():
+        _call("to_date32", column.numbers(piece), out[piece])
+    return out.reshape(column.shape)
+
+
+def from_unix_days(days: Any, dtype: Any = "M8[D]") -> Any:
+    """Returns the date of each number of days since 1 January 1970, such as date32 of Arrow has them."""
+    values, layout = array_of(days), _made_of(dtype)
+    parts = small_of("days", values, values.dtype if values.dtype == _np.int32 else _np.int64, values.shape)
+
+    def read(piece: slice) -> Any:
+        part = parts(piece)
+        found = _np.empty(part.size, _np.int32)
+        _call("from_date32" if part.dtype == _np.int32 else "from_unix_days", part, found)
+        return found
+
+    return _new(layout, values.shape, read)
+
+
+# ---- open days and day counts
+
+
+@functools.lru_cache(maxsize=16)
+def _closed_on(calendar: Any) -> tuple[int, Any]:
+    """The weekend of a calendar as a set, and the day numbers of its holidays."""
+    weekend = sum(1 << (it - 1) for it in calendar.weekend)
+    return weekend, _np.array([it.number for it in calendar.holidays], _np.int32)
+
+
+def _closed(calendar: Any) -> tuple[int, Any]:
+    """The same; a TypeError if it is no calendar."""
+    if not isinstance(calendar, _calendar.BusinessCalendar):
+        raise TypeError(f"a BusinessCalendar is wanted, not {type(calendar).__name__}")
+    return _closed_on(calendar)
+
+
+def _number_of(what: str, name: str, names: tuple[str, ...]) -> int:
+    """The number of a name; a ValueError if it is none of them."""
+    if not isinstance(name, str):
+        raise TypeError(f"the name of a {what} is wanted, not {type(name).__name__}")
+    if name not in names:
+        raise ValueError(f"there is no {what} {name!r}")
+    return names.index(name)
+
+
+def is_open(dates: Any, calendar: Any) -> Any:
+    """Returns whether each element is an open day of a BusinessCalendar, as bool. What is no date is not open."""
+    column, closed = Dates(dates), _closed(calendar)
+    out = _np.empty(column.size, _np.bool_)
+    for piece in column.pieces():
+        _call("is_open_day", *closed, column.numbers(piece), out[piece])
+    return out.reshape(column.shape)
+
+
+def add_open_days(dates: Any, days: Any, calendar: Any) -> Any:
+    """Returns the open day that many open days later, or earlier if negative. days is a whole number, or one for each date.
+
+    From a closed day the next open day counts as the first. If days is 0, returns the first open day from the date on. A time of
+    day stays the same.
+    """
+    column, (weekend, holidays) = Dates(dates), _closed(calendar)
+    if not _np.ndim(days):
+        number = ctypes.c_int64(whole("days", days))
+        return _moved_by(column, lambda _, starts, moved: _call("add_open_days", weekend, holidays, starts, number, moved))
+    steps = small_of("days", days, _np.int64, column.shape)
+    closed = weekend, holidays, holidays.size
+    return _moved_by(column, lambda piece, starts, moved: _loop("add_open", *closed, starts, steps(piece), starts.size, moved))
+
+
+def roll(dates: Any, how: str, calendar: Any) -> Any:
+    """Returns each open date, and for a closed one the open day that a roll leads to (ISDA 2006, 4.12).
+
+    how is 'following', 'preceding', 'modified_following' or 'modified_preceding', which stay in the month, 'nearest_isda',
+    'nearest_quantlib' or 'unadjusted'. A time of day stays the same.
+    """
+    column, closed, number = Dates(dates), _closed(calendar), _number_of("roll", how, _ROLLS)
+    return _moved_by(column, lambda _, starts, moved: _call("roll", *closed, starts, number, moved))
+
+
+def open_days_between(dates: Any, ends: Any, calendar: Any) -> Any:
+    """Returns how many days are open from each date on and before the end at its place, as int64; negative if the end is the earlier.
+
+    One of the two may be a single date.
+    """
+    (column, end), closed = _pair(dates, ends), _closed(calendar)
+    out = _np.empty(column.size, _np.int64)
+    for piece in column.pieces():
+        _call("open_days_between", *closed, column.numbers(piece), end.numbers(piece), out[piece])
+    return out.reshape(column.shape)
+
+
+def day_counts(dates: Any, ends: Any, kind: str) -> Fractions:
+    """Returns the part of a year from each date to the end at its place, as int64 fractions; 0/0 if one of them is no date.
+
+    kind is 'actual_actual_isda', 'actual_360', 'actual_365_fixed', 'thirty_360' or 'thirty_e_360' (ISDA 2006, 4.16).
+    """
+    column, end = _pair(dates, ends)
+    number = _number_of("day count", kind, _DAY_COUNTS)
+    parts = Fractions(_np.empty(column.size, _np.int64), _np.empty(column.size, _np.int64))
+    for piece in column.pieces():
+        size = piece.stop - piece.start
+        _loop("day_counts", number, column.numbers(piece), end.numbers(piece), size, *(it[piece] for it in parts))
+    return Fractions(*(it.reshape(column.shape) for it in parts))
+
+
+def year_fractions(dates: Any, ends: Any, kind: str) -> Any:
+    """Returns the same as float64, the nearest to each fraction; NaN if one of the two is no date."""
+    column, end = _pair(dates, ends)
+    _number_of("day count", kind, _DAY_COUNTS)
+    out = _np.empty(column.size, _np.float64)
+    for piece in column.pieces():
+        over, under = day_counts(column.numbers(piece), end.numbers(piece), kind)
+        _np.divide(over, _np.where(under, under, _np.nan), out=out[piece])
+    return out.reshape(column.shape)
+
+
+# ---- times
+
+
+def _times_of(times: Any) -> Dates:
+    """A column of times; a TypeError if its elements have no time of day."""
+    column = Dates(times)
+    if not isinstance(column.layout, Times):
+        raise TypeError(f"times are datetime64 in h, m, s, ms, us or ns, not {column.layout.dtype}")
+    return column
+
+
+def _unit_of(dtype: Any) -> int:
+    """How many units of a datetime64 of times make a day."""
+    layout = _made_of(dtype)
+    if not isinstance(layout, Times):
+        raise TypeError(f"times are not written as {layout.dtype}")
+    return layout.day
+
+
+def next_due(times: Any, schedule: Any) -> Any:
+    """Returns the first time after each at which a Schedule is due, or the cron text of one.
+
+    times is datetime64. What is found has its type, and datetime64[m] in place of days and hours. It is NaT if there is none.
+    """
+    column = Dates(times)
+    if column.layout.dtype.kind != "M":
+        raise TypeError(f"times are datetime64, not {column.layout.dtype}")
+    text = str(schedule if isinstance(schedule, _calendar.Schedule) else _calendar.Schedule(schedule)).encode()
+    day = column.layout.day
+    dtype = column.layout.dtype if day >= UNITS["m"] else _np.dtype("M8[m]")
+    out = _np.empty(column.size, dtype)
+    for piece in column.pieces():
+        part = flat64(column.values[piece])
+        _loop("next_due", text, part, part.size, day, max(day, UNITS["m"]), out[piece].view(_np.int64))
+    return out.reshape(column.shape)
+
+
+def time_texts(times: Any) -> Any:
+    """Returns the text of each time as bytes (S32), such as b'2024-02-29T09:30:00.500'; b'' for none.
+
+    A fraction has three, six or nine digits, the fewest that hold it. `time_texts(times).astype(str)` makes texts of Python.
+    """
+    column = _times_of(times)
+    out = _np.empty(column.size, f"S{_TIME_TEXT}")
+    for piece in column.pieces():
+        part = flat64(column.values[piece])
+        _loop("write_times", part, part.size, column.layout.day, out[piece])
+    return out.reshape(column.shape)
+
+
+def _ascii_of(texts: Any) -> Any:
+    """Texts of str as bytes; one with another character than ASCII's becomes empty."""
+    width = texts.dtype.itemsize // 4
+    if width == 0:
+        return _np.zeros(texts.size, "S1")
+    letters = _np.require(texts, requirements="CA").view(_np.uint32).reshape(-1, width)
+    found = letters.astype(_np.uint8)
+    found[(letters > 127).any(axis=1)] = 0
+    return found.reshape(-1).view(f"S{width}")
+
+
+def from_time_texts(texts: Any, dtype: Any = "M8[ns]") -> Any:
+    """Returns the time that each text writes, as time_texts writes it, also with a space in place of T.
+
+    NaT stands for another text, a leap second, and a time that the type cannot hold, as one of 1600 in nanoseconds.
+    """
+    day, column = _unit_of(dtype), _texts_of(texts)
+    out = _np.empty(column.size, dtype)
+    flat = column.reshape(-1)
+    for piece in pieces(out.size):
+        part = _ascii_of(flat[piece]) if flat.dtype.kind == "U" else _np.require(flat[piece], requirements="CA")
+        _loop("read_times", part, part.dtype.itemsize, part.size, day, out[piece].view(_np.int64))
+    return out.reshape(column.shape)

@@ -16,6 +16,18 @@ _LEFT: Any = ...
 _DAY = Date(1970, 1, 1)
 
 
+_ENDS = ("MIN", "MAX", "min", "max", "resolution")
+
+
+def attributes(of: object) -> list[str]:
+    """Returns the names of a value's attributes, for dir, without the ends of its type and a time zone.
+
+    Each end has ends again, and so has datetime.timezone. So pandas, which writes all attributes as JSON, would come to no end.
+    """
+    left_out = _ENDS if getattr(of, "tzinfo", None) is None else (*_ENDS, "tzinfo")
+    return [it for it in object.__dir__(of) if it not in left_out]
+
+
 class Time:
     """A time of day, to the nanosecond, in no time zone.
 
@@ -41,7 +53,7 @@ class Time:
         cls, hour: SupportsIndex = 0, minute: SupportsIndex = 0, second: SupportsIndex = 0, microsecond: SupportsIndex = _LEFT,
         *, nanosecond: SupportsIndex = _LEFT,
     ) -> Self:
-        fraction = {"microsecond": microsecond, "nanosecond": nanosecond}
+        fraction: dict[str, Any] = {"microsecond": microsecond, "nanosecond": nanosecond}
         return cls._of(DateTime(_DAY, hour, minute, second, **{name: it for name, it in fraction.items() if it is not _LEFT}))
 
     @classmethod
@@ -120,7 +132,7 @@ class Time:
         microsecond: SupportsIndex = _LEFT, nanosecond: SupportsIndex = _LEFT,
     ) -> Self:
         """Returns the time with these parts in place of its own; ValueError if there is none."""
-        given = {"hour": hour, "minute": minute, "second": second, "microsecond": microsecond, "nanosecond": nanosecond}
+        given: dict[str, Any] = {"hour": hour, "minute": minute, "second": second, "microsecond": microsecond, "nanosecond": nanosecond}
         moment = self._moment.replace(**{name: it for name, it in given.items() if it is not _LEFT})
         return type(self)(moment.hour, moment.minute, moment.second, nanosecond=moment.nanosecond)
 
@@ -188,6 +200,8 @@ class Time:
     def __hash__(self) -> int:
         is_theirs = self.second < 60 and self.nanosecond % 1_000 == 0
         return hash(self.to_time()) if is_theirs else hash(self._moment)
+
+    __dir__ = attributes
 
     def __reduce__(self) -> tuple[Any, ...]:
         return _again, (type(self), self.hour, self.minute, self.second, self.nanosecond)

@@ -168,6 +168,19 @@ static PyObject *from_date(PyObject *kind, PyObject *it)
     return read_python_date(it, &number) ? date_of((PyTypeObject *)kind, number) : NULL;
 }
 
+bool take_date(PyObject *it, int32_t *number)
+{
+    if (is_date(it)) {
+        *number = number_of(it);
+        return true;
+    }
+    if (!is_python_date(it) || is_python_datetime(it)) {
+        refuse_type("a Date or a datetime.date", it);
+        return false;
+    }
+    return read_python_date(it, number);
+}
+
 bool read_name(int32_t number, PyObject *const parts[3], int64_t name[3])
 {
     name[0] = calendar_year(number);

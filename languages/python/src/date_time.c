@@ -6,22 +6,22 @@
 PyTypeObject *date_time_type;
 static Blocks kept;
 
-enum { SECOND = 1000000000, MICROSECOND = 1000, LAST_SECOND = 59 };
+enum { SECOND = 1000000000, MICROSECOND = 1000, LAST_SECOND = 59, LAST_SECOND_OF_DAY = 86399 };
 
 /* The parts of a clock, in the order of parameters: hour, minute, second and nanosecond. */
 enum { HOUR, MINUTE, CLOCK_SECOND, NANOSECOND, CLOCK };
 
 static Signature of_date_and_clock = {
-    .call = "DateTime", .count = 6, .needed = 1, .places = 5,
-    .names = {"date", "hour", "minute", "second", "nanosecond", "microsecond"},
+    .call = "DateTime", .count = 8, .needed = 1, .places = 5,
+    .names = {"date", "hour", "minute", "second", "nanosecond", "microsecond", "tzinfo", "fold"},
 };
 static Signature of_name_and_clock = {
-    .call = "DateTime", .count = 8, .needed = 3, .places = 7,
-    .names = {"year", "month", "day", "hour", "minute", "second", "microsecond", "nanosecond"},
+    .call = "DateTime", .count = 10, .needed = 3, .places = 8,
+    .names = {"year", "month", "day", "hour", "minute", "second", "microsecond", "tzinfo", "fold", "nanosecond"},
 };
 static Signature of_replace = {
-    .call = "replace", .count = 8, .needed = 0, .places = 6,
-    .names = {"year", "month", "day", "hour", "minute", "second", "microsecond", "nanosecond"},
+    .call = "replace", .count = 10, .needed = 0, .places = 6,
+    .names = {"year", "month", "day", "hour", "minute", "second", "microsecond", "nanosecond", "tzinfo", "fold"},
 };
 static Signature of_iso_format = {
     .call = "isoformat", .count = 2, .needed = 0, .places = 2, .names = {"sep", "timespec"},
@@ -106,6 +106,28 @@ static bool moment_at(int32_t number, const int64_t clock[CLOCK], calendar_date_
     return true;
 }
 
+/* Reads the time zone and the fold that are given, each in place of what is there. */
+static bool read_zoning(PyObject *zone, PyObject *fold, Zoning *zoning)
+{
+    int64_t number = zoning->fold;
+    if (zone && zone != Py_None && !is_tzinfo(zone)) {
+        refuse_type("None or a tzinfo", zone);
+        return false;
+    }
+    if (zone) {
+        zoning->zone = zone == Py_None ? NULL : zone;
+    }
+    if (fold && !read_whole(fold, &number)) {
+        return false;
+    }
+    bool is_fold = number == 0 || number == 1;
+    if (!is_fold) {
+        refuse_part("fold", number, "it is 0, or 1 for the second one of two equal local times");
+    }
+    zoning->fold = number == 1;
+    return is_fold;
+}
+
 /* ---- what is kept of a date-time */
 
 /* The number of its date. */
@@ -139,12 +161,22 @@ static PyObject *new_date_time(PyTypeObject *kind, calendar_date_time moment, in
         self->moment = moment;
         self->number = number;
         self->second = CALENDAR_NONE;
+        self->zoning = (Zoning){0};
     }
     return (PyObject *)self;
 }
 
-/* A date-time of a type, from fields that are one. */
-static PyObject *date_time_of(PyTypeObject *kind, calendar_date_time moment)
+/* Gives an object that was just made its time zone; it may be missing after an error. */
+static PyObject *with_zoning(PyObject *self, Zoning zoning)
+{
+    if (self) {
+        Py_XINCREF(zoning.zone);
+        ((DateTime *)self)->zoning = zoning;
+    }
+    return self;
+}
+
+PyObject *date_time_of(PyTypeObject *kind, calendar_date_time moment)
 {
     if (kind != date_time_type) {
         /* (a user's class makes its objects as it likes) */
@@ -157,8 +189,28 @@ static PyObject *date_time_of(PyTypeObject *kind, calendar_date_time moment)
     return new_date_time(kind, moment, CALENDAR_NONE);
 }
 
+/* The same in a time zone. */
+static PyObject *date_time_in(PyTypeObject *kind, calendar_date_time moment, Zoning zoning)
+{
+    if (!zoning.zone && !zoning.fold) {
+        return date_time_of(kind, moment);
+    }
+    if (kind == date_time_type) {
+        return with_zoning(new_date_time(kind, moment, CALENDAR_NONE), zoning);
+    }
+    int64_t clock[CLOCK];
+    read_clock(moment, clock);
+    PyObject *parts = Py_BuildValue("(NLLLL)", date_of(date_type, calendar_date_time_date(moment)), (long long)clock[HOUR],
+                                    (long long)clock[MINUTE], (long long)clock[CLOCK_SECOND], (long long)clock[NANOSECOND]);
+    PyObject *named = Py_BuildValue("{sOsi}", "tzinfo", zoning.zone ? zoning.zone : Py_None, "fold", (int)zoning.fold);
+    PyObject *result = parts && named ? PyObject_Call((PyObject *)kind, parts, named) : NULL;
+    Py_XDECREF(parts);
+    Py_XDECREF(named);
+    return result;
+}
+
 /* Reads the arguments of datetime: year, month and day, and a clock whose fraction by place is in microseconds. */
-static bool read_named(PyObject *arguments, PyObject *keywords, int32_t *number, int64_t clock[CLOCK])
+static bool read_named(PyObject *arguments, PyObject *keywords, int32_t *number, int64_t clock[CLOCK], Zoning *zoning)
 {
     PyObject *parts[PARTS];
     int64_t name[3];
@@ -170,7 +222,7 @@ static bool read_named(PyObject *arguments, PyObject *keywords, int32_t *number,
             return false;
         }
     }
-    if (!read_parts(parts + 3, parts[6], parts[7], clock)) {
+    if (!read_parts(parts + 3, parts[6], parts[9], clock) || !read_zoning(parts[7], parts[8], zoning)) {
         return false;
     }
     *number = number_of_name(name[0], name[1], name[2]);
@@ -178,7 +230,7 @@ static bool read_named(PyObject *arguments, PyObject *keywords, int32_t *number,
 }
 
 /* Reads a Date, and a clock whose fraction by place is in nanoseconds. */
-static bool read_dated(PyObject *arguments, PyObject *keywords, int32_t *number, int64_t clock[CLOCK])
+static bool read_dated(PyObject *arguments, PyObject *keywords, int32_t *number, int64_t clock[CLOCK], Zoning *zoning)
 {
     PyObject *parts[PARTS];
     if (!take_tuple(&of_date_and_clock, arguments, keywords, parts)) {
@@ -189,7 +241,7 @@ static bool read_dated(PyObject *arguments, PyObject *keywords, int32_t *number,
         return false;
     }
     *number = number_of(parts[0]);
-    return read_parts(parts + 1, parts[5], parts[4], clock);
+    return read_parts(parts + 1, parts[5], parts[4], clock) && read_zoning(parts[6], parts[7], zoning);
 }
 
 /* Whether the first argument is a year, by place or by name. */
@@ -207,13 +259,15 @@ static PyObject *date_time_new(PyTypeObject *kind, PyObject *arguments, PyObject
     int32_t number;
     int64_t clock[CLOCK] = {0};
     calendar_date_time moment;
-    bool is_read = begins_with_year(arguments, keywords) ? read_named(arguments, keywords, &number, clock)
-                                                         : read_dated(arguments, keywords, &number, clock);
-    return is_read && moment_at(number, clock, &moment) ? new_date_time(kind, moment, number) : NULL;
+    Zoning zoning = {0};
+    bool is_read = begins_with_year(arguments, keywords) ? read_named(arguments, keywords, &number, clock, &zoning)
+                                                         : read_dated(arguments, keywords, &number, clock, &zoning);
+    return is_read && moment_at(number, clock, &moment) ? with_zoning(new_date_time(kind, moment, number), zoning) : NULL;
 }
 
 static void date_time_free(PyObject *self)
 {
+    Py_XDECREF(zoning_of(self).zone);
     free_object(self, date_time_type, &kept);
 }
 
@@ -241,10 +295,13 @@ static PyObject *from_datetime(PyObject *kind, PyObject *it)
     if (!is_python_datetime(it)) {
         return refuse_type("a datetime.datetime", it);
     }
-    if (!read_python_datetime(it, &number, clock) || !moment_at(number, clock, &moment)) {
+    Zoning zoning;
+    if (!read_python_datetime(it, &number, clock) || !moment_at(number, clock, &moment) || !read_python_zoning(it, &zoning)) {
         return NULL;
     }
-    return date_time_of((PyTypeObject *)kind, moment);
+    PyObject *self = date_time_in((PyTypeObject *)kind, moment, zoning);
+    Py_XDECREF(zoning.zone);
+    return self;
 }
 
 static PyObject *date_time_replace(PyObject *self, PyObject *const *arguments, Py_ssize_t count, PyObject *keywords)
@@ -252,19 +309,20 @@ static PyObject *date_time_replace(PyObject *self, PyObject *const *arguments, P
     PyObject *parts[PARTS];
     int64_t name[3], clock[CLOCK];
     calendar_date_time moment = moment_of(self);
+    Zoning zoning = zoning_of(self);
     if (!take_array(&of_replace, arguments, count, keywords, parts)
         || !read_name(day_of(self), parts, name)) {
         return NULL;
     }
     read_clock(moment, clock);
-    if (!read_parts(parts + 3, parts[6], parts[7], clock)) {
+    if (!read_parts(parts + 3, parts[6], parts[7], clock) || !read_zoning(parts[8], parts[9], &zoning)) {
         return NULL;
     }
     int32_t number = number_of_name(name[0], name[1], name[2]);
     if (number == CALENDAR_NONE || !moment_at(number, clock, &moment)) {
         return NULL;
     }
-    return date_time_of(Py_TYPE(self), moment);
+    return date_time_in(Py_TYPE(self), moment, zoning);
 }
 
 /* ---- what a date-time is called */
@@ -343,9 +401,15 @@ static PyObject *date_time_microsecond(PyObject *self, void *unused)
 
 static PyObject *date_time_zone(PyObject *self, void *unused)
 {
-    (void)self;
+    PyObject *zone = zoning_of(self).zone;
     (void)unused;
-    Py_RETURN_NONE;
+    return Py_NewRef(zone ? zone : Py_None);
+}
+
+static PyObject *date_time_fold(PyObject *self, void *unused)
+{
+    (void)unused;
+    return PyLong_FromLong(zoning_of(self).fold);
 }
 
 static PyObject *date_time_weekday(PyObject *self, PyObject *unused)
@@ -374,19 +438,20 @@ static PyObject *date_time_to_ordinal(PyObject *self, PyObject *unused)
 
 /* ---- moves and distances */
 
-/* The end of a move; no date-time is beyond the calendar. */
-static PyObject *reached(PyTypeObject *kind, calendar_date_time moment)
+/* The end of a move, on the clock of the same time zone; no date-time is beyond the calendar. */
+static PyObject *reached(PyObject *self, calendar_date_time moment)
 {
+    Zoning zoning = {.zone = zoning_of(self).zone};
     if (moment.nanos == CALENDAR_NO_NANOS) {
         PyErr_SetString(PyExc_OverflowError, "the date-time lies beyond the calendar");
         return NULL;
     }
-    return date_time_of(kind, moment);
+    return date_time_in(Py_TYPE(self), moment, zoning);
 }
 
 static PyObject *moved(PyObject *self, calendar_duration by)
 {
-    return reached(Py_TYPE(self), calendar_date_time_add(moment_of(self), by));
+    return reached(self, calendar_date_time_add(moment_of(self), by));
 }
 
 static PyObject *add_months(PyObject *self, PyObject *it)
@@ -396,7 +461,7 @@ static PyObject *add_months(PyObject *self, PyObject *it)
         return NULL;
     }
     int32_t number = calendar_add_months(day_of(self), months);
-    return reached(Py_TYPE(self), calendar_date_time_new(number, (uint32_t)second_of(self), moment_of(self).nanos));
+    return reached(self, calendar_date_time_new(number, (uint32_t)second_of(self), moment_of(self).nanos));
 }
 
 static PyObject *moved_by(PyObject *self, PyObject *by, bool is_back)
@@ -417,13 +482,56 @@ static PyObject *date_time_add(PyObject *left, PyObject *right)
     return is_date_time(left) ? moved_by(left, right, false) : moved_by(right, left, false);
 }
 
+/* The offset from UTC that the time zone of a date-time gives; *has_one says whether there is one. */
+static bool read_offset(PyObject *it, calendar_duration *offset, bool *has_one)
+{
+    *has_one = !is_date_time(it) || zoning_of(it).zone;
+    if (!*has_one) {
+        return true;
+    }
+    PyObject *given = PyObject_CallMethod(it, "utcoffset", NULL);
+    *has_one = given && given != Py_None;
+    bool is_length, is_read = given && (!*has_one || (read_length(given, offset, &is_length) && is_length));
+    Py_XDECREF(given);
+    return is_read;
+}
+
+/* The time between two date-times of different zones: that between what their clocks show, less that between their offsets. */
+static PyObject *since_in_zones(PyObject *left, PyObject *right)
+{
+    calendar_duration offsets[2];
+    bool have[2];
+    if (!read_offset(left, &offsets[0], &have[0]) || !read_offset(right, &offsets[1], &have[1])) {
+        return NULL;
+    }
+    if (have[0] != have[1]) {
+        PyErr_SetString(PyExc_TypeError, "one of the date-times has a time zone, and the other has none");
+        return NULL;
+    }
+    PyObject *since = duration_of(duration_type, calendar_date_time_since(moment_of(left), moment_of(right)));
+    if (!have[0]) {
+        return since;
+    }
+    PyObject *one = duration_of(duration_type, offsets[0]), *other = duration_of(duration_type, offsets[1]);
+    PyObject *between = one && other ? PyNumber_Subtract(one, other) : NULL;
+    PyObject *result = since && between ? PyNumber_Subtract(since, between) : NULL;
+    Py_XDECREF(since);
+    Py_XDECREF(one);
+    Py_XDECREF(other);
+    Py_XDECREF(between);
+    return result;
+}
+
 static PyObject *date_time_subtract(PyObject *left, PyObject *right)
 {
     if (!is_date_time(left)) {
         Py_RETURN_NOTIMPLEMENTED;
     }
-    if (is_date_time(right)) {
+    if (is_date_time(right) && zoning_of(left).zone == zoning_of(right).zone) {
         return duration_of(duration_type, calendar_date_time_since(moment_of(left), moment_of(right)));
+    }
+    if (is_date_time(right)) {
+        return since_in_zones(left, right);
     }
     return moved_by(left, right, true);
 }
@@ -436,11 +544,32 @@ enum { ROOM = 32 };
 /* The bytes of a time of day up to the point of its fraction. */
 enum { CLOCK_LENGTH = 8 };
 
-static PyObject *date_time_text(PyObject *self)
+/* The text of what the clock shows. */
+static PyObject *local_text(PyObject *self)
 {
     uint8_t text[ROOM];
     int32_t length = calendar_write_date_time(moment_of(self), text, ROOM);
     return PyUnicode_FromStringAndSize((const char *)text, length);
+}
+
+/* A text, which it takes, with that of the offset from UTC behind it, if there is one; it may be missing after an error. */
+static PyObject *with_offset(PyObject *text, PyObject *self)
+{
+    if (!text || !zoning_of(self).zone) {
+        return text;
+    }
+    PyObject *offset = PyObject_CallMethod(self, "utcoffset", NULL);
+    PyObject *shown = offset ? by_python("text_of_offset", "(O)", offset) : NULL;
+    PyObject *result = shown ? PyUnicode_Concat(text, shown) : NULL;
+    Py_XDECREF(offset);
+    Py_XDECREF(shown);
+    Py_DECREF(text);
+    return result;
+}
+
+static PyObject *date_time_text(PyObject *self)
+{
+    return with_offset(local_text(self), self);
 }
 
 /* How many bytes stand before the time of day. */
@@ -493,8 +622,8 @@ static PyObject *text_in(PyObject *self, PyObject *separator, PyObject *timespec
     if (timespec && !cut_clock(timespec, text + date + 1)) {
         return NULL;
     }
-    return separator ? PyUnicode_FromFormat("%s%U%s", text, separator, text + date + 1)
-                     : PyUnicode_FromFormat("%sT%s", text, text + date + 1);
+    return with_offset(separator ? PyUnicode_FromFormat("%s%U%s", text, separator, text + date + 1)
+                                 : PyUnicode_FromFormat("%sT%s", text, text + date + 1), self);
 }
 
 static PyObject *iso_format(PyObject *self, PyObject *const *arguments, Py_ssize_t count, PyObject *keywords)
@@ -569,8 +698,16 @@ static PyObject *from_iso_format(PyObject *kind, PyObject *text)
 static PyObject *date_time_repr(PyObject *self)
 {
     PyObject *name = PyObject_GetAttrString((PyObject *)Py_TYPE(self), "__name__");
-    PyObject *shown = date_time_text(self);
+    PyObject *shown = local_text(self);
     PyObject *text = name && shown ? PyUnicode_FromFormat("%U.fromisoformat(%R)", name, shown) : NULL;
+    Zoning zoning = zoning_of(self);
+    if (text && (zoning.zone || zoning.fold)) {
+        PyObject *zone = zoning.zone ? PyUnicode_FromFormat("tzinfo=%R%s", zoning.zone, zoning.fold ? ", " : "") : PyUnicode_FromString("");
+        PyObject *whole = zone ? PyUnicode_FromFormat("%U.replace(%U%s)", text, zone, zoning.fold ? "fold=1" : "") : NULL;
+        Py_XDECREF(zone);
+        Py_DECREF(text);
+        text = whole;
+    }
     Py_XDECREF(name);
     Py_XDECREF(shown);
     return text;
@@ -578,39 +715,129 @@ static PyObject *date_time_repr(PyObject *self)
 
 /* ---- as Python's objects do */
 
-/* Reads a DateTime, or a datetime.datetime that has no time zone; *is_one says whether it is either. */
-static bool read_moment(PyObject *it, calendar_date_time *moment, bool *is_one)
+/* Reads a DateTime or a datetime.datetime and its zoning, of which the zone is a new reference; *is_one says whether it is either. */
+static bool read_moment(PyObject *it, calendar_date_time *moment, Zoning *zoning, bool *is_one)
 {
     int32_t number;
     int64_t clock[CLOCK];
-    *is_one = is_date_time(it);
-    if (*is_one) {
+    bool is_ours = is_date_time(it);
+    *is_one = is_ours || is_python_datetime(it);
+    if (is_ours) {
         *moment = moment_of(it);
+        *zoning = zoning_of(it);
+        Py_XINCREF(zoning->zone);
         return true;
     }
-    if (!is_python_datetime(it)) {
-        return true;
-    }
-    PyObject *zone = PyObject_GetAttrString(it, "tzinfo");
-    Py_XDECREF(zone);
-    *is_one = zone == Py_None;
-    return zone && (!*is_one || (read_python_datetime(it, &number, clock) && moment_at(number, clock, moment)));
+    *zoning = (Zoning){0};
+    return !*is_one || (read_python_datetime(it, &number, clock) && moment_at(number, clock, moment) && read_python_zoning(it, zoning));
 }
 
-static PyObject *date_time_compare(PyObject *left, PyObject *right, int order)
+/* Whether the other fold of a local time has another offset; -1 after an error. Such a time is equal to none of another zone, so
+ * that equal ones have one hash. */
+static int depends_on_fold(PyObject *it, bool fold, calendar_duration offset)
 {
-    calendar_date_time one = moment_of(left), other;
-    bool is_one;
-    if (!read_moment(right, &other, &is_one)) {
-        return NULL;
+    PyObject *replace = PyObject_GetAttrString(it, "replace"), *nothing = PyTuple_New(0), *named = Py_BuildValue("{si}", "fold", !fold);
+    PyObject *other = replace && nothing && named ? PyObject_Call(replace, nothing, named) : NULL;
+    calendar_duration found = offset;
+    bool has_one, is_read = other && read_offset(other, &found, &has_one);
+    Py_XDECREF(replace);
+    Py_XDECREF(nothing);
+    Py_XDECREF(named);
+    Py_XDECREF(other);
+    return is_read ? found.seconds != offset.seconds || found.nanos != offset.nanos : -1;
+}
+
+/* What UTC shows where a clock with an offset shows a moment, also beyond the calendar. */
+static calendar_date_time in_utc(calendar_date_time moment, calendar_duration offset)
+{
+    calendar_duration by = back(offset);
+    moment.seconds += by.seconds;
+    if (by.nanos > 0) {
+        moment.nanos += by.nanos;
+        moment.seconds += moment.nanos / SECOND;
+        moment.nanos %= SECOND;
     }
-    if (!is_one) {
-        Py_RETURN_NOTIMPLEMENTED;
-    }
+    return moment;
+}
+
+static PyObject *compare_moments(calendar_date_time one, calendar_date_time other, int order)
+{
     if (one.seconds != other.seconds) {
         Py_RETURN_RICHCOMPARE(one.seconds, other.seconds, order);
     }
     Py_RETURN_RICHCOMPARE(one.nanos, other.nanos, order);
+}
+
+/* Compares date-times of different zones: by the instants that they stand for. One with a zone is not equal to one without. */
+static PyObject *compare_in_zones(PyObject *left, PyObject *right, calendar_date_time other, bool fold, int order)
+{
+    calendar_duration offsets[2];
+    bool have[2], is_equality = order == Py_EQ || order == Py_NE;
+    if (!read_offset(left, &offsets[0], &have[0]) || !read_offset(right, &offsets[1], &have[1])) {
+        return NULL;
+    }
+    if (!have[0] && !have[1]) {
+        return compare_moments(moment_of(left), other, order);
+    }
+    if (have[0] != have[1]) {
+        return is_equality ? PyBool_FromLong(order == Py_NE)
+                           : PyErr_Format(PyExc_TypeError, "one of the date-times has a time zone, and the other has none");
+    }
+    int depend = is_equality ? depends_on_fold(left, zoning_of(left).fold, offsets[0]) : 0;
+    depend = depend == 0 && is_equality ? depends_on_fold(right, fold, offsets[1]) : depend;
+    if (depend) {
+        return depend < 0 ? NULL : PyBool_FromLong(order == Py_NE);
+    }
+    return compare_moments(in_utc(moment_of(left), offsets[0]), in_utc(other, offsets[1]), order);
+}
+
+/* Whether there is no time zone; a ValueError if there is one. */
+static bool has_no_zone(Zoning zoning)
+{
+    if (zoning.zone) {
+        PyErr_SetString(PyExc_ValueError, "the date-time has a time zone, and one without is wanted");
+    }
+    return !zoning.zone;
+}
+
+bool take_moment(PyObject *it, calendar_date_time *moment)
+{
+    int32_t number;
+    int64_t clock[CLOCK];
+    if (is_date_time(it)) {
+        *moment = moment_of(it);
+        return has_no_zone(zoning_of(it));
+    }
+    if (!is_python_datetime(it)) {
+        refuse_type("a DateTime or a datetime.datetime", it);
+        return false;
+    }
+    Zoning zoning = {0};
+    bool is_read = read_python_datetime(it, &number, clock) && moment_at(number, clock, moment) && read_python_zoning(it, &zoning);
+    Py_XDECREF(zoning.zone);
+    return is_read && has_no_zone(zoning);
+}
+
+calendar_date_time last_moment(void)
+{
+    return calendar_date_time_new(CALENDAR_MAX, LAST_SECOND_OF_DAY, SECOND - 1);
+}
+
+static PyObject *date_time_compare(PyObject *left, PyObject *right, int order)
+{
+    calendar_date_time other;
+    Zoning zoning;
+    bool is_one;
+    if (!read_moment(right, &other, &zoning, &is_one)) {
+        return NULL;
+    }
+    Py_XDECREF(zoning.zone);
+    if (!is_one) {
+        Py_RETURN_NOTIMPLEMENTED;
+    }
+    /* (the other date-time keeps its zone) */
+    return zoning.zone == zoning_of(left).zone ? compare_moments(moment_of(left), other, order)
+                                               : compare_in_zones(left, right, other, zoning.fold, order);
 }
 
 static Py_hash_t hash_of_moment(PyObject *self)
@@ -627,11 +854,40 @@ static Py_hash_t hash_of_moment(PyObject *self)
     return hash_of_python_datetime(day_of(self), clock);
 }
 
+/* The hash of a date-time with an offset, as datetime has it: that of the length of time up to what UTC shows. */
+static Py_hash_t hash_in_utc(calendar_date_time moment)
+{
+    enum { DAY = 86400 };
+    if (moment.nanos % MICROSECOND != 0 || moment.nanos >= SECOND) {
+        return hash_of_nanoseconds(moment.seconds, moment.nanos);
+    }
+    int64_t second = (moment.seconds % DAY + DAY) % DAY;
+    return hash_of_timedelta((moment.seconds - second) / DAY + CALENDAR_UNIX_EPOCH, (int32_t)second, (int32_t)(moment.nanos / MICROSECOND));
+}
+
+/* The hash of a date-time with a time zone; of two equal local times, that of the first. */
+static Py_hash_t hash_in_zone(PyObject *self)
+{
+    calendar_duration offset;
+    bool has_one;
+    PyObject *first = Py_NewRef(self);
+    if (zoning_of(self).fold) {
+        Py_DECREF(first);
+        first = date_time_in(date_time_type, moment_of(self), (Zoning){.zone = zoning_of(self).zone});
+    }
+    bool is_read = first && read_offset(first, &offset, &has_one);
+    Py_XDECREF(first);
+    if (!is_read) {
+        return -1;
+    }
+    return has_one ? hash_in_utc(in_utc(moment_of(self), offset)) : hash_of_moment(self);
+}
+
 static Py_hash_t date_time_hash(PyObject *self)
 {
     DateTime *of = (DateTime *)self;
     if (of->hash == -1) {
-        of->hash = hash_of_moment(self);
+        of->hash = of->zoning.zone ? hash_in_zone(self) : hash_of_moment(self);
     }
     return of->hash;
 }
@@ -641,14 +897,24 @@ static PyObject *to_datetime(PyObject *self, PyObject *unused)
     int64_t clock[CLOCK];
     (void)unused;
     read_clock(moment_of(self), clock);
-    return python_datetime(day_of(self), clock);
+    return python_datetime(day_of(self), clock, zoning_of(self));
 }
 
 static PyObject *date_time_reduce(PyObject *self, PyObject *unused)
 {
     int64_t clock[CLOCK];
+    Zoning zoning = zoning_of(self);
     (void)unused;
     read_clock(moment_of(self), clock);
+    if (zoning.zone || zoning.fold) {
+        PyObject *module = PyImport_ImportModule("proved_calendar._texts");
+        PyObject *maker = module ? PyObject_GetAttrString(module, "zoned_again") : NULL;
+        Py_XDECREF(module);
+        PyObject *all = Py_BuildValue("(ON(LLLL)Oi)", (PyObject *)Py_TYPE(self), date_of(date_type, day_of(self)), (long long)clock[HOUR],
+                                      (long long)clock[MINUTE], (long long)clock[CLOCK_SECOND], (long long)clock[NANOSECOND],
+                                      zoning.zone ? zoning.zone : Py_None, (int)zoning.fold);
+        return reduced(self, maker, all);
+    }
     PyObject *parts = Py_BuildValue("(NLLLL)", date_of(date_type, day_of(self)), (long long)clock[HOUR], (long long)clock[MINUTE],
                                     (long long)clock[CLOCK_SECOND], (long long)clock[NANOSECOND]);
     return reduced(self, Py_NewRef((PyObject *)Py_TYPE(self)), parts);
@@ -673,7 +939,8 @@ static PyGetSetDef fields[] = {
      "The nanoseconds after the second, from 0 to 999,999,999.", NULL},
     {"microsecond", date_time_microsecond, NULL,
      "The whole microseconds after the second, from 0 to 999,999. numpy reads them. The text keeps all nanoseconds.", NULL},
-    {"tzinfo", date_time_zone, NULL, "None: a DateTime has no time zone.", NULL},
+    {"tzinfo", date_time_zone, NULL, "The time zone, which is a datetime.tzinfo, or None.", NULL},
+    {"fold", date_time_fold, NULL, "1 for the second one of two equal local times, else 0.", NULL},
     {NULL, NULL, NULL, NULL, NULL},
 };
 
@@ -681,12 +948,12 @@ static PyMethodDef methods[] = {
     {"from_seconds", METHOD(from_seconds), METH_FASTCALL | METH_KEYWORDS | METH_CLASS,
      "from_seconds($type, /, seconds, nanos=0)\n--\n\nReturns the date-time with these fields; ValueError if there is none."},
     {"from_datetime", from_datetime, METH_O | METH_CLASS,
-     "from_datetime($type, moment, /)\n--\n\nReturns the date-time equal to a datetime.datetime without time zone."},
+     "from_datetime($type, moment, /)\n--\n\nReturns the date-time equal to a datetime.datetime, in its time zone."},
     {"fromisoformat", from_iso_format, METH_O | METH_CLASS,
      "fromisoformat($type, text, /)\n--\n\n"
      "Returns the date-time with this text: a date, T or a space, and HH:MM:SS. A point and up to nine digits may follow.\n"
-     "It also reads the other forms of datetime: compact texts, ISO weeks, a date alone, hours and minutes alone, and a\n"
-     "separator that is no digit. A text with an offset raises ValueError.\n\n"
+     "It also reads the other forms of datetime: compact texts, ISO weeks, a date alone, hours and minutes alone, a\n"
+     "separator that is no digit, and an offset, which gives a datetime.timezone.\n\n"
      ">>> DateTime.fromisoformat('20240229T1230') == DateTime.fromisoformat('2024-W09-4 12:30')\nTrue"},
     {"isoformat", METHOD(iso_format), METH_FASTCALL | METH_KEYWORDS,
      "isoformat($self, /, sep='T', timespec='auto')\n--\n\n"
@@ -707,7 +974,8 @@ static PyMethodDef methods[] = {
     {"toordinal", date_time_to_ordinal, METH_NOARGS,
      "toordinal($self, /)\n--\n\nReturns the day number of the date: 1 for 1 January of year 1."},
     {"replace", METHOD(date_time_replace), METH_FASTCALL | METH_KEYWORDS,
-     "replace($self, /, year=..., month=..., day=..., hour=..., minute=..., second=..., *, microsecond=..., nanosecond=...)\n--\n\n"
+     "replace($self, /, year=..., month=..., day=..., hour=..., minute=..., second=..., *, microsecond=..., nanosecond=...,\n"
+     "        tzinfo=..., fold=...)\n--\n\n"
      "Returns the date-time with these parts in place of its own; ValueError if it does not exist. microsecond and\n"
      "nanosecond each replace the whole fraction, so one of them can be given."},
     {"to_datetime", to_datetime, METH_NOARGS,
@@ -722,12 +990,13 @@ static PyMethodDef methods[] = {
 };
 
 PyDoc_STRVAR(documentation,
-"A date with a time of day, to the nanosecond, in no time zone.\n\n"
+"A date with a time of day, to the nanosecond, with or without a time zone.\n\n"
 "DateTime(date, hour=0, minute=0, second=0, nanosecond=0)\n"
-"DateTime(year, month, day, hour=0, minute=0, second=0, microsecond=0)\n\n"
+"DateTime(year, month, day, hour=0, minute=0, second=0, microsecond=0, tzinfo=None)\n\n"
 ">>> DateTime(Date(2024, 2, 29), 12) == DateTime(2024, 2, 29, 12)\nTrue\n\n"
-"Both take microsecond and nanosecond by name; each is the whole fraction, so one of them can be given. A DateTime is\n"
-"equal to the datetime.datetime of the same time that has no time zone, with the same hash.\n\n"
+"Both take microsecond and nanosecond by name; each is the whole fraction, so one of them can be given. Both take tzinfo, any\n"
+"datetime.tzinfo, and fold, which is 1 for the second one of two equal local times. A DateTime is equal to the datetime.datetime\n"
+"of the same time, or with time zones of the same instant, with the same hash. A move goes by the clock of the zone.\n\n"
 ">>> print(DateTime(Date(2016, 12, 31), 23, 59, 60) + Duration(seconds=1))\n2017-01-01T00:00:00\n\n"
 "The time can be in a leap second, the second 60 of a minute. A move from there counts this leap second and no other.\n"
 "Date-times are compared by date, then by time of day.\n\n"

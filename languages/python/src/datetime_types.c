@@ -9,7 +9,7 @@ enum { FIRST_DAY = 1, LAST_DAY = 3652059, LONGEST_DAYS = 999999999 };
 /* The nanoseconds of a microsecond. */
 enum { MICROSECOND = 1000 };
 
-static PyTypeObject *date_class, *datetime_class, *timedelta_class;
+static PyTypeObject *date_class, *datetime_class, *timedelta_class, *tzinfo_class;
 static PyObject *from_ordinal;
 
 /* A field of timedelta, as its class reads it, and where an object has it. */
@@ -121,7 +121,7 @@ Py_hash_t hash_of_python_datetime(int32_t number, const int64_t clock[4])
     uint8_t bytes[10] = {[4] = (uint8_t)clock[0], (uint8_t)clock[1], (uint8_t)clock[2],
                          (uint8_t)(microsecond >> 16), (uint8_t)(microsecond >> 8), (uint8_t)microsecond};
     if (!hashes_bytes) {
-        return take_hash(python_datetime(number, clock));
+        return take_hash(python_datetime(number, clock, (Zoning){0}));
     }
     write_name(number, bytes);
     return hash_of_bytes(bytes, sizeof bytes);
@@ -146,7 +146,7 @@ static bool look_at_hashes(void)
     const int64_t clock[4] = {23, 58, 57, 987654000};
     hashes_bytes = true;
     Py_hash_t hashes[2] = {hash_of_python_date(LEAP_DAY), hash_of_python_datetime(LEAP_DAY, clock)};
-    hashes_bytes = hashes[0] == take_hash(python_date(LEAP_DAY)) && hashes[1] == take_hash(python_datetime(LEAP_DAY, clock));
+    hashes_bytes = hashes[0] == take_hash(python_date(LEAP_DAY)) && hashes[1] == take_hash(python_datetime(LEAP_DAY, clock, (Zoning){0}));
     return !PyErr_Occurred();
 }
 
@@ -154,7 +154,7 @@ bool take_datetime(void)
 {
     PyObject *module = PyImport_ImportModule("datetime");
     bool is_taken = module && take_class(module, "date", &date_class) && take_class(module, "datetime", &datetime_class)
-        && take_class(module, "timedelta", &timedelta_class);
+        && take_class(module, "timedelta", &timedelta_class) && take_class(module, "tzinfo", &tzinfo_class);
     Py_XDECREF(module);
     from_ordinal = is_taken ? PyObject_GetAttrString((PyObject *)date_class, "fromordinal") : NULL;
     return from_ordinal && take_field(&fields[0]) && take_field(&fields[1]) && take_field(&fields[2])
@@ -169,6 +169,11 @@ bool is_python_date(PyObject *it)
 bool is_python_datetime(PyObject *it)
 {
     return PyObject_TypeCheck(it, datetime_class);
+}
+
+bool is_tzinfo(PyObject *it)
+{
+    return PyObject_TypeCheck(it, tzinfo_class);
 }
 
 bool is_timedelta(PyObject *it)
@@ -250,15 +255,6 @@ bool read_python_date(PyObject *it, int32_t *number)
 bool read_python_datetime(PyObject *it, int32_t *number, int64_t clock[4])
 {
     static const char *const parts[] = {"hour", "minute", "second", "microsecond"};
-    PyObject *zone = PyObject_GetAttrString(it, "tzinfo");
-    Py_XDECREF(zone);
-    if (!zone) {
-        return false;
-    }
-    if (zone != Py_None) {
-        PyErr_SetString(PyExc_ValueError, "the datetime has a time zone, and a DateTime has none");
-        return false;
-    }
     for (int i = 0; i < 4; i++) {
         if (!take_whole(PyObject_GetAttrString(it, parts[i]), &clock[i])) {
             return false;
@@ -270,6 +266,21 @@ bool read_python_datetime(PyObject *it, int32_t *number, int64_t clock[4])
     }
     clock[3] = MICROSECOND * clock[3] + past;
     return read_python_date(it, number);
+}
+
+bool read_python_zoning(PyObject *it, Zoning *zoning)
+{
+    int64_t fold;
+    zoning->zone = PyObject_GetAttrString(it, "tzinfo");
+    if (!zoning->zone || !take_whole(PyObject_GetAttrString(it, "fold"), &fold)) {
+        Py_CLEAR(zoning->zone);
+        return false;
+    }
+    if (zoning->zone == Py_None) {
+        Py_CLEAR(zoning->zone);
+    }
+    zoning->fold = fold != 0;
+    return true;
 }
 
 bool has_python_date(int32_t number)
@@ -297,7 +308,7 @@ PyObject *python_date(int32_t number)
     return is_day(number) ? PyObject_CallFunction(from_ordinal, "i", (int)number) : NULL;
 }
 
-PyObject *python_datetime(int32_t number, const int64_t clock[4])
+PyObject *python_datetime(int32_t number, const int64_t clock[4], Zoning zoning)
 {
     if (clock[2] == 60) {
         PyErr_SetString(PyExc_ValueError, "second 60: datetime has no leap seconds");
@@ -310,8 +321,14 @@ PyObject *python_datetime(int32_t number, const int64_t clock[4])
     if (!is_day(number)) {
         return NULL;
     }
-    return PyObject_CallFunction((PyObject *)datetime_class, "iiiiiii", (int)calendar_year(number), (int)calendar_month(number),
-                                 (int)calendar_day(number), (int)clock[0], (int)clock[1], (int)clock[2], (int)(clock[3] / 1000));
+    PyObject *parts = Py_BuildValue("(iiiiiiiO)", (int)calendar_year(number), (int)calendar_month(number), (int)calendar_day(number),
+                                    (int)clock[0], (int)clock[1], (int)clock[2], (int)(clock[3] / 1000),
+                                    zoning.zone ? zoning.zone : Py_None);
+    PyObject *named = Py_BuildValue("{si}", "fold", (int)zoning.fold);
+    PyObject *result = parts && named ? PyObject_Call((PyObject *)datetime_class, parts, named) : NULL;
+    Py_XDECREF(parts);
+    Py_XDECREF(named);
+    return result;
 }
 
 PyObject *python_timedelta(int64_t days, int32_t seconds, int32_t microseconds)

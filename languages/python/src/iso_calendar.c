@@ -94,6 +94,18 @@ static PyObject *iso_repr(PyObject *self)
     return PyUnicode_FromFormat("IsoCalendarDate(year=%S, week=%S, weekday=%S)", parts[YEAR], parts[WEEK], parts[WEEKDAY]);
 }
 
+/* It is pickled as a plain tuple, as that of datetime is. */
+static PyObject *iso_reduce(PyObject *self, PyObject *unused)
+{
+    (void)unused;
+    return Py_BuildValue("(O(N))", (PyObject *)&PyTuple_Type, PySequence_List(self));
+}
+
+static PyMethodDef methods[] = {
+    {"__reduce__", iso_reduce, METH_NOARGS, "__reduce__($self, /)\n--\n\nWhat pickle and copy keep: a plain tuple."},
+    {NULL, NULL, 0, NULL},
+};
+
 static PyGetSetDef fields[] = {
     {"year", iso_year, NULL, "The ISO year, which is that of the week's Thursday.", NULL},
     {"week", iso_week, NULL, "The week, from 1 to 53.", NULL},
@@ -104,6 +116,7 @@ static PyGetSetDef fields[] = {
 static PyType_Slot slots[] = {
     {Py_tp_doc, (void *)"ISO year, week and weekday of a date, as a named tuple."},
     {Py_tp_getset, fields},
+    {Py_tp_methods, methods},
     SLOT(Py_tp_repr, iso_repr),
     {0, NULL},
 };

@@ -1,6 +1,6 @@
 /* package.h: what the files of this extension share.
  *
- * The extension stands on the functions of calendar.h, which are proved, and keeps to Python's limited API, so that one build
+ * The extension stands on the functions of calendar.h and calendar_layers.h, which are proved, and keeps to Python's limited API, so that one build
  * serves every Python from 3.10 on. Each type has a file; what is written here by hand is how values of Python become numbers
  * and come back, and what is said where there is no date. */
 #ifndef PROVED_CALENDAR_PACKAGE_H
@@ -11,6 +11,7 @@
 #include <Python.h>
 
 #include "calendar.h"
+#include "calendar_layers.h"
 
 /* A function in the slot of a type, that of a slot, and a method that takes more than its object: C has no type for any. */
 #define SLOT(slot, function) {slot, __extension__(void *)(function)}
@@ -26,13 +27,20 @@ typedef struct {
     uint8_t month, day;
 } Date;
 
-/* A date-time: the fields of one, and what was asked of it before: its hash, or -1, and the number of its date and its second of
- * the day, or CALENDAR_NONE. */
+/* The time zone of a date-time, as datetime has them: a tzinfo, or null for none, and which one of two equal local times is meant. */
+typedef struct {
+    PyObject *zone;
+    bool fold;
+} Zoning;
+
+/* A date-time: the fields of one, which a clock of its zone shows, the zone, and what was asked of it before: its hash, or -1, and
+ * the number of its date and its second of the day, or CALENDAR_NONE. */
 typedef struct {
     PyObject_HEAD
     Py_hash_t hash;
     calendar_date_time moment;
     int32_t number, second;
+    Zoning zoning;
 } DateTime;
 
 /* A duration: the fields of one, and its hash, or -1 if it was not asked for. */
@@ -73,6 +81,11 @@ static inline int32_t number_of(PyObject *date)
 static inline calendar_date_time moment_of(PyObject *date_time)
 {
     return ((DateTime *)date_time)->moment;
+}
+
+static inline Zoning zoning_of(PyObject *date_time)
+{
+    return ((DateTime *)date_time)->zoning;
 }
 
 static inline calendar_duration length_of(PyObject *duration)
@@ -140,7 +153,7 @@ PyObject *formatted(PyObject *self, PyObject *format);
 
 /* ---- numbers and arguments (arguments.c) */
 
-enum { PARTS = 8 };
+enum { PARTS = 10 };
 
 /* The parameters of a call, by name: of those that are given by place there are `places` at most. */
 typedef struct {
@@ -192,8 +205,14 @@ PyObject *weekday_member(int32_t weekday);
 /* Reads a weekday's number from 1 to 7; a ValueError if it is none. */
 bool read_weekday(PyObject *it, uint32_t *weekday);
 
-/* Reads some weekdays as a set of calendar.h; a ValueError if there are none of them. */
+/* Reads some weekdays as a set of calendar.h, or none of them. */
+bool read_weekday_set(PyObject *it, uint8_t *weekdays);
+
+/* The same; a ValueError if there are none of them. */
 bool read_weekdays(PyObject *it, uint8_t *weekdays);
+
+/* The numbers of a set of weekdays, as a list. */
+PyObject *list_of_weekdays(uint8_t weekdays);
 
 /* ---- dates (date.c) */
 
@@ -203,8 +222,30 @@ PyObject *date_of(PyTypeObject *kind, int32_t number);
 /* The number of the date with a name; CALENDAR_NONE and a ValueError that names the part if there is none. */
 int32_t number_of_name(int64_t year, int64_t month, int64_t day);
 
+/* Reads a Date or a datetime.date; a TypeError if it is neither. */
+bool take_date(PyObject *it, int32_t *number);
+
 /* Year, month and day of a date, each in place of a part that is left out. */
 bool read_name(int32_t number, PyObject *const parts[3], int64_t name[3]);
+
+/* ---- date-times (date_time.c) */
+
+/* A date-time of a type, from fields that are one. */
+PyObject *date_time_of(PyTypeObject *kind, calendar_date_time moment);
+
+/* Reads a DateTime or a datetime.datetime; a TypeError if it is neither, and a ValueError if it has a time zone. */
+bool take_moment(PyObject *it, calendar_date_time *moment);
+
+/* The last date-time of the calendar. */
+calendar_date_time last_moment(void);
+
+/* ---- schedules, rules and open days (schedule.c, rule.c, business.c) */
+
+bool make_schedule_types(PyObject *module);
+bool make_rule_types(PyObject *module);
+bool make_business_type(PyObject *module);
+PyObject *day_count(PyObject *module, PyObject *const *arguments, Py_ssize_t count);
+PyObject *easter(PyObject *module, PyObject *it);
 
 /* ---- ISO year, week and weekday as a tuple (iso_calendar.c) */
 
@@ -236,10 +277,15 @@ bool is_timedelta(PyObject *it);
 /* The parts of a timedelta, with the nanoseconds past its microseconds that a class derived from it keeps, as pandas' does. */
 bool read_timedelta(PyObject *it, int64_t *days, int64_t *seconds, int64_t *nanoseconds);
 
-/* The day number of a `datetime.date`, and the parts of a `datetime.datetime` that has no time zone, with the nanoseconds past
- * its microseconds that a class derived from it keeps, as pandas' does. */
+bool is_tzinfo(PyObject *it);
+
+/* The day number of a `datetime.date`, and the parts of a `datetime.datetime`, with the nanoseconds past its microseconds that a
+ * class derived from it keeps, as pandas' does. */
 bool read_python_date(PyObject *it, int32_t *number);
 bool read_python_datetime(PyObject *it, int32_t *number, int64_t clock[4]);
+
+/* Its time zone and its fold; the zone is a new reference, or null. */
+bool read_python_zoning(PyObject *it, Zoning *zoning);
 
 /* The hashes of datetime's values with these parts, which stand for each other as keys. */
 Py_hash_t hash_of_python_date(int32_t number);
@@ -255,7 +301,7 @@ bool has_timedelta(int64_t days);
 
 /* The types of datetime from what they are made of. */
 PyObject *python_date(int32_t number);
-PyObject *python_datetime(int32_t number, const int64_t clock[4]);
+PyObject *python_datetime(int32_t number, const int64_t clock[4], Zoning zoning);
 PyObject *python_timedelta(int64_t days, int32_t seconds, int32_t microseconds);
 
 /* ---- why there is no such date (refusals.c): a ValueError that names the part */
@@ -269,6 +315,9 @@ void refuse_month(int64_t year, int64_t month);
 int read_digits(const char *bytes, size_t length);
 /* Of a text, the first bytes are where its date stands. */
 void refuse_text(PyObject *text, const char *bytes, size_t length, const char *kind);
+
+/* A TextError: what is wrong with a text, of which the bytes from `start` to `end` are wrong. */
+PyObject *refuse_bytes(PyObject *text, const uint8_t *said, int32_t length, size_t start, size_t end);
 
 /* A ValueError: a part cannot be this number. */
 void refuse_part(const char *part, int64_t number, const char *reason);

@@ -39,7 +39,7 @@ bool read_weekday(PyObject *it, uint32_t *weekday)
     return true;
 }
 
-bool read_weekdays(PyObject *it, uint8_t *weekdays)
+bool read_weekday_set(PyObject *it, uint8_t *weekdays)
 {
     PyObject *iterator = PyObject_GetIter(it), *item;
     *weekdays = 0;
@@ -53,11 +53,29 @@ bool read_weekdays(PyObject *it, uint8_t *weekdays)
         *weekdays |= (uint8_t)(1 << (weekday - 1));
     }
     Py_XDECREF(iterator);
-    if (PyErr_Occurred()) {
+    return !PyErr_Occurred();
+}
+
+bool read_weekdays(PyObject *it, uint8_t *weekdays)
+{
+    if (!read_weekday_set(it, weekdays)) {
         return false;
     }
     if (*weekdays == 0) {
         PyErr_SetString(PyExc_ValueError, "no weekday is given");
     }
     return *weekdays != 0;
+}
+
+PyObject *list_of_weekdays(uint8_t weekdays)
+{
+    PyObject *list = PyList_New(0);
+    for (int i = MONDAY; list && i <= SUNDAY; i++) {
+        PyObject *number = weekdays >> (i - 1) & 1 ? PyLong_FromLong(i) : NULL;
+        if (PyErr_Occurred() || (number && PyList_Append(list, number) < 0)) {
+            Py_CLEAR(list);
+        }
+        Py_XDECREF(number);
+    }
+    return list;
 }

@@ -3,6 +3,7 @@
 NaT, numbers of no date, empty arrays, strides, other byte orders, arrays that cannot be written, and other types. It needs numpy."""
 import ctypes
 import doctest
+import os
 import random
 import threading
 import tracemalloc
@@ -19,7 +20,7 @@ try:
 except ImportError:
     pandas = None
 
-from proved_calendar import Date, columns
+from proved_calendar import BusinessCalendar, Date, DateTime, Duration, Schedule, _arrays, columns, day_count
 
 FIRST, LAST, EPOCH = Date.MIN.number, Date.MAX.number, 719_163
 NONE, NAT = -(2**31), -(2**63)
@@ -52,6 +53,11 @@ class Columns(unittest.TestCase):
         if one != other:
             at = next((at for at, (left, right) in enumerate(zip(one, other)) if left != right), min(len(one), len(other)))
             self.fail(f"element {at}: {one[at:at + 1]} is not {other[at:at + 1]} {msg or ''}")
+
+    def holds(self, array, dtype, wanted):
+        """An array has a type and these elements."""
+        self.assertEqual(array.dtype, dtype)
+        self.assertEqual(array.tolist(), wanted)
 
     def some_numbers(self, count=COUNT):
         """Numbers of dates, near and far and at both ends, and of no dates."""
@@ -250,14 +256,193 @@ class FromFields(Columns):
         self.assertRaises(ValueError, columns.from_fields, [1, 2], [1, 2, 3], 1)
 
 
+CALENDAR = BusinessCalendar([Date(1999, 12, 31), Date(2024, 3, 29), Date(2024, 4, 1), Date(2024, 12, 25)])
+ALL_CLOSED = BusinessCalendar(weekend=range(1, 8))
+ROLLS = ("unadjusted", "following", "preceding", "modified_following", "modified_preceding", "nearest_isda", "nearest_quantlib")
+DAY_COUNTS = ("actual_actual_isda", "actual_360", "actual_365_fixed", "thirty_360", "thirty_e_360")
+SCHEDULE = Schedule("30 4 1,15 * fri")
+
 # Each function of one column, by a call.
 CALLS = {
     "years": columns.years, "ordinals": columns.ordinals, "weekdays": columns.weekdays, "fields": columns.fields,
     "iso_weeks": columns.iso_weeks, "texts": columns.texts, "numbers": columns.numbers, "is_date": columns.is_date, "count_dates": columns.count_dates,
     "add_days": lambda it: columns.add_days(it, 1), "add_days_each": lambda it: columns.add_days(it, numpy.ones(numpy.shape(it), int)),
     "add_months": lambda it: columns.add_months(it, 1), "first_on": lambda it: columns.first_on(it, [1]),
-    "days_between": lambda it: columns.days_between(it, it),
+    "days_between": lambda it: columns.days_between(it, it), "unix_days": columns.unix_days,
+    "is_open": lambda it: columns.is_open(it, CALENDAR), "add_open_days": lambda it: columns.add_open_days(it, 2, CALENDAR),
+    "add_open_days_each": lambda it: columns.add_open_days(it, numpy.ones(numpy.shape(it), int), CALENDAR),
+    "roll": lambda it: columns.roll(it, "following", CALENDAR), "day_counts": lambda it: columns.day_counts(it, it, "thirty_360"),
+    "open_days_between": lambda it: columns.open_days_between(it, it, CALENDAR),
+    "year_fractions": lambda it: columns.year_fractions(it, it, "actual_360"),
 }
+# Those of times alone.
+TIME_CALLS = {"next_due": lambda it: columns.next_due(it, SCHEDULE), "time_texts": columns.time_texts}
+
+
+class OpenDays(Columns):
+    """Open days, rolls and day counts, beside BusinessCalendar and day_count."""
+
+    def near(self):
+        """Dates near the holidays, and at both ends of the calendar, in arrays of each type."""
+        first, last = Date(2024, 1, 1).number, Date(2025, 1, 10).number
+        numbers = [self.chance.randint(first, last) for _ in range(COUNT)] + [NONE, FIRST, FIRST + 1, LAST - 1, LAST, LAST + 1]
+        return self.arrays(numbers)
+
+    def wanted(self, call, dates):
+        return [None if it is None else outcome(call, Date.from_number(it)) for it in dates]
+
+    def test_is_open(self):
+        for array, dates in self.near():
+            found = columns.is_open(array, CALENDAR)
+            self.holds(found, numpy.bool_, [bool(it) for it in self.wanted(CALENDAR.is_open, dates)])
+
+    def test_add_open_days(self):
+        for days in (0, 1, -1, 3, -250, 2**40, -(2**40)):
+            self.moved(lambda array: columns.add_open_days(array, days, CALENDAR), lambda it: CALENDAR.add(it, days), self.near())
+            self.moved(lambda array: columns.add_open_days(array, days, ALL_CLOSED), lambda it: ALL_CLOSED.add(it, days), self.near())
+        for array, dates in self.near():
+            steps = numpy.array([self.chance.randint(-100, 100) for _ in dates], numpy.int16)
+            wanted = [None if it is None else number_of(outcome(CALENDAR.add, Date.from_number(it), int(by))) for it, by in zip(dates, steps)]
+            if array.dtype == "M8[ns]":
+                wanted = [it if it is not None and abs(it - EPOCH) < 106_751 else None for it in wanted]
+            self.assertEqual(self.number_array(columns.add_open_days(array, steps, CALENDAR))[0], wanted)
+
+    def test_roll(self):
+        for how in ROLLS:
+            self.moved(lambda array: columns.roll(array, how, CALENDAR), lambda it: CALENDAR.roll(it, how), self.near())
+
+    def test_pairs(self):
+        for (array, dates), (ends, others) in zip(self.near(), self.near()):
+            pairs = [(one, other) if one is not None and other is not None else None for one, other in zip(dates, others)]
+            pairs = [it and tuple(map(Date.from_number, it)) for it in pairs]
+            found = columns.open_days_between(array, ends, CALENDAR)
+            self.holds(found, numpy.int64, [NAT if it is None else CALENDAR.between(*it) for it in pairs])
+            for kind in DAY_COUNTS:
+                exact = [it and day_count(*it, kind) for it in pairs]
+                over, under = columns.day_counts(array, ends, kind)
+                self.assertEqual((over.dtype, under.dtype), (numpy.int64, numpy.int64))
+                self.assertEqual([None if b == 0 else type(it)(a, b) for it, a, b in zip(exact, over.tolist(), under.tolist())], exact)
+                parts = columns.year_fractions(array, ends, kind)
+                self.assertEqual(parts.dtype, numpy.float64)
+                self.assertEqual(numpy.isnan(parts).tolist(), [it is None for it in exact])
+                self.assertEqual([it for it in parts.tolist() if it == it], [float(it) for it in exact if it is not None])
+        days = numpy.array(["2024-03-28", "NaT"], "M8[D]")
+        self.assertEqual(columns.open_days_between(days, numpy.datetime64("2024-04-03"), CALENDAR).tolist(), [2, NAT])
+        self.assertEqual(columns.open_days_between(numpy.datetime64("2024-04-03"), days, CALENDAR).tolist(), [-2, NAT])
+        self.assertEqual(columns.year_fractions(days[0], days, "actual_360").tolist()[0], 0.0)
+
+    def test_wrong(self):
+        days = numpy.array(["2024-03-28"], "M8[D]")
+        for empty in (days, days[:0]):
+            for wrong in (None, [], "us_federal", numpy.busdaycalendar(), BusinessCalendar):
+                for call in (columns.is_open, lambda it, of: columns.add_open_days(it, 1, of), lambda it, of: columns.roll(it, "following", of),
+                             lambda it, of: columns.open_days_between(it, it, of)):
+                    self.assertRaises(TypeError, call, empty, wrong)
+            for wrong in (1.0, "1", None, True, numpy.array([1.5]), numpy.array([1], "m8[D]")):
+                self.assertRaises(TypeError, columns.add_open_days, empty, wrong, CALENDAR)
+            for how, error in (("forward", ValueError), ("", ValueError), (1, TypeError), (None, TypeError)):
+                self.assertRaises(error, columns.roll, empty, how, CALENDAR)
+                self.assertRaises(error, columns.day_counts, empty, empty, how)
+                self.assertRaises(error, columns.year_fractions, empty, empty, how)
+        for call in (lambda *of: columns.open_days_between(*of, CALENDAR), lambda *of: columns.day_counts(*of, "thirty_360")):
+            self.assertRaises(TypeError, call, days, numpy.array([1]))
+            self.assertRaises(ValueError, call, days.repeat(2), days.repeat(3))
+
+
+class Days(Columns):
+    def test_unix_days(self):
+        for array, dates in self.arrays(self.some_numbers()):
+            found = columns.unix_days(array)
+            self.holds(found, numpy.int32, [NONE if it is None else it - EPOCH for it in dates])
+            for days in (found, found.astype(numpy.int64)):
+                self.assertEqual(self.number_array(columns.from_unix_days(days))[0], dates)
+                self.assertEqual(columns.from_unix_days(days, "i4").tolist(), [NONE if it is None else it for it in dates])
+        self.assertEqual(columns.from_unix_days([19_782, -(2**31), 2**62]).astype(str).tolist(), ["2024-02-29", "NaT", "NaT"])
+        for wrong in ([1.5], ["1"], None, [True], numpy.array([1], "M8[D]"), numpy.array([1], numpy.uint64)):
+            self.assertRaises(TypeError, columns.from_unix_days, wrong)
+        self.assertRaises(TypeError, columns.from_unix_days, [1], "M8[Y]")
+
+
+class Times(Columns):
+    """When a schedule is due, and texts of times, beside Schedule and DateTime."""
+
+    def times(self, unit):
+        """Times near now and far away, in a unit, and the date-times that they are, or None."""
+        day, epoch = UNITS[unit], DateTime(1970, 1, 1)
+        days = [self.chance.choice((self.chance.randint(-30_000, 60_000), self.chance.randint(-100_000, 100_000))) for _ in range(300)]
+        times = [it * day + self.chance.choice((0, self.chance.randrange(day))) for it in days] + [NAT, NAT + 1, 2**63 - 1, 0, -1, 1]
+        moments = []
+        for it in times:
+            seconds, rest = divmod(it * 86_400, day)
+            is_one = it != NAT and FIRST <= it // day + EPOCH <= LAST
+            nanoseconds = seconds * 10**9 + rest * 10**9 // day
+            moments.append(epoch + Duration.from_nanoseconds(nanoseconds) if is_one else None)
+        return numpy.array(times, numpy.int64).view(f"M8[{unit}]"), moments
+
+    def time_of(self, moment, unit):
+        """The number of a date-time in a unit, if the unit and 64 bits hold it."""
+        if moment is None or moment.second == 60:
+            return NAT
+        time, rest = divmod((moment - DateTime(1970, 1, 1)).nanoseconds * UNITS[unit], 86_400 * 10**9)
+        return time if rest == 0 and NAT < time < 2**63 else NAT
+
+    def test_next_due(self):
+        for unit in UNITS:
+            times, moments = self.times(unit)
+            for text in ("30 4 1,15 * fri", "*/7 * * * *", "0 0 29 2 *"):
+                due = "m" if unit == "h" else unit
+                found = columns.next_due(times, Schedule(text))
+                wanted = [it and outcome(Schedule(text).next_after, it) for it in moments]
+                self.assertEqual(found.dtype, numpy.dtype(f"M8[{due}]"))
+                self.assertEqual(found.view(numpy.int64).tolist(), [self.time_of(it, due) for it in wanted])
+                self.assertEqual(columns.next_due(times, text).view(numpy.int64).tolist(), found.view(numpy.int64).tolist())
+        days = numpy.array(["2024-02-09", "NaT"], "M8[D]")
+        self.assertEqual(columns.next_due(days, SCHEDULE).astype(str).tolist(), ["2024-02-09T04:30", "NaT"])
+        self.assertTrue(numpy.isnat(columns.next_due(days, "0 0 30 2 *")).all())
+
+    def test_texts(self):
+        for unit in UNITS:
+            times, moments = self.times(unit)
+            found = columns.time_texts(times)
+            wanted = ["" if it is None else it.isoformat() for it in moments]
+            self.assertEqual(found.dtype, numpy.dtype("S32"))
+            self.holds(found.astype(str), "U32", wanted)
+            for texts in (found, found.astype(str), found.astype("S40"), found.astype("U33")):
+                back = columns.from_time_texts(texts, f"M8[{unit}]")
+                self.assertEqual(back.view(numpy.int64).tolist(), [NAT if it is None else self.time_of(it, unit) for it in moments])
+            for other in UNITS:
+                self.assertEqual(columns.from_time_texts(found, f"M8[{other}]").view(numpy.int64).tolist(),
+                                 [NAT if it is None else self.time_of(it, other) for it in moments])
+
+    def test_wrong_texts(self):
+        wrong = ["", "2024-02-29", "2024-02-30T00:00:00", "2016-12-31T23:59:60", "1600-01-01T00:00:00", "2024-02-29T24:00:00", "x",
+                 "2024-02-29T00:00:00Z", "٢٠٢٤-02-29T00:00:00", " 2024-02-29T00:00:00", "2024-02-29T00:00:00 "]
+        for texts in (numpy.array(wrong), numpy.array([it.encode() for it in wrong])):
+            self.assertTrue(numpy.isnat(columns.from_time_texts(texts)).all())
+        self.assertEqual(columns.from_time_texts(numpy.array(["2024-02-29 00:00:00.5"])).astype(str).tolist(), ["2024-02-29T00:00:00.500000000"])
+        self.assertTrue(numpy.isnat(columns.from_time_texts(numpy.array([""], "U0"))).all())
+        self.assertEqual(columns.from_time_texts(numpy.array([], "S5")).shape, (0,))
+        for wrong in (numpy.array([1]), numpy.array(["x"], object), [1.5], None):
+            self.assertRaises(TypeError, columns.from_time_texts, wrong)
+        for dtype in ("M8[D]", "M8", "M8[2s]", "i8", ">M8[s]"):
+            self.assertRaises(TypeError, columns.from_time_texts, numpy.array(["x"]), dtype)
+
+    def test_wrong_times(self):
+        for name, call in TIME_CALLS.items():
+            for wrong in (numpy.array([1]), [1.5], None, ["2024-02-29"], numpy.array([1], "m8[s]"), numpy.array([1], "M8[Y]")):
+                with self.assertRaises(TypeError, msg=(name, wrong)):
+                    call(wrong)
+            self.assertEqual(call(numpy.array([], "M8[s]")).shape, (0,))
+            self.assertEqual(call(numpy.zeros((2, 3), "M8[s]")).shape, (2, 3))
+        self.assertRaises(TypeError, columns.time_texts, numpy.array([1], "M8[D]"))
+        times = numpy.array(["2024-02-29T00:00"], "M8[s]")
+        self.assertRaises(TypeError, columns.next_due, times, None)
+        for empty in (times, times[:0]):
+            self.assertRaises(ValueError, columns.next_due, empty, "0 25 * * *")
+        apart = numpy.arange(10).astype("M8[s]")[::-3]
+        for name, call in TIME_CALLS.items():
+            self.assertEqual(call(apart).tolist(), call(apart.copy()).tolist(), name)
+            self.assertEqual(call(apart.astype(">M8[s]")).tolist(), call(apart).tolist(), name)
 
 
 class Arrays(Columns):
@@ -266,7 +451,7 @@ class Arrays(Columns):
         for left, right in zip(one, other):
             left, right = numpy.asarray(left), numpy.asarray(right)
             self.assertEqual((left.dtype, left.shape), (right.dtype, right.shape), what)
-            self.assertEqual(left.tolist(), right.tolist(), what)
+            self.assertEqual(left.astype(str).tolist(), right.astype(str).tolist(), what)
 
     def plain(self):
         for array, _ in self.arrays(self.some_numbers(24)):
@@ -329,7 +514,7 @@ class Arrays(Columns):
 
     def test_wrong_types(self):
         wrong = [
-            numpy.array([1.0]), numpy.array([True]), numpy.array(["2024-02-29"]), numpy.array([Date(2024, 2, 29)], object), numpy.array([1j]),
+            numpy.array([1.0]), numpy.array([numpy.inf]), numpy.array([numpy.nan]), numpy.array([True]), numpy.array(["2024-02-29"]), numpy.array([Date(2024, 2, 29)], object), numpy.array([1j]),
             numpy.array([1], numpy.uint64), numpy.array(["2024"], "M8[Y]"), numpy.array(["2024-02"], "M8[M]"), numpy.array([1], "M8[W]"),
             numpy.array([1], "M8[7D]"), numpy.array(["NaT"], "M8"), numpy.array([1], "M8[ps]"), numpy.array([1], "m8[D]"), None, "2024-02-29",
             numpy.zeros(2, [("a", int)]), 1.5, [None], {}, Date(2024, 2, 29), date(2024, 2, 29),
@@ -350,7 +535,7 @@ class Arrays(Columns):
     def test_other_whole_numbers(self):
         for kind in (numpy.int8, numpy.int16, numpy.uint8, numpy.uint16, numpy.uint32):
             found = columns.add_days(numpy.array([1, 100], kind), 300)
-            self.assertEqual((found.dtype, found.tolist()), (numpy.int64, [301, 400]))
+            self.holds(found, numpy.int64, [301, 400])
         self.assertEqual(columns.years([738_945, 0]).tolist(), [2024, 0])
 
     def test_many(self):
@@ -377,6 +562,18 @@ class Arrays(Columns):
             found = call(array)
             _, peak = tracemalloc.get_traced_memory()
             tracemalloc.stop()
+            self.assertLess(peak - found.nbytes, 3 * 2**20)
+
+    @unittest.skipIf(os.environ.get("SKIP_MEMORY"), "it takes a while")
+    def test_hundred_million(self):
+        """So many elements take no more memory than a few; their own takes none, since they are one that is seen everywhere."""
+        for one in (numpy.int32(738_945), numpy.datetime64("2024-02-29"), numpy.datetime64("2024-02-29T12:30:00.000000007")):
+            many = numpy.broadcast_to(one, 10**8)
+            tracemalloc.start()
+            count, found = columns.count_dates(many), columns.weekdays(many)
+            _, peak = tracemalloc.get_traced_memory()
+            tracemalloc.stop()
+            self.assertEqual((count, found.min(), found.max(), found.size), (10**8, 4, 4, 10**8))
             self.assertLess(peak - found.nbytes, 3 * 2**20)
 
     def test_in_place_of_a_copy(self):
@@ -411,7 +608,7 @@ class Arrays(Columns):
         for it in threads:
             it.join()
         self.assertTrue(all((it == wanted).all() for it in found))
-        self.assertNotIsInstance(columns._LIBRARY, ctypes.PyDLL)
+        self.assertNotIsInstance(_arrays.LIBRARY, ctypes.PyDLL)
 
     @unittest.skipUnless(pandas, "there is no pandas")
     def test_pandas(self):
@@ -426,7 +623,8 @@ class Arrays(Columns):
             self.assertRaises(TypeError, columns.years, wrong)
 
     def test_all(self):
-        self.assertEqual({it.removesuffix("_each") for it in CALLS} | {"from_fields", "from_texts", "Fields", "IsoWeeks"}, set(columns.__all__))
+        made = {"from_fields", "from_texts", "from_time_texts", "from_unix_days", "Fields", "Fractions", "IsoWeeks"}
+        self.assertEqual({it.removesuffix("_each") for it in (*CALLS, *TIME_CALLS)} | made, set(columns.__all__))
         for name in columns.__all__:
             self.assertTrue(getattr(columns, name).__doc__)
 

@@ -80,6 +80,15 @@ class Making(unittest.TestCase):
                     self.assertRaises(AttributeError, setattr, value, name, 1)
                     self.assertRaises(AttributeError, delattr, value, name)
 
+    def test_dir(self):
+        """What dir tells of a value has no ends of its type: who follows all attributes of a value comes to an end."""
+        there = NOON.replace(tzinfo=datetime.timezone.utc)
+        for it in (LEAP_DAY, NOON, Duration(1), Time(9), there):
+            self.assertFalse({"min", "max", "MIN", "MAX", "resolution"} & set(dir(it)))
+            self.assertIn("resolution", dir(type(it)))
+        self.assertEqual(["tzinfo" in dir(it) for it in (NOON, Time(9), there)], [True, True, False])
+        self.assertTrue({"year", "number", "add_months", "__dir__"} < set(dir(LEAP_DAY)))
+
     def test_extend(self):
         """Only the types of the module get members from its Python, and those are not changed from outside."""
         for wrong in (int, 1, Weekday, Day):
@@ -178,7 +187,7 @@ class Keeping(unittest.TestCase):
             self.assertEqual(hash(copy.deepcopy(value)), hash(value))
         for protocol in range(2, pickle.HIGHEST_PROTOCOL + 1):
             week = pickle.loads(pickle.dumps(LEAP_DAY.isocalendar(), protocol))
-            self.assertEqual((week, type(week)), (LEAP_DAY.isocalendar(), IsoCalendarDate))
+            self.assertEqual((week, type(week)), (LEAP_DAY.isocalendar(), tuple))
         self.assertEqual(hash(LEAP_DAY.isocalendar()), hash((2024, 9, 4)))
 
     def test_hash(self):
@@ -257,7 +266,8 @@ class Keeping(unittest.TestCase):
             failing(NOON.add_months, 10**9)
             failing(DateTime, 2024, 2, 29, microsecond=1, nanosecond=1)
             failing(Date.fromisoformat, "20240230")
-            failing(DateTime.fromisoformat, "2024-02-29T12Z")
+            failing(DateTime.fromisoformat, "2024-02-29T12+24:00")
+            failing(Time.fromisoformat, "12Z")
             return made
 
         kinds = (Date, DateTime, Duration, IsoCalendarDate, Day, Span, Moment, timedelta, Weekday.MONDAY)
@@ -313,7 +323,7 @@ class Moves(unittest.TestCase):
         for name, value in parts.items():
             self.assertEqual(LEAP_DAY.replace(**{name: value}).isoformat(), THEIR_LEAP_DAY.replace(**{name: value}).isoformat())
         self.assertEqual(LEAP_DAY.replace(2020, 3, 7), Date(2020, 3, 7))
-        for call, count in ((Date.replace, 3), (DateTime.replace, 8), (Time.replace, 5)):
+        for call, count in ((Date.replace, 3), (DateTime.replace, 10), (Time.replace, 5)):
             _, *taken = inspect.signature(call).parameters.values()
             self.assertEqual([it.default for it in taken], [...] * count)
         self.assertRaises(TypeError, lambda: LEAP_DAY.replace(day=None))
@@ -414,8 +424,6 @@ class Datetime(unittest.TestCase):
         self.assertRaisesRegex(ValueError, "leap second", LEAP_SECOND.to_datetime)
         self.assertRaisesRegex(ValueError, "leap second", LEAP_SECOND.replace(nanosecond=999_999_999).to_datetime)
         self.assertRaisesRegex(ValueError, "nanosecond 1: .*microseconds", NOON.replace(nanosecond=1).to_datetime)
-        aware = THEIR_NOON.replace(tzinfo=datetime.timezone.utc)
-        self.assertRaisesRegex(ValueError, "time zone", DateTime.from_datetime, aware)
         for value in (THEIR_LEAP_DAY, 0, None, NOON):
             self.assertRaises(TypeError, DateTime.from_datetime, value)
 
@@ -512,7 +520,8 @@ class Refusals(unittest.TestCase):
             lambda: DateTime.fromisoformat("2024-W0912"): "'2024-W0912' is no text of a date-time",
             lambda: DateTime.fromisoformat("2024-W54-1T12"): "week 54 of ISO year 2024: the year has 52 weeks",
             lambda: DateTime.fromisoformat("20240230"): "day 30 of 2024-02: the month has 29 days",
-            lambda: DateTime.fromisoformat("2024-02-29T12:00+01:00"): "'2024-02-29T12:00+01:00' has an offset, and a DateTime has no time zone",
+            lambda: DateTime.fromisoformat("2024-02-29T12:00+01:60"): "'+01:60' is no text of an offset",
+            lambda: DateTime(2024, 2, 29, fold=2): "fold 2: it is 0, or 1 for the second one of two equal local times",
             lambda: Time.fromisoformat("12:00Z"): "'12:00Z' has an offset, and a Time has no time zone",
             lambda: Time.fromisoformat("12:60"): "minute 60: minutes are 0 to 59",
             lambda: Time.fromisoformat("12h"): "'12h' is no text of a time of day",
@@ -523,8 +532,7 @@ class Refusals(unittest.TestCase):
             lambda: Date.fromisoformat("20240230"): "day 30 of 2024-02: the month has 29 days",
             lambda: DateTime.fromisoformat("2024-02-29T24:00:00."): "'2024-02-29T24:00:00.' is no text of a date-time",
             lambda: DateTime.fromisoformat("2024-02-29T24:00:00.1234567890"): "'2024-02-29T24:00:00.1234567890' is no text of a date-time",
-            lambda: DateTime.fromisoformat("2024-02-29T24:00:00Z"):
-                "'2024-02-29T24:00:00Z' has an offset, and a DateTime has no time zone",
+            lambda: DateTime.fromisoformat("2024-02-29T24:00:00Z"): "hour 24: hours are 0 to 23",
             lambda: DateTime(LEAP_DAY, 24): "hour 24: hours are 0 to 23",
             lambda: DateTime(LEAP_DAY, 0, -1): "minute -1: minutes are 0 to 59",
             lambda: DateTime(LEAP_DAY, 0, 0, 61): "second 61: seconds are 0 to 59, and 60 in a leap second",

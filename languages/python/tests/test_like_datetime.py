@@ -19,7 +19,7 @@ except ImportError:
     pandas = None
 
 import proved_calendar
-from proved_calendar import Date, DateTime, Duration, Time
+from proved_calendar import BusinessCalendar, Date, DateTime, Duration, Instant, Rule, RuleSet, Schedule, Time
 
 COUNT = 500
 MICROSECOND = timedelta(microseconds=1)
@@ -122,10 +122,14 @@ class Texts(Cases):
         self.assertLess(known, COUNT)
 
     def test_offsets(self):
+        """Texts with an offset are read as datetime reads them, and refused for a Time."""
         for clock in self.CLOCKS:
-            for offset in ("Z", "+00", "-0500", "+01:00", "+01:00:00.5"):
-                self.assertRaises(ValueError, DateTime.fromisoformat, f"2024-02-29T{clock}{offset}")
+            for offset in ("Z", "+00", "-0500", "+01:00", "+01:00:00.5", "-00:00", "+235959", "-23:59:59.999999"):
+                text = f"2024-02-29T{clock}{offset}"
+                self.assertEqual(DateTime.fromisoformat(text), datetime.datetime.fromisoformat(text))
                 self.assertRaises(ValueError, Time.fromisoformat, clock + offset)
+        for offset in ("z", "+", "+1", "+24", "+01:0", "+0100:00", "+01:00:00.", "+00:60", "+-1:00"):
+            self.assertRaises(ValueError, DateTime.fromisoformat, f"2024-02-29T12:00{offset}")
 
 
 class WrittenTexts(Cases):
@@ -170,7 +174,7 @@ class WrittenTexts(Cases):
             theirs = self.a_moment()
             text = theirs.strftime("%j %Y %H.%M.%S,%f").replace(f" {theirs.year} ", f" {theirs.year:04} ")
             self.assertEqual(DateTime.strptime(text, "%j %Y %H.%M.%S,%f"), theirs)
-        self.assertRaises(ValueError, DateTime.strptime, "+0100", "%z")
+        self.assertEqual(DateTime.strptime("+0100", "%z"), datetime.datetime.strptime("+0100", "%z"))
 
 
 class Clocks(Cases):
@@ -398,7 +402,7 @@ class Examples(unittest.TestCase):
         """Each example in a docstring gives what stands there."""
         names = {name: getattr(proved_calendar, name) for name in proved_calendar.__all__}
         members = {
-            f"{kind.__name__}.{name}": it.__doc__ for kind in (Date, DateTime, Duration, Time) for name, it in
+            f"{kind.__name__}.{name}": it.__doc__ for kind in (Date, DateTime, Duration, Time, Instant, Schedule, Rule, RuleSet, BusinessCalendar) for name, it in
             ((name, getattr(kind, name)) for name in dir(kind)) if name not in ("__doc__", "__class__")
         }
         documented = {**members, **{name: it.__doc__ for name, it in names.items()}}

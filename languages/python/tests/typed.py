@@ -1,7 +1,11 @@
 """A program that uses every kind of call, for `mypy --strict`: each name has the type that the call is to have."""
 import datetime
+from fractions import Fraction
 
-from proved_calendar import Date, DateTime, Duration, Time, Weekday, days_in_month, days_until, is_leap_year
+from proved_calendar import (
+    BusinessCalendar, Date, DateTime, Duration, Instant, Rule, RuleSet, Schedule, TextError, Time, Weekday, day_count, days_in_month, days_until, easter,
+    is_leap_year,
+)
 
 
 class Day(Date):
@@ -36,6 +40,33 @@ count: int = half // Duration(seconds=1) + divmod(half, Duration(1))[0] + half.d
 is_same: bool = day == theirs and day < datetime.date.max and noon <= standard and half > delta
 shown: str = noon.isoformat(" ", "minutes") + f"{day:%d/%m/%Y}" + noon.strftime("%H") + half.isoformat() + clock.isoformat("seconds")
 ends: list[DateTime] = [DateTime.min, DateTime.max, DateTime.min + DateTime.resolution]
+
+daily: Schedule = Schedule("@daily")
+due: list[DateTime] = list(daily.iterate(moment, standard)) if daily.is_due(moment) else []
+next_due: DateTime | None = daily.next_after(standard) or daily.prev_before(moment)
+try:
+    Schedule("0 25 * * *")
+except TextError as error:
+    wrong: str = error.text[error.start:error.end]
+fridays: Rule[Date] = Rule("FREQ=WEEKLY;BYDAY=FR", day)
+meetings: Rule[DateTime] = Rule("FREQ=WEEKLY;COUNT=3", moment)
+without: RuleSet[Date] = RuleSet([fridays], [day, theirs], except_dates=[day + 7])
+third: Date = fridays[2]
+found: DateTime | None = meetings.after(moment) or meetings.before(standard, inc=True)
+several: list[Date] = [*fridays[:3], *without[:2], *without.between(day, day + 30), *fridays.xafter(day, 2)]
+is_one: bool = day in fridays or day in without or meetings.count() == 3
+open_days: BusinessCalendar = BusinessCalendar([day, theirs], weekend=(Weekday.FRIDAY, 6))
+reached: Date = open_days.roll(open_days.add(theirs, 3), "modified_following")
+are_open: int = open_days.is_open(day) + open_days.between(day, theirs) + len(open_days.holidays) + sum(open_days.weekend)
+euro: BusinessCalendar = BusinessCalendar.known("target", 2024, easter(2025).year)
+part: Fraction = day_count(day, theirs, "thirty_360")
+
+instant: Instant = Instant.fromisoformat("2024-02-29T12:00:00Z") + longer - datetime.timedelta(1)
+since: Duration = instant - Instant.from_datetime(standard)
+shown_there: DateTime = instant.astimezone(datetime.timezone.utc)
+zoned: DateTime = DateTime(2024, 2, 29, tzinfo=datetime.timezone.utc, fold=1).astimezone()
+offset: Duration | None = zoned.utcoffset()
+zone: datetime.tzinfo | None = zoned.tzinfo
 
 days: int = days_in_month(2024, 2) + days_until({1, 2}, Weekday.FRIDAY) + is_leap_year(2024)
 text: str = f"{day:>12} {moment}" + day.isoformat()

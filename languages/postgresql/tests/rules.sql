@@ -1,0 +1,22 @@
+-- Recurrence rules.
+SELECT * FROM rule_dates('FREQ=MONTHLY;BYDAY=-1FR', '2024-01-01', '2024-03-31');
+SELECT * FROM rule_dates('RRULE:FREQ=MONTHLY;COUNT=3', '2024-01-31', '2030-01-01');
+SELECT * FROM rule_dates('FREQ=YEARLY;UNTIL=20260229;BYMONTH=2;BYMONTHDAY=29', '2024-02-29', '2040-01-01');
+SELECT * FROM rule_dates('FREQ=YEARLY;BYMONTH=2;BYMONTHDAY=29', '2024-02-29', '2028-02-29');
+SELECT count(*), count(DISTINCT d), max(d) FROM rule_dates('FREQ=DAILY', '2024-01-01', '2123-12-31') d;
+SELECT count(*) FROM rule_dates('FREQ=DAILY;COUNT=64', '2024-01-01', '2123-12-31');
+SELECT count(*) FROM rule_dates('FREQ=DAILY;COUNT=192', '2024-01-01', '2123-12-31');
+SELECT count(*) FROM rule_dates('FREQ=DAILY', '2024-01-02', '2024-01-01');
+SELECT count(*) FROM rule_dates('FREQ=MONTHLY;BYMONTH=2;BYMONTHDAY=30', '2024-01-02', '262142-12-31');
+SELECT max(d) FROM rule_dates('FREQ=DAILY', '262142-12-01', '262142-12-31') d;
+SELECT min(d) FROM rule_dates('FREQ=DAILY', '4714-11-24 BC', '4714-12-31 BC') d;
+SELECT rule_dates('FREQ=DAILY', '2024-01-01', '262142-12-31') LIMIT 2;
+SELECT r, d FROM (VALUES ('FREQ=DAILY;COUNT=2'), ('FREQ=WEEKLY;COUNT=2')) rules (r), rule_dates(r, '2024-01-01', '2024-12-31') d;
+-- What is refused.
+SELECT * FROM rule_dates('FREQ=DAYLY', '2024-01-01', '2024-01-02');
+SELECT * FROM rule_dates('FREQ=DAILY;BYDAY=é', '2024-01-01', '2024-01-02');
+SELECT * FROM rule_dates('FREQ=DAILY;INTERVAL=0', '2024-01-01', '2024-01-02');
+SELECT * FROM rule_dates('', '2024-01-01', '2024-01-02');
+SELECT * FROM rule_dates('FREQ=DAILY', '-infinity', '2024-01-02');
+SELECT * FROM rule_dates('FREQ=DAILY', '2024-01-01', 'infinity');
+SELECT * FROM rule_dates('FREQ=DAILY', '262143-01-01', '2024-01-01');

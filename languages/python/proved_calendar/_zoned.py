@@ -1,0 +1,119 @@
+"""Date-times in a time zone: what the zone answers, and the way from UTC and from the clock of this machine.
+
+A zone is any `datetime.tzinfo`. It is asked about the `datetime.datetime` that shows the same time. Nothing here is proved.
+"""
+import datetime
+import time as c_time
+from typing import Any
+
+from ._calendar import Duration
+
+_DAY = Duration(days=1)
+_DAY_SECONDS = 86_400
+
+
+def _theirs(moment: Any) -> datetime.datetime:
+    """The datetime with the same zone that shows the same time, without what is below a microsecond."""
+    clock = moment.hour, moment.minute, min(moment.second, 59), moment.microsecond
+    if not 1 <= moment.year <= 9999:
+        raise OverflowError(f"year {moment.year}: a time zone is asked about the years 1 to 9999")
+    return datetime.datetime(moment.year, moment.month, moment.day, *clock, tzinfo=moment.tzinfo, fold=moment.fold)
+
+
+def asked(moment: Any, name: str) -> Any:
+    """What the zone of a date-time answers to a method of tzinfo; None without a zone."""
+    zone = moment.tzinfo
+    if zone is None:
+        return None
+    return getattr(zone, name)(None if isinstance(zone, datetime.timezone) else _theirs(moment))
+
+
+def length_asked(moment: Any, name: str) -> Duration | None:
+    """The same, where the answer has to be a length of less than a day, or None."""
+    length = asked(moment, name)
+    if length is None:
+        return None
+    if not isinstance(length, (datetime.timedelta, Duration)):
+        raise TypeError(f"tzinfo.{name}() answers None or a timedelta, not {type(length).__name__}")
+    found = length if isinstance(length, Duration) else Duration.from_timedelta(length)
+    if abs(found) >= _DAY:
+        raise ValueError(f"tzinfo.{name}() answers less than a day either way, not {found}")
+    return found
+
+
+def wanted(zone: Any) -> Any:
+    """A zone that is given; a TypeError if it is none."""
+    if zone is not None and not isinstance(zone, datetime.tzinfo):
+        raise TypeError(f"None or a tzinfo is wanted, not {type(zone).__name__}")
+    return zone
+
+
+# ---- from UTC
+
+
+def _of_offsets(moment: Any, zone: Any) -> Any:
+    """The date-time of a zone that has the method of tzinfo itself, as that has it."""
+    at = moment.replace(tzinfo=zone)
+    offset, saving = at.utcoffset(), at.dst()
+    if offset is None or saving is None:
+        raise ValueError("the time zone has no offset")
+    at += offset - saving
+    saving = at.dst()
+    if saving is None:
+        raise ValueError("the time zone has no offset")
+    return at + saving
+
+
+def from_utc(moment: Any, zone: Any) -> Any:
+    """The date-time of a zone at the instant at which UTC shows a date-time without one."""
+    if isinstance(zone, datetime.timezone):
+        return (moment + zone.utcoffset(None)).replace(tzinfo=zone)
+    if type(zone).fromutc is datetime.tzinfo.fromutc:
+        return _of_offsets(moment, zone)
+    theirs = zone.fromutc(_theirs(moment.replace(tzinfo=zone)))
+    shown = type(moment).from_datetime(theirs)
+    return shown.replace(nanosecond=moment.nanosecond)
+
+
+# ---- the clock of this machine
+
+
+def _local_seconds(timestamp: int) -> int:
+    """What the local clock shows at a POSIX timestamp, as seconds since 1970."""
+    return timestamp + c_time.localtime(timestamp).tm_gmtoff
+
+
+def of_timestamp(kind: Any, microseconds: int) -> Any:
+    """The local time, of a type, at some microseconds since 1970."""
+    seconds, part = divmod(microseconds, 10**6)
+    shown = _local_seconds(seconds)
+    # (a clock that was put back in the day before shows the time twice)
+    before = shown - (_local_seconds(seconds - _DAY_SECONDS) + _DAY_SECONDS)
+    fold = int(before < 0 and _local_seconds(seconds + before) == shown)
+    moment = kind.from_seconds(shown, part * 1_000)
+    return moment.replace(fold=1) if fold else moment
+
+
+def timestamp_of_local(moment: Any) -> int:
+    """The POSIX timestamp, in whole seconds, of what the local clock shows; by the fold where it shows it twice or skips it."""
+    shown: int = moment.seconds
+    offsets = [_local_seconds(at) - at for at in (shown - _DAY_SECONDS, shown + _DAY_SECONDS)]
+    found = [at for at in (shown - it for it in offsets) if _local_seconds(at) == shown]
+    if found:
+        return max(found) if moment.fold else min(found)
+    skipped = [shown - it for it in offsets]
+    return min(skipped) if moment.fold else max(skipped)
+
+
+def utc_of(moment: Any) -> Any:
+    """The date-time without a zone that UTC shows; of one without an offset, by the clock of this machine."""
+    offset = length_asked(moment, "utcoffset")
+    if offset is not None:
+        return moment.replace(tzinfo=None, fold=0) - offset
+    return type(moment).from_seconds(timestamp_of_local(moment), moment.nanosecond)
+
+
+def local_zone(utc: Any) -> datetime.timezone:
+    """The offset that the clock of this machine has where UTC shows a date-time."""
+    it = c_time.localtime(utc.seconds)
+    return datetime.timezone(datetime.timedelta(seconds=it.tm_gmtoff), it.tm_zone)

@@ -1,0 +1,426 @@
+/* business.c: the type BusinessCalendar, which has open days, and day counts. */
+#include "package.h"
+
+#include <stdlib.h>
+#include <string.h>
+
+static PyTypeObject *business_type;
+
+/* A weekend, a set of weekdays, and the day numbers of holidays, which rise, and none of which lies on the weekend. */
+typedef struct {
+    PyObject_HEAD
+    uint8_t weekend;
+    size_t count;
+    int32_t *holidays;
+} BusinessCalendar;
+
+enum { WEEKEND = 32 + 64 };
+
+static Signature of_parts = {
+    .call = "BusinessCalendar", .count = 2, .needed = 0, .places = 2, .names = {"holidays", "weekend"},
+};
+static Signature of_known = {
+    .call = "known", .count = 4, .needed = 3, .places = 4, .names = {"name", "first_year", "last_year", "weekend"},
+};
+static Signature of_add = {.call = "add", .count = 2, .needed = 2, .places = 2, .names = {"date", "days"}};
+static Signature of_between = {.call = "between", .count = 2, .needed = 2, .places = 2, .names = {"start", "end"}};
+static Signature of_roll = {.call = "roll", .count = 2, .needed = 2, .places = 2, .names = {"date", "how"}};
+
+static const char *const known_calendars[] = {
+    [CALENDAR_US_FEDERAL] = "us_federal",
+    [CALENDAR_TARGET] = "target",
+    [CALENDAR_ENGLAND_AND_WALES] = "england_and_wales",
+};
+static const char *const rolls[] = {
+    [CALENDAR_ROLL_UNADJUSTED] = "unadjusted",
+    [CALENDAR_ROLL_FOLLOWING] = "following",
+    [CALENDAR_ROLL_PRECEDING] = "preceding",
+    [CALENDAR_ROLL_MODIFIED_FOLLOWING] = "modified_following",
+    [CALENDAR_ROLL_MODIFIED_PRECEDING] = "modified_preceding",
+    [CALENDAR_ROLL_NEAREST_ISDA] = "nearest_isda",
+    [CALENDAR_ROLL_NEAREST_QUANTLIB] = "nearest_quantlib",
+};
+static const char *const day_counts[] = {
+    [CALENDAR_ACTUAL_ACTUAL_ISDA] = "actual_actual_isda",
+    [CALENDAR_ACTUAL_360] = "actual_360",
+    [CALENDAR_ACTUAL_365_FIXED] = "actual_365_fixed",
+    [CALENDAR_THIRTY_360] = "thirty_360",
+    [CALENDAR_THIRTY_E_360] = "thirty_e_360",
+};
+
+/* Reads one of some words as its number; a ValueError if it is none of them. */
+static bool read_word(PyObject *it, const char *what, const char *const *words, size_t count, uint32_t *number)
+{
+    if (!PyUnicode_Check(it)) {
+        refuse_type("a str", it);
+        return false;
+    }
+    for (size_t i = 0; i < count; i++) {
+        if (PyUnicode_CompareWithASCIIString(it, words[i]) == 0) {
+            *number = (uint32_t)i;
+            return true;
+        }
+    }
+    PyErr_Format(PyExc_ValueError, "there is no %s %R", what, it);
+    return false;
+}
+
+#define READ_WORD(it, what, words, number) read_word(it, what, words, sizeof words / sizeof words[0], number)
+
+/* ---- making */
+
+static int by_number(const void *left, const void *right)
+{
+    int32_t one = *(const int32_t *)left, other = *(const int32_t *)right;
+    return (one > other) - (one < other);
+}
+
+/* Sorts day numbers, and leaves out those that come twice or lie on the weekend; how many are left. */
+static size_t tidied(int32_t *numbers, size_t count, uint8_t weekend)
+{
+    size_t left = 0;
+    qsort(numbers, count, sizeof numbers[0], by_number);
+    for (size_t i = 0; i < count; i++) {
+        bool is_open = !(weekend >> (calendar_weekday(numbers[i]) - 1) & 1);
+        if (is_open && (left == 0 || numbers[left - 1] != numbers[i])) {
+            numbers[left++] = numbers[i];
+        }
+    }
+    return left;
+}
+
+/* The day numbers of a list of dates, in memory that the caller frees; null if one is no date. */
+static int32_t *numbers_of(PyObject *dates, size_t count)
+{
+    int32_t *numbers = PyMem_Malloc((count ? count : 1) * sizeof numbers[0]);
+    if (!numbers) {
+        PyErr_NoMemory();
+        return NULL;
+    }
+    for (size_t i = 0; i < count; i++) {
+        if (!take_date(PyList_GetItem(dates, (Py_ssize_t)i), &numbers[i])) {
+            PyMem_Free(numbers);
+            return NULL;
+        }
+    }
+    return numbers;
+}
+
+/* The calendar of a weekend and of holidays, whose memory it takes. */
+static PyObject *new_business(uint8_t weekend, int32_t *numbers, size_t count)
+{
+    BusinessCalendar *self = PyObject_New(BusinessCalendar, business_type);
+    if (!self) {
+        PyMem_Free(numbers);
+        return NULL;
+    }
+    self->weekend = weekend;
+    self->count = count;
+    self->holidays = numbers;
+    return (PyObject *)self;
+}
+
+/* The calendar of a weekend and of a list of dates. */
+static PyObject *business_of(uint8_t weekend, PyObject *dates)
+{
+    size_t count = (size_t)PyList_Size(dates);
+    int32_t *numbers = numbers_of(dates, count);
+    if (!numbers) {
+        return NULL;
+    }
+    count = tidied(numbers, count, weekend);
+    if (count > CALENDAR_MOST_HOLIDAYS) {
+        PyMem_Free(numbers);
+        return PyErr_Format(PyExc_ValueError, "%zu holidays: a calendar has at most %d", count, CALENDAR_MOST_HOLIDAYS);
+    }
+    return new_business(weekend, numbers, count);
+}
+
+/* Writes the holidays of a known calendar on the days of some years; how many there are, or CALENDAR_NONE. A day of the first days
+ * of a year can be kept in the year before, so one year more is asked for. */
+static int32_t known_holidays(uint32_t which, int32_t first, int32_t last, uint8_t weekend, int32_t *numbers)
+{
+    int32_t end = calendar_from_ymd(last, 12, 31), more = end == CALENDAR_MAX ? last : last + 1;
+    int32_t count = end == CALENDAR_NONE || last < first
+        ? CALENDAR_NONE : calendar_holidays_of(which, first, more, weekend, numbers, CALENDAR_MOST_HOLIDAYS);
+    while (count > 0 && numbers[count - 1] > end) {
+        count--;
+    }
+    return count;
+}
+
+static PyObject *business_known(PyObject *kind, PyObject *const *arguments, Py_ssize_t count, PyObject *keywords)
+{
+    PyObject *parts[PARTS];
+    uint32_t which;
+    int64_t first, last;
+    uint8_t weekend = WEEKEND;
+    (void)kind;
+    if (!take_array(&of_known, arguments, count, keywords, parts) || !READ_WORD(parts[0], "known calendar", known_calendars, &which)
+        || !read_whole(parts[1], &first) || !read_whole(parts[2], &last) || (parts[3] && !read_weekday_set(parts[3], &weekend))) {
+        return NULL;
+    }
+    int32_t *numbers = PyMem_Malloc(CALENDAR_MOST_HOLIDAYS * sizeof numbers[0]);
+    if (!numbers) {
+        return PyErr_NoMemory();
+    }
+    bool are_years = is_i32(first) && is_i32(last);
+    int32_t found = are_years ? known_holidays(which, (int32_t)first, (int32_t)last, weekend, numbers) : CALENDAR_NONE;
+    if (found == CALENDAR_NONE) {
+        PyMem_Free(numbers);
+        return PyErr_Format(PyExc_ValueError, "years %S to %S: they have no holidays, or more than %d", parts[1], parts[2],
+                            CALENDAR_MOST_HOLIDAYS);
+    }
+    return new_business(weekend, numbers, (size_t)found);
+}
+
+PyObject *easter(PyObject *module, PyObject *it)
+{
+    int64_t year;
+    (void)module;
+    if (!read_whole(it, &year)) {
+        return NULL;
+    }
+    int32_t number = is_i32(year) ? calendar_easter((int32_t)year) : CALENDAR_NONE;
+    if (number == CALENDAR_NONE) {
+        refuse_part("year", year, "the calendar has those from -262143 to 262142");
+        return NULL;
+    }
+    return date_of(date_type, number);
+}
+
+static PyObject *business_new(PyTypeObject *kind, PyObject *arguments, PyObject *keywords)
+{
+    PyObject *parts[PARTS];
+    uint8_t weekend = WEEKEND;
+    (void)kind;
+    if (!take_tuple(&of_parts, arguments, keywords, parts) || (parts[1] && !read_weekday_set(parts[1], &weekend))) {
+        return NULL;
+    }
+    PyObject *dates = parts[0] ? PySequence_List(parts[0]) : PyList_New(0);
+    PyObject *self = dates ? business_of(weekend, dates) : NULL;
+    Py_XDECREF(dates);
+    return self;
+}
+
+static void business_free(PyObject *self)
+{
+    PyTypeObject *kind = Py_TYPE(self);
+    PyMem_Free(((BusinessCalendar *)self)->holidays);
+    PyObject_Free(self);
+    Py_DECREF(kind);
+}
+
+/* ---- open days */
+
+static PyObject *is_open(PyObject *self, PyObject *it)
+{
+    BusinessCalendar *of = (BusinessCalendar *)self;
+    int32_t date;
+    return take_date(it, &date) ? PyBool_FromLong(calendar_is_open_day(of->weekend, of->holidays, of->count, date)) : NULL;
+}
+
+/* An open day, or an OverflowError if there is none. */
+static PyObject *open_day(int32_t number)
+{
+    if (number == CALENDAR_NONE) {
+        PyErr_SetString(PyExc_OverflowError, "there is no such open day in the calendar");
+        return NULL;
+    }
+    return date_of(date_type, number);
+}
+
+static PyObject *add_open_days(PyObject *self, PyObject *const *arguments, Py_ssize_t count, PyObject *keywords)
+{
+    BusinessCalendar *of = (BusinessCalendar *)self;
+    PyObject *parts[PARTS];
+    int32_t date;
+    int64_t days;
+    if (!take_array(&of_add, arguments, count, keywords, parts) || !take_date(parts[0], &date) || !read_whole(parts[1], &days)) {
+        return NULL;
+    }
+    return open_day(calendar_add_open_days(of->weekend, of->holidays, of->count, date, days));
+}
+
+static PyObject *between(PyObject *self, PyObject *const *arguments, Py_ssize_t count, PyObject *keywords)
+{
+    BusinessCalendar *of = (BusinessCalendar *)self;
+    PyObject *parts[PARTS];
+    int32_t start, end;
+    if (!take_array(&of_between, arguments, count, keywords, parts) || !take_date(parts[0], &start) || !take_date(parts[1], &end)) {
+        return NULL;
+    }
+    return PyLong_FromLongLong(calendar_open_days_between(of->weekend, of->holidays, of->count, start, end));
+}
+
+static PyObject *roll(PyObject *self, PyObject *const *arguments, Py_ssize_t count, PyObject *keywords)
+{
+    BusinessCalendar *of = (BusinessCalendar *)self;
+    PyObject *parts[PARTS];
+    int32_t date;
+    uint32_t how;
+    if (!take_array(&of_roll, arguments, count, keywords, parts) || !take_date(parts[0], &date)
+        || !READ_WORD(parts[1], "roll", rolls, &how)) {
+        return NULL;
+    }
+    return open_day(calendar_roll(of->weekend, of->holidays, of->count, date, how));
+}
+
+/* ---- day counts */
+
+static PyObject *fraction_of(calendar_fraction part)
+{
+    PyObject *module = PyImport_ImportModule("fractions");
+    PyObject *result = module ? PyObject_CallMethod(module, "Fraction", "LL", (long long)part.numerator, (long long)part.denominator) : NULL;
+    Py_XDECREF(module);
+    return result;
+}
+
+PyObject *day_count(PyObject *module, PyObject *const *arguments, Py_ssize_t count)
+{
+    int32_t start, end;
+    uint32_t kind;
+    (void)module;
+    if (!has_arguments("day_count", 3, count) || !take_date(arguments[0], &start) || !take_date(arguments[1], &end)
+        || !READ_WORD(arguments[2], "day count", day_counts, &kind)) {
+        return NULL;
+    }
+    return fraction_of(calendar_day_count(kind, start, end));
+}
+
+/* ---- as Python's objects do */
+
+static PyObject *holidays(PyObject *self, void *unused)
+{
+    BusinessCalendar *of = (BusinessCalendar *)self;
+    PyObject *dates = PyTuple_New((Py_ssize_t)of->count);
+    (void)unused;
+    for (size_t i = 0; dates && i < of->count; i++) {
+        PyObject *date = date_of(date_type, of->holidays[i]);
+        if (!date || PyTuple_SetItem(dates, (Py_ssize_t)i, date) < 0) {
+            Py_CLEAR(dates);
+        }
+    }
+    return dates;
+}
+
+static PyObject *weekend(PyObject *self, void *unused)
+{
+    PyObject *list = list_of_weekdays(((BusinessCalendar *)self)->weekend), *tuple = list ? PyList_AsTuple(list) : NULL;
+    (void)unused;
+    Py_XDECREF(list);
+    return tuple;
+}
+
+static PyObject *business_repr(PyObject *self)
+{
+    PyObject *dates = holidays(self, NULL), *list = dates ? PySequence_List(dates) : NULL;
+    PyObject *days = list ? list_of_weekdays(((BusinessCalendar *)self)->weekend) : NULL;
+    PyObject *text = NULL;
+    if (days) {
+        bool is_usual = ((BusinessCalendar *)self)->weekend == WEEKEND;
+        text = is_usual ? PyUnicode_FromFormat("BusinessCalendar(%R)", list)
+                        : PyUnicode_FromFormat("BusinessCalendar(%R, weekend=%R)", list, days);
+    }
+    Py_XDECREF(dates);
+    Py_XDECREF(list);
+    Py_XDECREF(days);
+    return text;
+}
+
+static PyObject *business_compare(PyObject *left, PyObject *right, int order)
+{
+    if (!Py_IS_TYPE(right, business_type) || (order != Py_EQ && order != Py_NE)) {
+        Py_RETURN_NOTIMPLEMENTED;
+    }
+    const BusinessCalendar *one = (BusinessCalendar *)left, *other = (BusinessCalendar *)right;
+    bool are_same = one->weekend == other->weekend && one->count == other->count
+        && memcmp(one->holidays, other->holidays, one->count * sizeof one->holidays[0]) == 0;
+    return PyBool_FromLong(are_same == (order == Py_EQ));
+}
+
+static Py_hash_t business_hash(PyObject *self)
+{
+    const BusinessCalendar *of = (BusinessCalendar *)self;
+    uint64_t hash = of->weekend;
+    for (size_t i = 0; i < of->count; i++) {
+        hash = (hash ^ (uint32_t)of->holidays[i]) * UINT64_C(0x9e3779b97f4a7c15);
+        hash ^= hash >> 32;
+    }
+    return (Py_hash_t)hash == -1 ? -2 : (Py_hash_t)hash;
+}
+
+static PyObject *business_reduce(PyObject *self, PyObject *unused)
+{
+    (void)unused;
+    return Py_BuildValue("(O(NN))", (PyObject *)business_type, holidays(self, NULL), weekend(self, NULL));
+}
+
+/* ---- the type */
+
+static PyGetSetDef fields[] = {
+    {"holidays", holidays, NULL, "The holidays as a tuple of Dates, in order, without those on the weekend.", NULL},
+    {"weekend", weekend, NULL, "The weekdays of the weekend as a tuple of numbers, from 1 for Monday to 7.", NULL},
+    {NULL, NULL, NULL, NULL, NULL},
+};
+
+static PyMethodDef methods[] = {
+    {"known", METHOD(business_known), METH_FASTCALL | METH_KEYWORDS | METH_CLASS,
+     "known($type, /, name, first_year, last_year, weekend=(6, 7))\n--\n\n"
+     "Returns the calendar with the holidays of some years by known rules.\n\n"
+     ">>> BusinessCalendar.known('target', 2024, 2024).add(Date(2024, 3, 28), 2)\nDate(2024, 4, 3)\n\n"
+     "name is 'us_federal', 'target' (the euro's payment system) or 'england_and_wales'. Raises ValueError for more than 1,000\n"
+     "holidays."},
+    {"is_open", is_open, METH_O,
+     "is_open($self, date, /)\n--\n\nReturns whether a date is open: neither on the weekend nor a holiday."},
+    {"add", METHOD(add_open_days), METH_FASTCALL | METH_KEYWORDS,
+     "add($self, /, date, days)\n--\n\n"
+     "Returns the open day that many open days after a date, or before it if negative.\n\n"
+     ">>> BusinessCalendar([Date(2024, 3, 29), Date(2024, 4, 1)]).add(Date(2024, 3, 28), 2)\nDate(2024, 4, 3)\n\n"
+     "From a closed day the next open day counts as the first. If days is 0, returns the first open day from the date on. Raises\n"
+     "OverflowError if the calendar has no such day."},
+    {"between", METHOD(between), METH_FASTCALL | METH_KEYWORDS,
+     "between($self, /, start, end)\n--\n\n"
+     "Returns how many days are open from start on and before end; negative if end is the earlier.\n\n"
+     ">>> BusinessCalendar().between(Date(2024, 2, 1), Date(2024, 3, 1))\n21"},
+    {"roll", METHOD(roll), METH_FASTCALL | METH_KEYWORDS,
+     "roll($self, /, date, how)\n--\n\n"
+     "Returns a date that is open, and for a closed one the open day that a rule leads to (ISDA 2006, 4.12).\n\n"
+     ">>> BusinessCalendar([Date(2024, 3, 29)]).roll(Date(2024, 3, 31), 'modified_following')\nDate(2024, 3, 28)\n\n"
+     "how is 'following', 'preceding', 'modified_following' or 'modified_preceding', which stay in the month, 'nearest_isda',\n"
+     "'nearest_quantlib' or 'unadjusted'. Raises OverflowError if the calendar has no such day."},
+    {"__reduce__", business_reduce, METH_NOARGS, "__reduce__($self, /)\n--\n\nWhat pickle and copy keep."},
+    {NULL, NULL, 0, NULL},
+};
+
+PyDoc_STRVAR(documentation,
+"BusinessCalendar(holidays=(), weekend=(6, 7))\n--\n\n"
+"Open days: those that are neither on the weekend nor a holiday.\n\n"
+">>> BusinessCalendar([Date(2024, 3, 29)]).is_open(Date(2024, 3, 29))\nFalse\n\n"
+"holidays are at most 1,000 dates in any order. Those on the weekend and those that come twice are left out. weekend are weekdays,\n"
+"from 1 for Monday. Each date can be a datetime.date too.");
+
+static PyType_Slot slots[] = {
+    {Py_tp_doc, (void *)documentation},
+    {Py_tp_getset, fields},
+    {Py_tp_methods, methods},
+    SLOT(Py_tp_new, business_new),
+    SLOT(Py_tp_dealloc, business_free),
+    SLOT(Py_tp_richcompare, business_compare),
+    SLOT(Py_tp_hash, business_hash),
+    SLOT(Py_tp_repr, business_repr),
+    {0, NULL},
+};
+
+static PyType_Spec spec = {
+    .name = "proved_calendar.BusinessCalendar",
+    .basicsize = sizeof(BusinessCalendar),
+    .flags = Py_TPFLAGS_DEFAULT | Py_TPFLAGS_IMMUTABLETYPE,
+    .slots = slots,
+};
+
+bool make_business_type(PyObject *module)
+{
+    business_type = add_type(module, &spec, "BusinessCalendar", NULL);
+    return business_type;
+}
