@@ -221,7 +221,8 @@ class Rules(unittest.TestCase):
 
     def test_sequence(self):
         days = [JANUARY + it for it in range(3000)]
-        rule = Rule("FREQ=DAILY;COUNT=3000", JANUARY)
+        self.assertEqual([*Rule("FREQ=DAILY;COUNT=3000", JANUARY)], days)
+        rule = Rule(f"FREQ=DAILY;UNTIL={days[-1]:%Y%m%d}", JANUARY)
         self.assertEqual([*rule], days)
         self.assertEqual(rule.count(), 3000)
         for place in (0, 1, 2, 5, 13, 14, 61, 62, 63, 64, 1023, 1024, 1025, 2047, 2048, 2999, -1, -2, -1024, -3000):
