@@ -1,7 +1,7 @@
 #!/usr/bin/env python3
 """Times functions of the PostgreSQL extension, beside the same functions in PL/pgSQL, in one run.
 
-    benches/postgresql.py [ROWS]      (5,000 rows, if left out)
+    benches/postgresql.py [ROWS]      (20,000 rows, if left out)
 
 It makes the package and starts a server as checks/postgresql.py does. Each function in PL/pgSQL is written as a user of PostgreSQL
 would, by PostgreSQL's own dates, and its answers to all rows have to be those of the extension before any is timed. A time is the
@@ -139,6 +139,8 @@ PAIRS = {
     "year_fraction": ("year_fraction('30/360', day, day + 100)", "plain_year_fraction(day, day + 100)"),
     "next_due": ("next_due('0 9 * * mon-fri', day::timestamp)", "plain_next_due(day)"),
 }
+# Those that PL/pgSQL finds day by day are asked over the first thousand rows.
+WALKS = ("add_open_days", "open_days", "roll")
 SETS = {
     "rule_dates": ("rule_dates('FREQ=MONTHLY;BYDAY=-1FR', day, day + 1000)", "plain_rule_dates(day, day + 1000)"),
     "due_between": ("due_between('0 9 * * mon-fri', day::timestamp, day::timestamp + interval '365 days')", "plain_due_between(day, day::timestamp + interval '365 days')"),
@@ -164,7 +166,7 @@ def measure(server, name, queries):
 
 
 def main():
-    rows = int(sys.argv[1]) if len(sys.argv) > 1 else 5_000
+    rows = int(sys.argv[1]) if len(sys.argv) > 1 else 20_000
     with tempfile.TemporaryDirectory(prefix="extension-") as room:
         os.chmod(room, 0o755)
         made, _ = make_package(room, "postgresql")
@@ -172,7 +174,8 @@ def main():
             server.install(os.path.dirname(made[0]))
             print(server.ask("CREATE EXTENSION proved_calendar;" + PLAIN.format(rows=rows)), end="")
             for name, calls in PAIRS.items():
-                measure(server, name, [f"SELECT {it} it FROM asked" for it in calls])
+                rows = "(SELECT * FROM asked LIMIT 1000) a" if name in WALKS else "asked"
+                measure(server, name, [f"SELECT {it} it FROM {rows}" for it in calls])
             for name, calls in SETS.items():
                 measure(server, name, [f"SELECT it FROM (SELECT * FROM asked LIMIT 200) a, {it} it" for it in calls])
 

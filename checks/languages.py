@@ -268,7 +268,7 @@ def compare_examples(results):
 # Where each package says its version.
 VERSIONS = {
     "python/pyproject.toml": r"^version = \"(.*)\"$", "rust/Cargo.toml": r"^version = \"(.*)\"$",
-    "javascript/package.json": r"^ *\"version\": \"(.*)\",?$",
+    "javascript/package.json": r"^ *\"version\": \"(.*)\",?$", "postgresql/proved_calendar.control": r"^default_version = '(.*)'$",
 }
 
 
