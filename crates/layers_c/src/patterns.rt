@@ -1,5 +1,5 @@
 //! Patterns of texts, as of `strftime` and `strptime`.
-ghost use Rattle.std.specs.Prelude.{◌≡◌, ◌≢◌, ℤ, true, false, Some, None};
+ghost use Rattle.std.specs.Prelude.{◌≡◌, ◌≢◌, ℤ, true, false, Some, None, length};
 ghost use Rattle.chrono_datetime.specs.Days.{IsDate};
 ghost use Rattle.chrono_datetime.specs.Moment.{Moment};
 ghost use Rattle.chrono_pattern.specs.DateParts.{names_date};
@@ -85,11 +85,7 @@ pub extern "C" fn calendar_format_date_time(
 
 /// Returns the date that a text is of, by a pattern. If there is none, fills in what is wrong with the pattern or with the text.
 #[unsafe(no_mangle)]
-pub extern "C" fn calendar_parse_date(
-    pattern: &[u8],
-    text: &[u8],
-    fault: &mut CalendarFault,
-) -> i32
+pub extern "C" fn calendar_parse_date(pattern: &[u8], text: &[u8], fault: &mut CalendarFault) -> i32
     ensures date { result ≢ none_number → IsPattern pattern.now × IsDateBy pattern.now text.now result }
     ensures every { (n : ℤ) → IsPattern pattern.now → IsDate n → IsDateBy pattern.now text.now n → result ≡ n }
     ensures no_pattern { (IsPattern pattern.now → ⊥) → (result ≡ none_number) × (pattern_error_from_c fault.new ≡ pattern_error pattern.now) }
