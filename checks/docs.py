@@ -63,7 +63,7 @@ ABSENT = {
         from_isoywd from_num_days_from_ce from_hms
         from_num_seconds_from_midnight and_hms proved_calendar::chrono""",
     "files and modules of chrono": "naive internals ",
-    "words of CMake, of the shell and of a line": "find_package cc load_extension pkg-config lcalendar ldconfig LD_LIBRARY_PATH",
+    "words of CMake, of the shell and of a line": "find_package cc load_extension pkg-config lcalendar ldconfig LD_LIBRARY_PATH gc-sections",
     "words of the program dates": "MONTH mo us-federal modified-following modified-preceding",
     "texts and digits of a text": "CEST P0D PT59M59 PT90S PT007S PT1H30M PT5400S PT0S",
     "made by tools/dist": "SHA256SUMS",

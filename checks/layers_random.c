@@ -305,6 +305,49 @@ static void day_counts(void)
     HOLDS(kind > CALENDAR_ACTUAL_365_FIXED || on.numerator == -back.numerator);
 }
 
+/* A text near to a pattern. */
+static uint8_t *pattern(size_t *length)
+{
+    static const char *const parts[] = {"%Y", "%m", "%d", "%-d", "%H:%M", "%S%.f", "%b ", "%a, ", "%j", "%F", "%T", "%z", "%s", "%", "-", "%Q", "%%"};
+    char made[64] = "";
+    for (uint64_t k = any() % 7; k > 0; k--) {
+        strcat(made, parts[any() % (sizeof parts / sizeof *parts)]);
+    }
+    *length = strlen(made);
+    uint8_t *copy = bytes(*length);
+    memcpy(copy, made, *length);
+    return copy;
+}
+
+static void patterns(void)
+{
+    size_t length, text_length = any() % 30, room = any() % 60;
+    uint8_t *given = pattern(&length), *random = text(text_length), *out = bytes(room);
+    calendar_fault fault = {0, 0, 0, 0}, other = {0, 0, 0, 0};
+    bool is_pattern = calendar_pattern_check(given, length, &fault);
+    HOLDS(is_pattern ? fault.code == 0 : (fault.code == 1 || fault.code == 2) && fault.byte <= fault.end && fault.end == length);
+    int32_t day = date(), parsed = calendar_parse_date(given, length, random, text_length, &other);
+    HOLDS(is_pattern || (parsed == CALENDAR_NONE && other.code == fault.code && other.byte == fault.byte));
+    HOLDS((parsed == CALENDAR_NONE) == (other.code != 0));
+    int32_t written = calendar_format_date(given, length, day, out, room);
+    HOLDS(written == CALENDAR_NONE || (is_pattern && written >= 0 && (size_t)written <= room));
+    if (written != CALENDAR_NONE) {
+        int32_t back = calendar_parse_date(given, length, out, (size_t)written, &other);
+        uint8_t *again = bytes(room);
+        HOLDS(back == CALENDAR_NONE || calendar_format_date(given, length, back, again, room) == CALENDAR_NONE || back != day
+              || memcmp(out, again, (size_t)written) == 0);
+        free(again);
+    }
+    calendar_date_time at = moment();
+    written = calendar_format_date_time(given, length, at, out, room);
+    HOLDS(written == CALENDAR_NONE || (is_pattern && is_moment(at) && written >= 0 && (size_t)written <= room));
+    calendar_date_time read = calendar_parse_date_time(given, length, random, text_length, &other);
+    HOLDS(is_pattern || (read.seconds == 0 && read.nanos == CALENDAR_NO_NANOS));
+    free(out);
+    free(random);
+    free(given);
+}
+
 static void versions(void)
 {
     size_t room = any() % 9;
@@ -325,6 +368,7 @@ int main(int count_of_words, char **words)
         open_days();
         known_holidays();
         columns();
+        patterns();
         day_counts();
     }
     printf("%d passed, %d failed\n", passed, failed);

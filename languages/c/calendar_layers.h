@@ -1,5 +1,5 @@
-/* calendar_layers.h of proved_calendar: cron schedules, recurrence rules, open days, holidays and day counts, by functions that
- * are proved.
+/* calendar_layers.h of proved_calendar: cron schedules, recurrence rules, open days, holidays, day counts and patterns, by
+ * functions that are proved.
  *
  * For example, calendar_schedule_read reads `30 4 1,15 * fri` into a calendar_schedule. calendar_schedule_next then finds the
  * next time at which it is due.
@@ -252,6 +252,42 @@ bool calendar_column_from_date32(const int32_t *days, size_t days_length, int32_
 
 /* Writes the days from 1 January 1970 to each date, as Arrow's date32 has them. */
 bool calendar_column_to_date32(const int32_t *dates, size_t dates_length, int32_t *days, size_t days_length);
+
+/* ---- patterns
+ *
+ * A pattern is bytes that are written as they are, and specifiers, such as `%d.%m.%Y`. The specifiers are those of chrono's `format`,
+ * with English names. Each call reads the pattern. */
+
+/* What is wrong with a pattern, or with a text that a pattern reads: the codes of calendar_fault. Its field is 0. It ends where the
+ * pattern or the text ends. */
+enum {
+    CALENDAR_PATTERN_UNKNOWN = 1,
+    CALENDAR_PATTERN_CUT,
+    CALENDAR_TEXT_TOO_SHORT,
+    CALENDAR_TEXT_TOO_LONG,
+    CALENDAR_TEXT_INVALID,
+    CALENDAR_TEXT_OUT_OF_RANGE,
+    CALENDAR_TEXT_IMPOSSIBLE,
+    CALENDAR_TEXT_NOT_ENOUGH
+};
+
+/* Returns whether bytes are a pattern. If they are none, fault says which specifier is wrong first. */
+bool calendar_pattern_check(const uint8_t *pattern, size_t length, calendar_fault *fault);
+
+/* Writes a date by a pattern, and returns the number of bytes, at most 1,000. If the pattern is wrong or has a specifier of the time or
+ * of an offset, if there is no date, or if the text is longer than room or 1,000 bytes, writes nothing and returns CALENDAR_NONE. */
+int32_t calendar_format_date(const uint8_t *pattern, size_t length, int32_t date, uint8_t *text, size_t room);
+
+/* The same of a date-time, by a pattern with no specifier of an offset. */
+int32_t calendar_format_date_time(const uint8_t *pattern, size_t length, calendar_date_time moment, uint8_t *text, size_t room);
+
+/* Returns the date that a text is of. If there is none, returns CALENDAR_NONE, and fault says what is wrong with the pattern (codes 1
+ * and 2) or with the text. */
+int32_t calendar_parse_date(const uint8_t *pattern, size_t length, const uint8_t *text, size_t text_length, calendar_fault *fault);
+
+/* Returns the date-time that a text is of. If there is none, returns 0 seconds and CALENDAR_NO_NANOS. */
+calendar_date_time calendar_parse_date_time(const uint8_t *pattern, size_t length, const uint8_t *text, size_t text_length,
+                                            calendar_fault *fault);
 
 /* ---- day counts */
 

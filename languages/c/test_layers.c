@@ -368,6 +368,73 @@ static void day_counts(void)
     IS(counts(CALENDAR_ACTUAL_360, FEB_29, INT32_MAX, 0, 0), true);
 }
 
+static const uint8_t *bytes_of(const char *text)
+{
+    return (const uint8_t *)text;
+}
+
+static bool is_wrong_pattern(const char *pattern, uint32_t code, size_t byte)
+{
+    calendar_fault fault;
+    return !calendar_pattern_check(bytes_of(pattern), strlen(pattern), &fault) && fault.code == code && fault.byte == byte;
+}
+
+static bool formats(const char *pattern, int32_t date, const char *wanted)
+{
+    uint8_t text[64];
+    int32_t length = calendar_format_date(bytes_of(pattern), strlen(pattern), date, text, sizeof text);
+    return length == (int32_t)strlen(wanted) && memcmp(text, wanted, strlen(wanted)) == 0;
+}
+
+static bool formats_moment(const char *pattern, calendar_date_time moment, const char *wanted)
+{
+    uint8_t text[64];
+    int32_t length = calendar_format_date_time(bytes_of(pattern), strlen(pattern), moment, text, sizeof text);
+    return length == (int32_t)strlen(wanted) && memcmp(text, wanted, strlen(wanted)) == 0;
+}
+
+static bool fails_to_parse(const char *pattern, const char *text, uint32_t code, size_t byte)
+{
+    calendar_fault fault, other;
+    int32_t date = calendar_parse_date(bytes_of(pattern), strlen(pattern), bytes_of(text), strlen(text), &fault);
+    calendar_date_time moment = calendar_parse_date_time(bytes_of(pattern), strlen(pattern), bytes_of(text), strlen(text), &other);
+    return date == CALENDAR_NONE && same_moment(moment, 0, CALENDAR_NO_NANOS) && fault.code == code && fault.byte == byte;
+}
+
+static void patterns(void)
+{
+    calendar_fault fault = {7, 8, 9, 10};
+    uint8_t text[10];
+    IS(calendar_pattern_check(bytes_of("%d.%m.%Y"), 8, &fault), true);
+    IS(fault.code, 7u);
+    IS(is_wrong_pattern("%Y-%Q", CALENDAR_PATTERN_UNKNOWN, 3), true);
+    IS(is_wrong_pattern("100%", CALENDAR_PATTERN_CUT, 3), true);
+    IS(formats("%d.%m.%Y", FEB_29, "29.02.2024"), true);
+    IS(formats("%A %-e %B, week %V of %G, day %j", FEB_29, "Thursday 29 February, week 09 of 2024, day 060"), true);
+    IS(calendar_format_date(bytes_of("%H"), 2, FEB_29, text, 10), CALENDAR_NONE);
+    IS(calendar_format_date(bytes_of("%F"), 2, CALENDAR_NONE, text, 10), CALENDAR_NONE);
+    IS(calendar_format_date(bytes_of("%F"), 2, FEB_29, text, 9), CALENDAR_NONE);
+    IS(calendar_format_date(bytes_of("%F"), 2, FEB_29, text, 10), 10);
+    IS(calendar_format_date(bytes_of("%Q"), 2, FEB_29, text, 10), CALENDAR_NONE);
+    IS(formats_moment("%I:%M %p, %s", moment(MARCH + 13 * 3600, 0), "01:00 PM, 1709298000"), true);
+    IS(formats_moment("%T%.f", moment(MARCH - 1, 1500000000), "23:59:60.500"), true);
+    IS(calendar_format_date_time(bytes_of("%z"), 2, moment(MARCH, 0), text, 10), CALENDAR_NONE);
+    IS(calendar_format_date_time(bytes_of("%Q"), 2, moment(MARCH, 0), text, 10), CALENDAR_NONE);
+    IS(calendar_format_date_time(bytes_of("%R"), 2, moment(INT64_MAX, 0), text, 10), CALENDAR_NONE);
+    IS(calendar_parse_date(bytes_of("%d %b %Y"), 8, bytes_of("29 feb 2024"), 11, &fault), FEB_29);
+    IS(fault.code, 7u);
+    IS_MOMENT(calendar_parse_date_time(bytes_of("%F %R"), 5, bytes_of("2024-03-01 13:00"), 16, &fault), MARCH + 13 * 3600, 0);
+    IS_MOMENT(calendar_parse_date_time(bytes_of("%FT%T%.f"), 8, bytes_of("2024-02-29T23:59:60.5"), 21, &fault), MARCH - 1, 1500000000);
+    IS(fault.code, 7u);
+    IS(fails_to_parse("%d.%m.%Y", "29.2.2023", CALENDAR_TEXT_IMPOSSIBLE, 9), true);
+    IS(fails_to_parse("%d.%m.%Y", "29-2", CALENDAR_TEXT_INVALID, 2), true);
+    IS(fails_to_parse("%d.%m.%Y", "29.13", CALENDAR_TEXT_OUT_OF_RANGE, 3), true);
+    IS(fails_to_parse("%d.%m.%Y", "29.", CALENDAR_TEXT_TOO_SHORT, 3), true);
+    IS(fails_to_parse("%d", "29x", CALENDAR_TEXT_TOO_LONG, 2), true);
+    IS(fails_to_parse("%d.%m.", "29.2.", CALENDAR_TEXT_NOT_ENOUGH, 5), true);
+    IS(fails_to_parse("%d.%", "29.2.", CALENDAR_PATTERN_CUT, 3), true);
+}
+
 static void versions(void)
 {
     uint8_t text[16];
@@ -389,6 +456,7 @@ int main(void)
     many_holidays();
     holidays();
     columns();
+    patterns();
     day_counts();
     printf("%d passed, %d failed\n", passed, failed);
     return failed != 0;

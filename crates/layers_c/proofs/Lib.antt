@@ -10,3 +10,4 @@ mod PlainLists
 mod RuleLemmas
 mod SaidLemmas
 mod SetsOfFields
+mod WrittenLemmas

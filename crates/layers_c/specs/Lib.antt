@@ -4,5 +4,6 @@ pub mod Holidays
 pub mod NumberSets
 pub mod OpenDayColumns
 pub mod OpenDays
+pub mod Patterns
 pub mod Rules
 pub mod Schedules

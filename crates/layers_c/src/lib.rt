@@ -12,6 +12,8 @@ mod number_sets;
 mod open_day_columns;
 mod open_days;
 mod part_end;
+mod pattern_faults;
+mod patterns;
 mod rule_faults;
 mod rule_texts;
 mod rules;

@@ -1,0 +1,56 @@
+-- Patterns and texts by the numbers of C.
+use Rattle.std.specs.Prelude.{◌≡◌, ℕ, ◌-◌, ◌≤◌, false, List, [], ◌∷◌, length, Option, Some, ℤ, pos}
+use Rattle.std.specs.Option.{option_map}
+use Rattle.chrono_datetime.specs.Moment.{Moment, moment}
+use Rattle.chrono_clock.specs.Time.{time_at}
+use Rattle.chrono_pattern.specs.Needs.{needs_offset, needs_time}
+use Rattle.chrono_pattern.specs.Patterns.{IsPattern, pattern_text}
+use Rattle.chrono_pattern.specs.declared.error.PatternError.{PatternError}
+use Rattle.chrono_pattern.specs.declared.error.PatternFault.{PatternFault}
+use Rattle.chrono_pattern.specs.declared.error.PatternFault.TheVariants.{Cut, Unknown}
+use Rattle.chrono_pattern.specs.declared.error.PatternReadError.{PatternReadError}
+use Rattle.chrono_pattern.specs.declared.error.ReadFault.{ReadFault}
+use Rattle.chrono_pattern.specs.declared.error.ReadFault.TheVariants.{Impossible, Invalid, NotEnough, OutOfRange, TooLong, TooShort}
+use Rattle.numbers_c.specs.Texts.{overwritten}
+use Rattle.layers_c.specs.Faults.{numbered}
+use Rattle.layers_c.specs.declared.faults.CalendarFault.{CalendarFault}
+
+-- what can be wrong with a pattern, numbered from 1
+abbrev pub pattern_faults : List PatternFault
+pattern_faults = Unknown ∷ Cut ∷ []
+
+-- what can be wrong with a text, numbered from 3
+abbrev pub read_faults : List ReadFault
+read_faults = TooShort ∷ TooLong ∷ Invalid ∷ OutOfRange ∷ Impossible ∷ NotEnough ∷ []
+
+-- what is wrong with a pattern, by the numbers of a fault
+unfoldable pub pattern_error_from_c : CalendarFault → Option PatternError
+pattern_error_from_c a = option_map (λ cause. record { byte = a.byte; cause = cause }) (numbered pattern_faults a.code)
+
+-- what is wrong with a text, by the numbers of a fault
+unfoldable pub read_error_from_c : CalendarFault → Option PatternReadError
+read_error_from_c a = option_map (λ cause. record { byte = a.byte; cause = cause }) (numbered read_faults (a.code - 2))
+
+-- the date at midnight, whose text a pattern without a time of day writes
+abbrev pub midnight_of : ℤ → Moment
+midnight_of date = moment date (time_at 0 0 0 0)
+
+-- a text was written over the first bytes
+pub record IsWritten (text before after : List ℕ) (result : ℤ) : Type 0 where
+  pub bytes : after ≡ overwritten (Some text) before
+  pub count : result ≡ pos (length text)
+
+-- the text of a date fits, by a pattern that needs neither a time of day nor an offset
+pub record FitsDate (pattern : List ℕ) (date : ℤ) (room : ℕ) : Type 0 where
+  pub pattern_is : IsPattern pattern
+  pub timeless : needs_time pattern ≡ false
+  pub local : needs_offset pattern ≡ false
+  pub short : length (pattern_text pattern (midnight_of date)) ≤ 1000
+  pub within : length (pattern_text pattern (midnight_of date)) ≤ room
+
+-- the text of a date-time fits, by a pattern that needs no offset
+pub record FitsMoment (pattern : List ℕ) (m : Moment) (room : ℕ) : Type 0 where
+  pub pattern_is : IsPattern pattern
+  pub local : needs_offset pattern ≡ false
+  pub short : length (pattern_text pattern m) ≤ 1000
+  pub within : length (pattern_text pattern m) ≤ room
