@@ -19,7 +19,7 @@ import zoneinfo
 
 from outside import answers_in_parts, put_program
 from zoned_rules import DAY, EPOCH, HOUR, QUARTER, UNITS, Known, ahead, instances, seconds_of
-from zoned_schedules import end
+from zoned_schedules import MAIN, end
 
 from debian import restart_without
 
@@ -51,21 +51,7 @@ use std::io::{self, BufRead, BufReader};
 use zone_database::{Zone, system_database};
 use zoned_rules::InZone;
 
-fn main(rt: HostRuntime) -> io::Result<()> {
-    let Ok(database) = system_database(&rt) else {
-        return Ok(());
-    };
-    for line in BufReader::new(rt.alloc(), rt.reader())?.lines(rt.alloc()) {
-        let line = line?;
-        let (name, words) = line.as_str().split_once(' ').unwrap_or((line.as_str(), ""));
-        match database.zone(&rt, name) {
-            Ok(zone) => answer(&rt, &zone.zone(), words)?,
-            Err(error) => println!(rt; "= {error}")?,
-        }
-    }
-    Ok(())
-}
-
+''' + MAIN + r'''
 fn answer(rt: &HostRuntime, zone: &Zone, words: &str) -> io::Result<()> {
     let (start, line) = words.split_once(' ').unwrap_or((words, ""));
     let (mut text, mut unfolded, mut rule) = ([0; 1024], [0; 1024], [0; 1024]);

@@ -21,7 +21,7 @@ from wrong_lines import edits, planted
 
 TOP = os.path.dirname(os.path.dirname(os.path.abspath(__file__)))
 sys.path.insert(0, f"{TOP}/tools")
-from debian import FROM_DEBIAN, REGISTRY  # noqa: E402
+from debian import FROM_DEBIAN, PYTHON, REGISTRY  # noqa: E402
 from packages import CALENDAR, LAYERS, rust  # noqa: E402
 
 FOLDER = f"{TOP}/languages/rust"
@@ -100,8 +100,8 @@ def unpacked(room, built):
 
 
 def make_project(project, package, tests, features=()):
-    """A project that uses the package and has its tests; the project."""
-    named = ", ".join(f'"{it}"' for it in (*features, *(["std"] if features else [])))
+    """A project that uses the package, with std if it has tests, and has its tests; the project."""
+    named = ", ".join(f'"{it}"' for it in (*features, *(["std"] if tests else [])))
     others = "".join(f"{it} = {FEATURES[it]}\n" for it in features)
     write(f"{project}/Cargo.toml", PROJECT.format(package=package, features=named, others=others))
     write(f"{project}/src/lib.rs", "")
@@ -122,8 +122,29 @@ def test_examples(results, room, package):
     built = f"{room}/target/debug/deps"
     library = max(glob.glob(f"{built}/libproved_calendar-*.rlib"), key=os.path.getmtime)
     words = ["rustdoc", "--test", "--edition", "2021", "--crate-name", "proved_calendar", f"{package}/src/lib.rs"]
+    words += [it for name in ("alloc", "std") for it in ("--cfg", f'feature="{name}"')]
     words += ["-L", f"dependency={built}", "--extern", f"proved_calendar={library}"]
     run(results, "the examples in Rust", words, COUNTS, cwd=package)
+
+
+def test_peers(results, room, package):
+    """The layers beside croniter, dateutil and numpy, on 20,000 drawn cases each."""
+    answers = f"{room}/answers.txt"
+    with open(answers, "w", encoding="utf-8") as it:
+        ran = subprocess.run([PYTHON, f"{TOP}/checks/peer_answers.py"], stdout=it, stderr=subprocess.PIPE, text=True)
+    if ran.returncode:
+        print(f"not run: Rust's layers beside other programs: {ran.stderr.strip()[-200:] or 'there is no croniter, dateutil or numpy'}")
+        return
+    project = make_project(f"{room}/peers", package, ("peers",))
+    words = ["cargo", "test", "--offline", "--quiet", "--test", "peers"]
+    run(results, "Rust's layers beside other programs", words, COUNTS, cwd=project, env={**environment(room), "PEER_ANSWERS": answers})
+
+
+def test_bare(results, room, package):
+    """The package builds with no feature, so without std."""
+    words = ["cargo", "check", "--offline"]
+    ran = subprocess.run(words, cwd=make_project(f"{room}/bare", package, []), env=environment(room), capture_output=True, text=True)
+    results.count(ran.returncode == 0, f"a build with no feature says:\n{ran.stderr[-2000:]}")
 
 
 def test_missing(results, room, package):
@@ -178,5 +199,7 @@ def test(results, room, library, layers):
     run(results, "cargo test", words, COUNTS, cwd=project, env=environment(room))
     test_examples(results, room, package)
     chrono_docs.test(results, room, package, environment(room))
+    test_peers(results, room, package)
+    test_bare(results, room, package)
     test_missing(results, room, package)
     try_wrong_lines(results, room, built)

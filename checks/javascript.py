@@ -44,7 +44,7 @@ from packages import javascript  # noqa: E402
 
 FOLDER = f"{TOP}/languages/javascript"
 # How many bytes each module has at most.
-LARGEST = {"module": 22_000, "layers_module": 60_000}
+LARGEST = {"module": 22_000, "layers_module": 90_000}
 MONTHS = "January February March April May June July August September October November December".split()
 WEEKDAYS = "Monday Tuesday Wednesday Thursday Friday Saturday Sunday".split()
 
@@ -71,6 +71,19 @@ SCHEDULES = (
     ("30 4 1,15 * fri", "At 04:30, on the 1st and 15th of the month, and on Fridays",
      lambda it: is_at(4, 30)(it) and (it.day in (1, 15) or it.weekday() == 4)),
     ("30 4 12 * *", "At 04:30, on the 12th of the month", lambda it: is_at(4, 30)(it) and it.day == 12),
+)
+def days_of_2024(is_day):
+    """The days of 2024 that pass a test."""
+    return [it for it in (datetime.date(2024, 1, 1) + datetime.timedelta(n) for n in range(366)) if is_day(it)]
+
+
+# Rules, and their days of 2024 from 1 January on.
+RULES = (
+    ("FREQ=MONTHLY;BYDAY=-1FR", days_of_2024(lambda it: it.weekday() == 4 and (it + datetime.timedelta(7)).month != it.month)),
+    ("FREQ=MONTHLY;BYMONTHDAY=31", days_of_2024(lambda it: it.day == 31)),
+    ("FREQ=DAILY;COUNT=40", days_of_2024(lambda it: it < datetime.date(2024, 2, 10))),
+    ("FREQ=YEARLY;BYMONTH=11;BYDAY=4TH", days_of_2024(lambda it: it.month == 11 and it.weekday() == 3 and 22 <= it.day <= 28)),
+    ("FREQ=DAILY", days_of_2024(lambda it: True)),
 )
 # Lines that are wrong: the part that is marked, and what is said of it.
 WRONG_SCHEDULES = (
@@ -129,7 +142,7 @@ def wanted_exports():
     text = re.sub(r"/\*.*?\*/", "", read(layers_c.HEADER), flags=re.S)
     return {
         "module": ([it for it in languages.of_header() if not re.fullmatch(languages.COLUMNS, it)], "library", "calls"),
-        "layers_module": (list(layers_c.functions_of_header(text)), "layers", "layers"),
+        "layers_module": ([it for it in layers_c.functions_of_header(text) if not it.startswith("calendar_column_")], "layers", "layers"),
     }
 
 
@@ -180,11 +193,11 @@ def check_types(results, project):
 
 
 def compare_peers(results, project):
-    """The layers beside croniter and numpy, on 20,000 drawn cases each."""
+    """The layers beside croniter, dateutil and numpy, on 20,000 drawn cases each."""
     with open(f"{project}/answers.txt", "w", encoding="utf-8") as it:
         ran = subprocess.run([debian.PYTHON, f"{TOP}/checks/peer_answers.py"], stdout=it, stderr=subprocess.PIPE, text=True)
     if ran.returncode:
-        print(f"not run: the layers beside other programs: {ran.stderr.strip()[-200:] or 'there is no croniter or no numpy'}")
+        print(f"not run: the layers beside other programs: {ran.stderr.strip()[-200:] or 'there is no croniter, dateutil or numpy'}")
         return
     words = ["node", "test/peers.js", "answers.txt"]
     ran = subprocess.run(words, cwd=project, stdout=subprocess.PIPE, stderr=subprocess.STDOUT, text=True, timeout=600)
@@ -377,6 +390,34 @@ def use_schedule(results, page):
     results.count(page.text("#cron-words"), "an example of a cron line shows nothing")
 
 
+def use_rule(results, page):
+    """The days of rules, marked in a year, beside dateutil where it is installed, and what is wrong with a rule, at its place."""
+    page.type("#rule-start", "2024-01-01")
+    page.type("#rule-year", "2024")
+    for text, days in RULES:
+        page.type("#rule", text)
+        wanted = [it.isoformat() for it in days]
+        results.equal(page.run("[...document.querySelectorAll('#year-sheet [data-date]')].map((it) => it.dataset.date)"), wanted, f"days of {text}")
+        told = f"{len(days)} day{'' if len(days) == 1 else 's'} in 2024"
+        results.equal(page.text("#rule-words strong"), told, f"the days of {text} in words")
+    results.equal(page.run("document.querySelectorAll('#year-sheet table').length"), 12, "months of the year")
+    cells = "[...document.querySelectorAll('#year-sheet td')].filter((it) => it.textContent).length"
+    results.equal(page.run(cells), 366, "days of the year 2024")
+    columns = "[...document.querySelectorAll('#year-sheet [data-date]')].map((it) => it.cellIndex)"
+    page.type("#rule", "FREQ=MONTHLY;BYDAY=-1FR")
+    results.equal(page.run(f"new Set({columns}).size + '/' + {columns}[0]"), "1/4", "the column of Fridays")
+    results.count("the next one after 2024 is Friday 31 January 2025" in page.text("#rule-words"), "the next day of a rule is not told")
+    page.type("#rule", "FREQ=YEARLY;BYMONTH=5,13")
+    results.equal(page.run("document.querySelector('#rule-trouble mark').textContent"), "13", "the mark in a wrong rule")
+    results.equal((page.text("#rule-words"), marked(page)), ("", ["rule"]), "what else is shown of a wrong rule")
+    page.type("#rule", "FREQ=DAILY")
+    page.type("#rule-year", "300000")
+    results.equal(marked(page), ["rule-year"], "the fields marked at a year that there is not")
+    page.type("#rule-year", "2024")
+    page.run("document.querySelectorAll('#rule-examples button')[3].click()")
+    results.equal(page.text("#rule-words strong"), "10 days in 2024", "the fourth example of a rule")
+
+
 def use_open_days(results, page):
     """Open days between two dates, and wrong holidays at their place."""
     page.type("#from", "2024-03-01")
@@ -390,6 +431,10 @@ def use_open_days(results, page):
     page.run("document.querySelector('#weekend input').click()")
     results.equal(page.text("#open strong"), "16 open days", "open days without Mondays")
     page.run("document.querySelector('#weekend input').click()")
+    page.type("#to", "2024-04-01")
+    page.run("(() => { const it = document.querySelector('#known'); it.value = 'target'; it.dispatchEvent(new Event('change')); })()")
+    held = "2024-01-01 2024-03-29 2024-04-01 2024-05-01 2024-12-25 2024-12-26"
+    results.equal((page.run("document.querySelector('#holidays').value"), page.text("#open strong")), (held, "20 open days"), "the holidays of TARGET")
     page.type("#holidays", "2024-03-29, 2024-02-30")
     results.equal(page.run("document.querySelector('#holidays-trouble mark').textContent"), "2024-02-30", "the holiday that is marked")
     results.equal((page.text("#holidays-trouble span"), marked(page), page.text("#open")), ("no date", ["holidays"], ""), "what a wrong holiday shows")
@@ -450,14 +495,14 @@ def read_aloud(results, page):
         results.count(name or kind in ("status", "list"), f"a {kind} of the page has no name")
     wanted = {("textbox", "A command and its numbers"), ("textbox", "From"), ("textbox", "To"), ("combobox", "Month"), ("spinbutton", "Year"),
               ("button", "The month before"), ("spinbutton", "Months apart"), ("region", "Ask a line"), ("list", "The dates"),
-              ("textbox", "Cron line"), ("list", "The next five times"), ("checkbox", "Monday"), ("textbox", "and on the holidays")}
+              ("textbox", "Cron line"), ("textbox", "Rule"), ("combobox", "Holidays of"), ("list", "The next five times"), ("checkbox", "Monday"), ("textbox", "and on the holidays")}
     results.equal(wanted - set(named), set(), "what a screen reader does not find")
     page.run("document.querySelector('#cron').focus()")
     reached = []
     for _ in range(80):
         reached.append(page.run("document.activeElement.id || document.activeElement.dataset.date && 'day' || ''"))
         page.press("Tab")
-    for it in ("cron", "after", "now", "from", "to", "swap", "holidays", "month", "year", "earlier", "today", "later", "day", "line", "start", "step",
+    for it in ("cron", "after", "now", "rule", "rule-start", "rule-year", "known", "from", "to", "swap", "holidays", "month", "year", "earlier", "today", "later", "day", "line", "start", "step",
                "count", "row"):
         results.count(it in reached, f"the Tab key does not reach {it}")
 
@@ -469,7 +514,7 @@ CONTRAST = """(() => {
   const behind = (it) => { for (; it; it = it.parentElement) { const rgb = parts(getComputedStyle(it).backgroundColor);
     if (rgb.length < 4 || rgb[3] === 1) return rgb; } return [255, 255, 255]; };
   return ['h1', 'header p', 'label', '.help', '#answer', '#sheet caption', '#sheet th', '#sheet td button', '#sheet td small',
-    '#sheet [aria-selected="true"] button', '#names dt', '#names dd', '#between strong', '#open strong', '#cron-words', '#due li', '#due strong', '#due small', 'legend', '.check', '#row .month', '#row .gap', '#today', '#line', 'footer p']
+    '#sheet [aria-selected="true"] button', '#names dt', '#names dd', '#between strong', '#open strong', '#cron-words', '#due li', '#due strong', '#due small', 'legend', '.check', '#year-sheet caption', '#year-sheet td', '#year-sheet mark', '#rule-words strong', '#row .month', '#row .gap', '#today', '#line', 'footer p']
     .map((name) => { const it = document.querySelector(name); const [a, b] = [light(parts(getComputedStyle(it).color)), light(behind(it))];
       return [name, (Math.max(a, b) + 0.05) / (Math.min(a, b) + 0.05)]; });
 })()"""
@@ -510,7 +555,7 @@ def in_chromium(results, path):
         page.open(path)
         results.equal(page.run("document.querySelector('#trouble').hidden"), True, "whether the page has no trouble to tell")
         results.equal(page.text("#answer"), "2024-02-29 738945 Thu 2024-W09 60", "the first answer of the page")
-        for use in (use_schedule, use_open_days, use_between, use_month, use_lines, use_row, read_aloud, compare_temporal):
+        for use in (use_schedule, use_rule, use_open_days, use_between, use_month, use_lines, use_row, read_aloud, compare_temporal):
             use(results, page)
         look(results, page, path)
         results.equal(page.faults(), [], "what the page threw")

@@ -3,14 +3,16 @@
 
     checks/patterns.py [--seed N] [--lines N] [--rounds N]      (seed 1, 20,000 lines and one round, if left out)
 
-A line has a local date-time and its offset from UTC. It is written with the offset and without it. An answer is this file's own, from
-its own count of days. In the years 1000 to 9999, Python's strftime has to write the same of each specifier that it has, and GNU date of
-all its specifiers in one pattern. Where there is Debian's chrono, checks/chrono_patterns has to write the same too, and to refuse the same
-patterns: all that have none of `%q`, `%U`, `%W` and `%#z`. The first is newer, and chrono only reads the last. Of the other two Debian's
-chrono writes another number in some years, where GNU date and Python agree: how many lines differ is printed. Python writes the seconds
-of an offset by `%z`, so it is asked at whole minutes alone. Bytes that are no pattern are read by a regular expression. `rt try` runs a small program unproved, in a copy of the crates: it answers the lines, and what differs is printed. A second run
-of the same lines with one answer changed has to find that answer. The table of patterns in docs/chrono.md is asked with them. Each round
-has as many lines of its own, by the next seed: `--lines 200000 --rounds 5` are a million. GNU date is asked for 20,000 in a round at most.
+A line has a local date-time and its offset from UTC. It is written with the offset, and printed without it. Some bytes between the
+specifiers are no ASCII. An answer is this file's own, from its own count of days. In the years 1000 to 9999, Python's strftime has to
+write the same of each specifier that it has, and GNU date of all its specifiers in one pattern. Where there is Debian's chrono,
+checks/chrono_patterns has to write the same too, and to refuse the same patterns: all that have none of `%q`, `%U`, `%W` and `%#z`. The
+first is newer, and chrono only reads the last. Of the other two Debian's chrono writes another number in some years, where GNU date and
+Python agree: how many lines differ is printed. Python writes the seconds of an offset by `%z`, so it is asked at whole minutes alone.
+Bytes that are no pattern are read by a regular expression. `rt try` runs a small program unproved, in a copy of the crates: it answers the
+lines, and what differs is printed. A second run of the same lines with one answer changed has to find that answer. The table of patterns
+in docs/chrono.md is asked with them. Each round has as many lines of its own, by the next seed: `--lines 200000 --rounds 5` are a million.
+GNU date is asked for 20,000 in a round at most.
 """
 import argparse
 import datetime
@@ -81,8 +83,8 @@ fn main(rt: HostRuntime) -> io::Result<()> {
                     Some(text) => print!(rt; "= {}", text.as_str())?,
                     None => print!(rt; "= too long")?,
                 }
-                match pattern.format::<512>(local) {
-                    Some(text) => println!(rt; "|{}", text.as_str())?,
+                match pattern.delayed(local) {
+                    Some(text) => println!(rt; "|{text}")?,
                     None => println!(rt; "|none")?,
                 }
             }
@@ -184,7 +186,7 @@ def answer(moment, pattern):
             made.append(pattern[at])
             at += 1
         else:
-            return f"{'Cut' if BEGUN.match(pattern, at) else 'Unknown'} {at}"
+            return f"{'Cut' if BEGUN.match(pattern, at) else 'Unknown'} {len(pattern[:at].encode())}"
     return "".join(made)
 
 
@@ -226,7 +228,7 @@ def part(draw):
     if kind < 0.78:
         return "%" + draw.choice(("", ".")) + draw.choice(("", "3", "6", "9")) + "f"
     if kind < 0.97:
-        return draw.choice(("-", ":", " ", "T", "/", ", ", "W", "100", "%%"))
+        return draw.choice(("-", ":", " ", "T", "/", ", ", "W", "100", "%%", "年", ". März ", "𝕏"))
     return draw.choice(("%", "%Q", "%-a", "%--d", "%.5f", "%.", "%3", "%.3", "%-", "%0F", "%33f", "%.-d", "%_%", "%:", "%::", "%::::z", "%#", "%-z", "%:Z", "%_+", "%#:z", "%:::"))
 
 

@@ -3,11 +3,12 @@
 
     checks/patterns_read.py [--seed N] [--lines N] [--rounds N]      (seed 1, 20,000 lines and one round, if left out)
 
-A text is one that its pattern writes, often with a byte changed, left out or put in. It is read whole, and its front alone: as a date, as a
-date-time and as one with its offset. The wanted answer is this file's own. Where it is a date, its fields are compared with all dates that
-fit, by their names. Python's strptime has to read the same date, and the same date-time with its offset, wherever it has all specifiers of
-a pattern and reads the text. Debian's chrono has to read the same, or nothing where nothing is wanted. It differs where the tables below say. `rt try` runs a small program unproved, in a copy of the crates. A second run
-of the same lines with one answer changed has to find that answer. Each round has as many lines of its own, by the next seed.
+A text is one that its pattern writes, often with a byte changed, left out or put in. It is read whole, and its front alone: as a date, as
+a date-time and as one with its offset. The wanted answer is this file's own. Where it is a date, its fields are compared with all dates
+that fit, by their names. Python's strptime has to read the same date, and the same date-time with its offset, wherever it has all
+specifiers of a pattern and reads the text. Debian's chrono has to read the same, or nothing where nothing is wanted. It differs where the
+tables below say. `rt try` runs a small program unproved, in a copy of the crates. A second run of the same lines with one answer changed
+has to find that answer. Each round has as many lines of its own, by the next seed.
 """
 import datetime
 import re

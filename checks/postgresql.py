@@ -128,14 +128,15 @@ def is_stable(name, kinds):
 
 def try_arguments(results, server):
     """How each function is declared, and what it answers to NULL, infinity and dates beyond the calendar in each place."""
-    server.ask("INSERT INTO business_calendars (name) VALUES ('plain')")
-    count = 0
+    session, count = server.session(), 0
+    session.ask("INSERT INTO business_calendars (name) VALUES ('plain')")
     for name, (volatile, parallel, strict, needed), kinds in functions(server):
         is_right = (volatile, parallel, strict) == ("s" if is_stable(name, kinds) else "i", "s", "t")
         results.count(is_right, f"{name}({kinds}) is {volatile} {parallel} {strict}")
         for query, wanted in calls_of(name, kinds, needed):
-            told, count = server.ask(query), count + 1
+            told, count = session.ask(query), count + 1
             results.count(re.match(wanted, told), f"{query} prints {told}")
+    session.close()
     results.count(count > 100, "few functions are listed")
     print(f"arguments: {count} calls", flush=True)
 

@@ -341,6 +341,24 @@ export class Schedule {
   readonly [Symbol.toStringTag]: "Schedule";
 }
 
+/** A recurrence rule of RFC 5545 from a start on, such as `FREQ=MONTHLY;BYDAY=-1FR`. Its instances are days. */
+export class Rule implements Iterable<PlainDate> {
+  /** Throws a TextError if the text is no rule. */
+  constructor(text: string, start: DateLike);
+  readonly start: PlainDate;
+  /** The first instance after a date; undefined if there is none. */
+  nextAfter(date: DateLike): PlainDate | undefined;
+  /** The last instance before a date; undefined if there is none. */
+  previousBefore(date: DateLike): PlainDate | undefined;
+  /** Whether a date is an instance. */
+  includes(date: DateLike): boolean;
+  /** The instances in order, from a date on and up to another; both count. */
+  iterate(options?: { from?: DateLike; until?: DateLike }): IterableIterator<PlainDate>;
+  [Symbol.iterator](): IterableIterator<PlainDate>;
+  toString(): string;
+  readonly [Symbol.toStringTag]: "Rule";
+}
+
 /** Where a closed date goes (ISDA 2006, section 4.12). */
 export type Roll =
   | "unadjusted"
@@ -358,6 +376,13 @@ export type DayCount = "actualActualIsda" | "actual360" | "actual365Fixed" | "th
 export class BusinessCalendar {
   /** The weekend has weekdays from 1 for Monday to 7, and is [6, 7] if left out. RangeError above 1,000 holidays. */
   constructor(options?: { weekend?: number[]; holidays?: Iterable<DateLike> });
+  /** The calendar with the known holidays of some years; New Year's Day can be kept in the year before. */
+  static of(
+    name: "usFederal" | "target" | "englandAndWales",
+    firstYear: number,
+    lastYear: number,
+    options?: { weekend?: number[] },
+  ): BusinessCalendar;
   readonly weekend: number[];
   /** The holidays that are not on the weekend, in order. */
   readonly holidays: PlainDate[];
@@ -372,3 +397,6 @@ export class BusinessCalendar {
 
 /** The part of a year from one date to another by a day count: a fraction that is not reduced. */
 export function dayCount(kind: DayCount, from: DateLike, to: DateLike): { numerator: number; denominator: number };
+
+/** Easter Sunday of a year, as the Gregorian churches have it. */
+export function easter(year: number): PlainDate;

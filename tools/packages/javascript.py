@@ -20,13 +20,13 @@ from . import LICENCES, Missing, version
 # A module of WebAssembly: the crate that it is made of, where it is kept, and what only C has a use for: modules of the crate, and the
 # libraries below them. (`rt lib` of the static library takes away a module of the crate's own name.)
 Module = collections.namedtuple("Module", "crate kept c_alone below_c_alone")
-# By the source that holds it. C alone uses columns of dates, and a date's names as a struct.
+# By the source that holds it. C alone uses columns, and a date's names as a struct.
 MODULES = {
     "module": Module("calendar_c", "crates/calendar_c/out/calendar.wasm", ("columns", "split"), ("chrono_columns",)),
-    "layers_module": Module("layers_c", "crates/layers_c/out/layers.wasm", (), ()),
+    "layers_module": Module("layers_c", "crates/layers_c/out/layers.wasm", ("open_day_columns",), ()),
 }
 SOURCES = ("instantiate", "moments", "numbers", "rounding", "calendar", "texts", "library", "duration", "plain_date", "plain_date_time",
-           "instant", "layers", "text_error", "schedule", "business_calendar", "index")
+           "instant", "layers", "text_error", "schedule", "rule", "business_calendar", "index")
 PAGE = ("answers", "words", "parts", "layer_parts", "page")
 
 

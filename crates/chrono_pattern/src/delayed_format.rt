@@ -61,7 +61,7 @@ impl<'a> Pattern<'a> {
     /// let moment = NaiveDate::from_ymd_opt(2024, 2, 29)?.and_hms_opt(9, 30, 0)?;
     /// Pattern::new(b"%F %R").ok()?.delayed(moment)?.to_string(rt.alloc()).ok()? // "2024-02-29 09:30"
     /// Pattern::new(b"%R%z").ok()?.delayed(moment).is_none() // true
-    /// Pattern::new("%d. M\u{e4}rz".as_bytes()).ok()?.delayed(moment)?.to_string(rt.alloc()).ok()? // "29. M\u{e4}rz"
+    /// Pattern::new("%d. M\u{e4}rz".as_bytes()).ok()?.delayed(moment)?.to_string(rt.alloc()).ok()? // "29. März"
     /// Pattern::new(b"%d\xb7%m").ok()?.delayed(moment).is_none() // true
     /// ```
     pub fn delayed(&self, moment: NaiveDateTime) -> Option<DelayedFormat<'a>>

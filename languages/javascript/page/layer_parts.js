@@ -1,11 +1,14 @@
 /** What the page shows of schedules and of open days, and where a text is wrong. */
 
-import { BusinessCalendar, PlainDate, Schedule, TextError } from "../src/index.js";
-import { counted, element, spoken } from "./parts.js";
-import { scheduleInWords } from "./words.js";
+import { BusinessCalendar, PlainDate, Rule, Schedule, TextError } from "../src/index.js";
+import { counted, element, MONTHS, spoken } from "./parts.js";
+import { listed, scheduleInWords } from "./words.js";
 
 /** So many times are shown of a schedule. */
 const SHOWN = 5;
+
+/** So many days of a rule are told one by one. */
+const TOLD = 12;
 
 /** The places of a text's words, between blanks, commas and semicolons. */
 const WORDS = /[^\s,;]+/g;
@@ -75,4 +78,37 @@ function openDayAfter(calendar, date) {
     }
     return "no open day follows";
   }
+}
+
+/** A month of a year as a small table, with some days marked; days of the month have their number alone. */
+function smallMonth(year, month, marked) {
+  const first = new PlainDate(year, month, 1);
+  const days = [...Array(first.dayOfWeek - 1).fill(0), ...Array.from({ length: first.daysInMonth }, (_, index) => index + 1)];
+  const rows = Array.from({ length: Math.ceil(days.length / 7) }, (_, week) => days.slice(7 * week, 7 * week + 7));
+  const cells = (row) => row.map((day) => {
+    const isMarked = marked.has(day);
+    const cell = element("td", {}, isMarked ? element("mark", {}, `${day}`) : day || "");
+    if (isMarked) {
+      cell.dataset.date = `${first.with({ day })}`;
+    }
+    return cell;
+  });
+  const body = element("tbody", {}, ...rows.map((row) => element("tr", {}, ...cells(row))));
+  return element("table", { className: "small" }, element("caption", {}, MONTHS[month - 1]), body);
+}
+
+/** Shows a year with the days of a rule marked, and says which they are. */
+export function showYear(sheet, words, text, start, year) {
+  const rule = new Rule(text, start);
+  const [first, last] = [new PlainDate(year, 1, 1), new PlainDate(year, 12, 31)];
+  const days = [...rule.iterate({ from: first, until: last })];
+  const marked = MONTHS.map(() => new Set());
+  days.forEach((it) => marked[it.month - 1].add(it.day));
+  sheet.replaceChildren(...marked.map((it, index) => smallMonth(year, index + 1, it)));
+  const told = days.slice(0, TOLD).map((it) => `${it.day} ${MONTHS[it.month - 1]}`);
+  const more = days.length > TOLD ? [`${days.length - TOLD} more`] : [];
+  const next = rule.nextAfter(last);
+  const lines = [days.length ? listed([...told, ...more]) : undefined, next && `the next one after ${year} is ${spoken(next)}`].filter(Boolean);
+  const list = element("ul", {}, ...lines.map((it) => element("li", {}, it)));
+  words.replaceChildren(element("strong", {}, `${counted(days.length, "day")} in ${year}`), list);
 }

@@ -1,8 +1,8 @@
 /** Ties what is typed to what is shown. */
 
-import { PlainDate, PlainDateTime, TextError } from "../src/index.js";
+import { BusinessCalendar, PlainDate, PlainDateTime, TextError } from "../src/index.js";
 import { answerOf } from "./answers.js";
-import { datesOfText, faultNodes, showOpenDays, showSchedule } from "./layer_parts.js";
+import { datesOfText, faultNodes, showOpenDays, showSchedule, showYear } from "./layer_parts.js";
 import { dateOfText, element, LONG_WEEKDAYS, MONTHS, moveOfKey, showBetween, showMonth, showRow } from "./parts.js";
 
 /** The commands of caltool: one line for each, and what it asks. */
@@ -33,6 +33,20 @@ const CRON_EXAMPLES = {
   "@daily": "a nickname",
   "0 25 * * *": "an hour that there is not",
 };
+
+/** Rules, and what each shows. */
+const RULE_EXAMPLES = {
+  "FREQ=MONTHLY;BYDAY=-1FR": "the last Friday of each month",
+  "FREQ=WEEKLY;INTERVAL=2;BYDAY=MO,WE": "Mondays and Wednesdays of every other week",
+  "FREQ=YEARLY;BYMONTH=11;BYDAY=4TH": "the fourth Thursday of November",
+  "FREQ=DAILY;COUNT=10": "ten days",
+  "FREQ=MONTHLY;BYMONTHDAY=31": "the 31st, where there is one",
+  "FREQ=MONTHLY;BYDAY=MO,TU,WE,TH,FR;BYSETPOS=-1": "the last weekday of each month",
+  "FREQ=YEARLY;BYWEEKNO=1,99": "a week that there is not",
+};
+
+/** Calendars whose holidays are known. */
+const KNOWN = { "": "my own list", usFederal: "the United States", target: "the euro (TARGET)", englandAndWales: "England and Wales" };
 
 /** Saturday and Sunday. */
 const USUAL_WEEKEND = [6, 7];
@@ -161,6 +175,39 @@ function startMonth() {
   show(today);
 }
 
+/** The year of a text; a RangeError if the calendar does not have it. */
+const yearOfText = (text) => new PlainDate(text === "" ? NaN : text, 1, 1).year;
+
+function startRule() {
+  const [rule, start, year, sheet, words, trouble] = ["rule", "rule-start", "rule-year", "year-sheet", "rule-words", "rule-trouble"].map(at);
+  const show = () => {
+    sheet.replaceChildren();
+    words.replaceChildren();
+    orRefused(trouble, [rule, start, year], () => {
+      const [from, shown] = [read(start, dateOfText), read(year, yearOfText)];
+      read(rule, (text) => showYear(sheet, words, text, from, shown));
+    });
+  };
+  [rule, start, year].forEach((it) => it.addEventListener("input", show));
+  chips(at("rule-examples"), rule, RULE_EXAMPLES, String, show);
+  show();
+}
+
+/** A list to choose known holidays from, which are put into a field for the years of two dates. */
+function knownHolidays(select, field, years, weekend, show) {
+  select.replaceChildren(...Object.entries(KNOWN).map(([value, name]) => element("option", { value }, name)));
+  select.addEventListener("change", () => {
+    orRefused(at("holidays-trouble"), [field], () => {
+      const chosen = select.value === "" ? [] : BusinessCalendar.of(select.value, ...years(), { weekend: weekend() }).holidays;
+      field.value = chosen.join(" ");
+      show();
+    });
+  });
+  field.addEventListener("input", () => {
+    select.value = "";
+  });
+}
+
 /** Boxes for the weekdays that are closed. */
 function weekendBoxes(fieldset) {
   const boxes = LONG_WEEKDAYS.map((name, index) => {
@@ -184,6 +231,8 @@ function startBetween() {
     });
   };
   [from, to, holidays, at("weekend")].forEach((it) => it.addEventListener("input", show));
+  const years = () => [from, to].map((it) => dateOfText(it.value).year).sort((one, other) => one - other);
+  knownHolidays(at("known"), holidays, years, weekend, show);
   at("swap").addEventListener("click", () => {
     [from.value, to.value] = [to.value, from.value];
     show();
@@ -208,6 +257,7 @@ function startRow() {
 }
 
 startSchedule();
+startRule();
 startBetween();
 startMonth();
 startLine();

@@ -1,14 +1,17 @@
 /** Open days, and the parts of years that day counts give. */
 
-import { addOpenDays, isOpenDay, MOST_HOLIDAYS, openDaysBetween, rolled, yearPart } from "./layers.js";
+import { addOpenDays, areHolidays, easterOf, holidaysOf, isOpenDay, MOST_HOLIDAYS, openDaysBetween, rolled, yearPart } from "./layers.js";
 import { NONE } from "./library.js";
-import { clipped, integer, optionsOf } from "./numbers.js";
+import { clipped, integer, isInt32, optionsOf } from "./numbers.js";
 import { PlainDate, setOf } from "./plain_date.js";
 
 /** Where a closed date goes, in the order of the library (ISDA 2006, section 4.12). */
 const ROLLS = [
   "unadjusted", "following", "preceding", "modifiedFollowing", "modifiedPreceding", "nearestIsda", "nearestQuantLib",
 ];
+
+/** The calendars whose holidays are known, in the order of the library. */
+const KNOWN = ["usFederal", "target", "englandAndWales"];
 
 /** The day counts, in the order of the library (ISDA 2006, section 4.16). */
 const DAY_COUNTS = ["actualActualIsda", "actual360", "actual365Fixed", "thirty360", "thirtyE360"];
@@ -43,9 +46,25 @@ export class BusinessCalendar {
     const dates = Array.from(holidays, (it) => PlainDate.from(it)).filter((it) => !isOnWeekend(it));
     this.#weekend = setOf(weekend);
     this.#holidays = Int32Array.from(new Set(dates.map((it) => it.dayNumber))).sort();
-    if (this.#holidays.length > MOST_HOLIDAYS) {
+    const shown = { weekend: this.#weekend, holidays: this.#holidays.subarray(0, MOST_HOLIDAYS + 1) };
+    if (!areHolidays(shown)) {
       throw new RangeError(`${this.#holidays.length} holidays: there are at most ${MOST_HOLIDAYS}`);
     }
+  }
+
+  /**
+   * The calendar with the holidays of some years that a name stands for: `usFederal`, `target` (the euro's payment system) or
+   * `englandAndWales`. New Year's Day can be kept in the year before, so ask for one year more. RangeError for too many holidays.
+   */
+  static of(name, firstYear, lastYear, options) {
+    const { weekend = USUAL_WEEKEND } = optionsOf(options);
+    const [first, last] = [integer(firstYear, "year"), integer(lastYear, "year")];
+    const place = placeOf(name, KNOWN, "calendar");
+    const numbers = isInt32(first) && isInt32(last) ? holidaysOf(place, first, last, setOf(weekend)) : undefined;
+    if (numbers === undefined) {
+      throw new RangeError(`the holidays from ${first} to ${last}: too many, or no such years`);
+    }
+    return new BusinessCalendar({ weekend, holidays: Array.from(numbers, (it) => PlainDate.fromDayNumber(it)) });
   }
 
   /** The weekend and the holidays as the library takes them. */
@@ -107,4 +126,14 @@ export function dayCount(kind, from, to) {
   const [start, end] = [PlainDate.from(from).dayNumber, PlainDate.from(to).dayNumber];
   const [numerator, denominator] = yearPart(placeOf(kind, DAY_COUNTS, "day count"), start, end);
   return { numerator, denominator };
+}
+
+/** Easter Sunday of a year, as the Gregorian churches have it; RangeError if the calendar has no such year. */
+export function easter(year) {
+  const named = integer(year, "year");
+  const number = isInt32(named) ? easterOf(named) : NONE;
+  if (number === NONE) {
+    throw new RangeError(`year ${named}: the calendar does not have it`);
+  }
+  return PlainDate.fromDayNumber(number);
 }

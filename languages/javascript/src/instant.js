@@ -70,13 +70,9 @@ export class Instant {
     return new Instant(nanosecondsOf(local) - offset);
   }
 
-  /** The instant with so many milliseconds since 1970, as `Date.now()` counts them. */
+  /** The instant with so many milliseconds since 1970, as `Date.now()` counts them; RangeError for no whole number. */
   static fromEpochMilliseconds(milliseconds) {
-    const number = +milliseconds;
-    if (!Number.isInteger(number)) {
-      throw new RangeError(`milliseconds ${milliseconds}: no whole number`);
-    }
-    return new Instant(BigInt(number) * 1_000_000n);
+    return new Instant(BigInt(+milliseconds) * 1_000_000n);
   }
 
   /** The instant with so many nanoseconds since 1970, a BigInt. */

@@ -6,6 +6,7 @@
 
 import { instantiate } from "./instantiate.js";
 import { MODULE } from "./layers_module.js";
+import { NONE } from "./library.js";
 import { getMoment, MOMENT_SIZE, setMoment } from "./moments.js";
 import { TextError } from "./text_error.js";
 
@@ -131,6 +132,23 @@ function putCalendar(room, { weekend, holidays }) {
   return [weekend, address(room, HOLIDAYS), BigInt(holidays.length)];
 }
 
+/** Whether holidays are those of a calendar: they rise strictly, none is on the weekend, and they are not too many. */
+export function areHolidays(calendar) {
+  const room = open();
+  return room.layers.calendar_holidays_check(...putCalendar(room, calendar), address(room, FAULT)) !== 0;
+}
+
+/** The numbers of the holidays of a known calendar in some years; undefined if they are too many, or there is no such year. */
+export function holidaysOf(which, firstYear, lastYear, weekend) {
+  const room = open();
+  const out = [address(room, HOLIDAYS), BigInt(MOST_HOLIDAYS)];
+  const count = room.layers.calendar_holidays_of(which, firstYear, lastYear, weekend, ...out);
+  return count === NONE ? undefined : Int32Array.from({ length: count }, (_, index) => room.view.getInt32(HOLIDAYS + 4 * index, true));
+}
+
+/** The number of Easter Sunday of a year; the number of no date if there is no such year. */
+export const easterOf = (year) => open().layers.calendar_easter(year);
+
 /** Whether a date, by its number, is open in a calendar: a set of weekdays, and the numbers of holidays. */
 export function isOpenDay(calendar, date) {
   const room = open();
@@ -161,4 +179,47 @@ export function yearPart(kind, from, to) {
   const room = open();
   room.layers.calendar_day_count(address(room, ANSWER), kind, from, to);
   return [0, 8].map((it) => Number(room.view.getBigInt64(ANSWER + it, true)));
+}
+
+/** The bytes of a text that is a recurrence rule; a TextError if it is none. */
+export function checkRule(text) {
+  const room = open();
+  const encoded = putText(room, text);
+  const [at, fault] = [TEXT, FAULT].map((it) => address(room, it));
+  if (!room.layers.calendar_rule_check(at, BigInt(encoded.length), fault)) {
+    throwFault(room, text, encoded, room.layers.calendar_rule_fault_text);
+  }
+  return encoded;
+}
+
+/** Puts a rule into the room, and answers what a function takes as its text. */
+function putRule(room, rule) {
+  room.bytes.set(rule, TEXT);
+  return [address(room, TEXT), BigInt(rule.length)];
+}
+
+/** The number of the first instance after a day of a rule that begins on a start; the number of no date if there is none. */
+export function nextInstance(rule, start, day) {
+  const room = open();
+  return room.layers.calendar_rule_next(...putRule(room, rule), start, day);
+}
+
+/** The number of the last instance before a day; the number of no date if there is none. */
+export function previousInstance(rule, start, day) {
+  const room = open();
+  return room.layers.calendar_rule_prev(...putRule(room, rule), start, day);
+}
+
+/** Whether a day is an instance of a rule that begins on a start. */
+export function isInstance(rule, start, day) {
+  const room = open();
+  return room.layers.calendar_rule_is_instance(...putRule(room, rule), start, day) !== 0;
+}
+
+/** The numbers of the first instances, at most `AT_ONCE`, from one day on and up to another. */
+export function instancesBetween(rule, start, from, until) {
+  const room = open();
+  const out = [address(room, DUE), BigInt(AT_ONCE)];
+  const count = Number(room.layers.calendar_rule_instances(...putRule(room, rule), start, from, until, ...out));
+  return Array.from({ length: count }, (_, index) => room.view.getInt32(DUE + 4 * index, true));
 }

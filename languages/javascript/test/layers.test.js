@@ -7,7 +7,7 @@ import { strict as assert } from "node:assert";
 import { inspect } from "node:util";
 import { test } from "node:test";
 
-import { BusinessCalendar, dayCount, PlainDate, PlainDateTime, Schedule, TextError, version } from "proved-calendar";
+import { BusinessCalendar, dayCount, easter, PlainDate, PlainDateTime, Rule, Schedule, TextError, version } from "proved-calendar";
 
 const refused = (call) => assert.throws(call, RangeError);
 const texts = (moments) => Array.from(moments, String);
@@ -179,6 +179,31 @@ test("day_count", () => {
   refused(() => dayCount("30/360", "2024-01-31", "2024-03-31"));
 });
 
+test("holidays_of", () => {
+  const target = "2024-01-01 2024-03-29 2024-04-01 2024-05-01 2024-12-25 2024-12-26";
+  assert.equal(texts(BusinessCalendar.of("target", 2024, 2024).holidays).join(" "), target);
+  // (Independence Day of 2026 is a Saturday, and kept on Friday)
+  assert.equal(BusinessCalendar.of("usFederal", 2026, 2026).isOpen("2026-07-03"), false);
+  assert.deepEqual(["2024-08-26", "2025-04-21", "2025-04-22"].map((it) => BusinessCalendar.of("englandAndWales", 2024, 2025).isOpen(it)), [false, false, true]);
+  const sundays = BusinessCalendar.of("target", 2022, 2022, { weekend: [7] });
+  assert.deepEqual([sundays.weekend, sundays.isOpen("2022-01-01"), sundays.isOpen("2022-01-08")], [[7], false, true]);
+  for (const [name, first, last] of [["target", 300_000, 300_000], ["target", 2 ** 32 + 2024, 2 ** 32 + 2024], ["target", 2_000, 2_400], ["euro", 2024, 2024]]) {
+    refused(() => BusinessCalendar.of(name, first, last));
+  }
+});
+
+test("easter", () => {
+  assert.deepEqual(texts([2024, 2025, 1961, 2038].map((it) => easter(it))), ["2024-03-31", "2025-04-20", "1961-04-02", "2038-04-25"]);
+  refused(() => easter(300_000));
+  refused(() => easter(2 ** 32 + 2024));
+});
+
+test("holidays_check", () => {
+  const days = Array.from({ length: 20_000 }, (_, index) => PlainDate.fromDayNumber(738_945 + index));
+  assert.throws(() => new BusinessCalendar({ weekend: [], holidays: days }), { message: "20000 holidays: there are at most 1000" });
+  assert.equal(new BusinessCalendar({ weekend: [], holidays: days.slice(0, 1_000) }).holidays.length, 1_000);
+});
+
 test("calendars as values", () => {
   const calendar = new BusinessCalendar({ weekend: [7, 6, 6], holidays: ["2024-04-01", "2024-03-30", "2024-03-29", "2024-04-01", "0001-01-01"] });
   assert.deepEqual([calendar.weekend, texts(calendar.holidays)], [[6, 7], ["0001-01-01", ...EASTER]]);
@@ -189,4 +214,49 @@ test("calendars as values", () => {
   refused(() => new BusinessCalendar({ weekend: [], holidays: days }));
   refused(() => new BusinessCalendar({ weekend: [8] }));
   refused(() => new BusinessCalendar({ holidays: ["2024-02-30"] }));
+});
+
+test("rule_check", () => {
+  const rule = new Rule("FREQ=MONTHLY;BYDAY=-1FR", "2024-01-01");
+  assert.equal(`${rule} ${rule.start} ${inspect(rule)}`, "FREQ=MONTHLY;BYDAY=-1FR 2024-01-01 Rule FREQ=MONTHLY;BYDAY=-1FR from 2024-01-01");
+  assert.equal(Object.prototype.toString.call(new Rule("freq=daily", rule.start)), "[object Rule]");
+  refused(() => new Rule("FREQ=DAILY", "2024-02-30"));
+});
+
+test("rule_fault_text", () => {
+  for (const [text, start, end] of [["FREQ=YEARLY;BYMONTH=13", 20, 22], ["FREQ=DAILY;BYMONTH=1,13,2", 21, 23], ["", 0, 0]]) {
+    assert.throws(() => new Rule(text, "2024-01-01"), { name: "TextError", text, start, end });
+  }
+  assert.throws(() => new Rule("FREQ=YEARLY;BYMONTH=13", "2024-01-01"), /BYMONTH/);
+});
+
+test("rule_next", () => {
+  const fridays = new Rule("FREQ=MONTHLY;BYDAY=-1FR", "2024-01-01");
+  const found = ["2024-01-01", "2024-01-26", "2023-01-01"].map((it) => `${fridays.nextAfter(it)}`);
+  assert.deepEqual(found, ["2024-01-26", "2024-02-23", "2024-01-26"]);
+  assert.equal(new Rule("FREQ=DAILY;COUNT=3", "2024-01-01").nextAfter("2024-01-03"), undefined);
+});
+
+test("rule_prev", () => {
+  const fridays = new Rule("FREQ=MONTHLY;BYDAY=-1FR", "2024-01-01");
+  assert.deepEqual(["2024-03-01", "2024-02-23"].map((it) => `${fridays.previousBefore(it)}`), ["2024-02-23", "2024-01-26"]);
+  assert.equal(fridays.previousBefore("2024-01-26"), undefined);
+});
+
+test("rule_is_instance", () => {
+  const rule = new Rule("FREQ=MONTHLY;BYMONTHDAY=31", "2024-01-01");
+  assert.deepEqual(["2024-01-31", "2024-02-29", "2024-03-31", "2023-12-31"].map((it) => rule.includes(it)), [true, false, true, false]);
+});
+
+test("rule_instances", () => {
+  const daily = new Rule("FREQ=DAILY", "2024-02-01");
+  for (const count of [0, 1, 63, 64, 65, 200]) {
+    const found = [...daily.iterate({ until: PlainDate.from("2024-01-31").add({ days: count }) })];
+    assert.equal(found.length, count);
+    assert.ok(found.every((it, index) => it.dayNumber === daily.start.dayNumber + index));
+  }
+  assert.deepEqual(texts(daily.iterate({ from: "2024-02-29", until: "2024-03-01" })), ["2024-02-29", "2024-03-01"]);
+  assert.deepEqual(texts(new Rule("FREQ=WEEKLY;COUNT=3", "2024-02-01")), ["2024-02-01", "2024-02-08", "2024-02-15"]);
+  assert.deepEqual(texts(new Rule("FREQ=DAILY", "+262142-12-31")), ["+262142-12-31"]);
+  refused(() => daily.iterate({ from: "2024-02-30" }));
 });

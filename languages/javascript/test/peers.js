@@ -6,7 +6,7 @@
 
 import { readFileSync } from "node:fs";
 
-import { BusinessCalendar, PlainDate, PlainDateTime, Schedule } from "proved-calendar";
+import { BusinessCalendar, PlainDate, PlainDateTime, Rule, Schedule } from "proved-calendar";
 
 const [alike, leftOut, differ] = [{}, {}, []];
 
@@ -38,6 +38,15 @@ const KINDS = {
       }
     }
     compare("schedule", `the first of ${text} after ${from}`, `${schedule.iterate(from).next().value}`, `${found[0]}`);
+  },
+  rule(text, start, day, next, previous, first) {
+    const [rule, from] = [new Rule(text, PlainDate.fromDayNumber(start)), PlainDate.fromDayNumber(day)];
+    compare("rule", `${text} from ${rule.start} after ${from}`, rule.nextAfter(from)?.dayNumber ?? "-", next);
+    compare("rule", `${text} from ${rule.start} before ${from}`, rule.previousBefore(from)?.dayNumber ?? "-", previous);
+    const wanted = first === "" ? [] : first.split(",");
+    const days = Array.from(rule.iterate(), (it) => it.dayNumber).slice(0, wanted.length + 1);
+    compare("rule", `${text} from ${rule.start}`, days.slice(0, 100), wanted);
+    compare("rule", `whether ${from} is one of ${text} from ${rule.start}`, rule.includes(from), new Set(days).has(Number(day)) || rule.includes(from));
   },
   open(weekend, holidays, start, n, moved, first, last, count) {
     const dates = holidays === "" ? [] : holidays.split(",").map((it) => PlainDate.fromDayNumber(it));

@@ -10,7 +10,7 @@ import threading
 import unittest
 from fractions import Fraction
 
-from proved_calendar import BusinessCalendar, Date, DateTime, Rule, RuleSet, Schedule, TextError, Weekday, day_count, easter
+from proved_calendar import BusinessCalendar, Date, DateTime, Duration, Rule, RuleSet, Schedule, TextError, Weekday, day_count, easter
 
 MON, TUE, WED, THU, FRI, SAT, SUN = Weekday
 GOOD_FRIDAY, EASTER_MONDAY = Date(2024, 3, 29), Date(2024, 4, 1)
@@ -187,6 +187,9 @@ class Rules(unittest.TestCase):
             self.assertEqual(TIMED.before(at), weeks[more > 0])
             self.assertEqual(TIMED.before(at, True), weeks[more >= 0])
             self.assertIs(at in TIMED, more == 0)
+        for seconds, before, after in ((-1, 0, 1), (1, 1, 2)):
+            at = weeks[1] + Duration(seconds=seconds)
+            self.assertEqual((TIMED.before(at), TIMED.after(at)), (weeks[before], weeks[after]))
         self.assertEqual(TIMED.between(weeks[0], weeks[4]), weeks[1:4])
         self.assertEqual(TIMED.between(after=weeks[0], before=weeks[4], inc=True), weeks)
         self.assertFalse(Date(2024, 1, 1) in TIMED or datetime.date(2024, 1, 1) in TIMED or 1 in TIMED or datetime.datetime(2024, 1, 1, 9, 30) in TIMED)
@@ -221,7 +224,8 @@ class Rules(unittest.TestCase):
 
     def test_sequence(self):
         days = [JANUARY + it for it in range(3000)]
-        rule = Rule("FREQ=DAILY;COUNT=3000", JANUARY)
+        self.assertEqual([*Rule("FREQ=DAILY;COUNT=3000", JANUARY)], days)
+        rule = Rule(f"FREQ=DAILY;UNTIL={days[-1]:%Y%m%d}", JANUARY)
         self.assertEqual([*rule], days)
         self.assertEqual(rule.count(), 3000)
         for place in (0, 1, 2, 5, 13, 14, 61, 62, 63, 64, 1023, 1024, 1025, 2047, 2048, 2999, -1, -2, -1024, -3000):

@@ -1,5 +1,9 @@
 //! Open days, and the parts of years that day counts give.
 
+use core::error::Error;
+use core::fmt;
+use core::ops::RangeInclusive;
+
 use crate::columns::DayNumbers;
 use crate::layer_calls::*;
 use crate::{Date, WeekdaySet};
@@ -47,18 +51,28 @@ pub enum Roll {
 }
 
 impl<'a> BusinessCalendar<'a> {
-    /// The calendar of a weekend and holidays; `None` unless the holidays rise strictly, none is on the weekend, and they are at most
-    /// 1,000.
+    /// The calendar of a weekend and holidays. The holidays have to rise strictly, none may be on the weekend, and they are at most 1,000.
     ///
     /// ```
     /// use proved_calendar::{BusinessCalendar, Date, WeekdaySet};
-    /// assert!(BusinessCalendar::new(WeekdaySet::default(), &[Date::MIN, Date::MAX]).is_some());
-    /// assert!(BusinessCalendar::new(WeekdaySet::default(), &[Date::MAX, Date::MIN]).is_none());
+    /// let none = WeekdaySet::default();
+    /// assert!(BusinessCalendar::new(none, &[Date::MIN, Date::MAX]).is_ok());
+    /// assert_eq!(BusinessCalendar::new(none, &[Date::MAX, Date::MIN]).unwrap_err().index(), 1);
     /// ```
-    #[must_use]
-    pub fn new(weekend: WeekdaySet, holidays: &'a [Date]) -> Option<BusinessCalendar<'a>> {
-        let calendar = BusinessCalendar { weekend, holidays };
-        (calendar.open_days(Date::MIN, Date::MIN) != i64::MIN).then_some(calendar)
+    pub fn new(
+        weekend: WeekdaySet,
+        holidays: &'a [Date],
+    ) -> Result<BusinessCalendar<'a>, HolidaysError> {
+        let (days, mut fault) = (holidays.day_numbers(), Fault::NONE);
+        // SAFETY: the slice has as many elements as its length says.
+        let is_right = unsafe {
+            calendar_holidays_check(weekend.members, days.as_ptr(), days.len(), &mut fault)
+        };
+        if is_right {
+            Ok(BusinessCalendar { weekend, holidays })
+        } else {
+            Err(HolidaysError { fault })
+        }
     }
 
     /// The weekend.
@@ -158,6 +172,101 @@ impl<'a> BusinessCalendar<'a> {
         };
         Date::from_number(found)
     }
+}
+
+/// Why holidays are not those of a calendar.
+///
+/// ```
+/// use proved_calendar::{BusinessCalendar, Date, Weekday, WeekdaySet};
+/// let saturday = Date::from_ymd(2024, 3, 2).unwrap();
+/// let wrong = BusinessCalendar::new(WeekdaySet::from([Weekday::Sat]), &[saturday]).unwrap_err();
+/// assert_eq!(wrong.to_string(), "holiday 0 is on the weekend");
+/// ```
+#[derive(Clone, Copy, Debug, PartialEq, Eq)]
+pub struct HolidaysError {
+    fault: Fault,
+}
+
+impl HolidaysError {
+    /// The place of the first wrong holiday in the slice, from 0.
+    ///
+    /// ```
+    /// use proved_calendar::{BusinessCalendar, Date, WeekdaySet};
+    /// let twice = [Date::UNIX_EPOCH; 2];
+    /// assert_eq!(BusinessCalendar::new(WeekdaySet::default(), &twice).unwrap_err().index(), 1);
+    /// ```
+    #[must_use]
+    pub const fn index(&self) -> usize {
+        self.fault.byte
+    }
+}
+
+impl fmt::Display for HolidaysError {
+    fn fmt(&self, f: &mut fmt::Formatter<'_>) -> fmt::Result {
+        let what = match self.fault.code {
+            1 => "is one too many",
+            3 => "does not come after the one before",
+            _ => "is on the weekend",
+        };
+        write!(f, "holiday {} {what}", self.index())
+    }
+}
+
+impl Error for HolidaysError {}
+
+/// A calendar whose holidays are known.
+///
+/// ```
+/// use proved_calendar::{Date, KnownCalendar, Weekday, WeekdaySet};
+/// let mut out = [Date::MIN; 20];
+/// let weekend = WeekdaySet::from([Weekday::Sat, Weekday::Sun]);
+/// let holidays = KnownCalendar::Target.holidays(2024..=2024, weekend, &mut out).unwrap();
+/// assert_eq!(holidays[1].to_string(), "2024-03-29");
+/// ```
+#[derive(Clone, Copy, Debug, PartialEq, Eq, Hash)]
+pub enum KnownCalendar {
+    /// The federal holidays of the United States.
+    UsFederal,
+    /// The closed days of TARGET, the euro's payment system.
+    Target,
+    /// The bank holidays of England and Wales.
+    EnglandAndWales,
+}
+
+impl KnownCalendar {
+    /// The holidays of some years, but for those on the weekend, which are written into a slice. `None` if they do not fit, or the
+    /// calendar does not have the years. New Year's Day can be kept in the year before, so ask for one year more.
+    ///
+    /// ```
+    /// use proved_calendar::{Date, KnownCalendar, WeekdaySet};
+    /// let mut out = [Date::MIN; 20];
+    /// let days = KnownCalendar::UsFederal.holidays(2024..=2024, WeekdaySet::default(), &mut out);
+    /// assert_eq!(days.unwrap().len(), 11);
+    /// ```
+    #[must_use]
+    pub fn holidays(
+        self,
+        years: RangeInclusive<i32>,
+        weekend: WeekdaySet,
+        out: &mut [Date],
+    ) -> Option<&[Date]> {
+        let (first, last, room) = (*years.start(), *years.end(), out.len());
+        let to: *mut i32 = out.as_mut_ptr().cast();
+        // SAFETY: in memory a date is its day number, the library writes those of dates alone, and at most so many.
+        let count =
+            unsafe { calendar_holidays_of(self as u32, first, last, weekend.members, to, room) };
+        out.get(..usize::try_from(count).ok()?)
+    }
+}
+
+/// Easter Sunday of a year, as the Gregorian churches have it; `None` if the calendar has no such year.
+///
+/// ```
+/// assert_eq!(proved_calendar::easter(2024).unwrap().to_string(), "2024-03-31");
+/// ```
+#[must_use]
+pub fn easter(year: i32) -> Option<Date> {
+    Date::from_number(calendar_easter(year))
 }
 
 /// How the part of a year from one date to another is counted (ISDA 2006, section 4.16).

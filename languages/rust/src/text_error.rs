@@ -27,6 +27,8 @@ pub struct TextError {
 pub(crate) enum Kind {
     /// A [`crate::Schedule`].
     Schedule,
+    /// A rule.
+    Rule,
 }
 
 impl TextError {
@@ -52,7 +54,8 @@ impl TextError {
         self.fault.end
     }
 
-    /// The field that is wrong, from 1 for minutes to 5 for weekdays; `None` if it is none of them.
+    /// The field of a schedule or the part of a rule that is wrong, from 1; `None` if it is none of them. The fields are minutes, hours,
+    /// days, months and weekdays.
     ///
     /// ```
     /// let wrong = "* * * foo *".parse::<proved_calendar::Schedule>().unwrap_err();
@@ -75,6 +78,7 @@ impl fmt::Display for TextError {
         let length = unsafe {
             match self.kind {
                 Kind::Schedule => calendar_schedule_fault_text(&self.fault, room, count),
+                Kind::Rule => calendar_rule_fault_text(&self.fault, room, count),
             }
         };
         let sentence = text.get(..length as usize).unwrap_or_default();

@@ -2,7 +2,8 @@
 //! function, named after it, and then what Rust adds.
 
 use proved_calendar::{
-    BusinessCalendar, Date, DateTime, DayCount, Roll, Schedule, Weekday, WeekdaySet,
+    columns, BusinessCalendar, Date, DateTime, DayCount, KnownCalendar, Roll, Rule, Schedule,
+    Weekday, WeekdaySet,
 };
 use Weekday::{Fri, Sat, Sun};
 
@@ -169,7 +170,7 @@ fn times_of_schedules() {
 }
 
 /// Good Friday and Easter Monday of 2024.
-fn easter() -> [Date; 2] {
+fn easter_days() -> [Date; 2] {
     [date("2024-03-29"), date("2024-04-01")]
 }
 
@@ -179,7 +180,7 @@ fn weekend() -> WeekdaySet {
 
 #[test]
 fn is_open_day() {
-    let days = easter();
+    let days = easter_days();
     let calendar = BusinessCalendar::new(weekend(), &days).unwrap();
     let open = [
         "2024-03-28",
@@ -198,7 +199,7 @@ fn is_open_day() {
 
 #[test]
 fn add_open_days() {
-    let days = easter();
+    let days = easter_days();
     let calendar = BusinessCalendar::new(weekend(), &days).unwrap();
     for (start, n, wanted) in [
         ("2024-03-28", 1, "2024-04-02"),
@@ -218,7 +219,7 @@ fn add_open_days() {
 
 #[test]
 fn open_days_between() {
-    let days = easter();
+    let days = easter_days();
     let calendar = BusinessCalendar::new(weekend(), &days).unwrap();
     let [first, last] = [date("2024-03-01"), date("2024-04-01")];
     assert_eq!(
@@ -244,7 +245,7 @@ fn open_days_between() {
 
 #[test]
 fn roll() {
-    let days = easter();
+    let days = easter_days();
     let calendar = BusinessCalendar::new(weekend(), &days).unwrap();
     for (start, roll, wanted) in [
         ("2024-03-29", Roll::Unadjusted, "2024-03-29"),
@@ -289,23 +290,261 @@ fn day_count() {
 }
 
 #[test]
-fn calendars() {
-    let days = easter();
+fn holidays_check() {
+    let days = easter_days();
     let [friday, monday] = days;
-    assert!(BusinessCalendar::new(weekend(), &[monday, friday]).is_none());
-    assert!(BusinessCalendar::new(weekend(), &[friday, friday]).is_none());
-    assert!(BusinessCalendar::new(weekend(), &[date("2024-03-30")]).is_none());
+    let saturday = date("2024-03-30");
+    for (holidays, index, sentence) in [
+        (
+            &[monday, friday][..],
+            1,
+            "holiday 1 does not come after the one before",
+        ),
+        (
+            &[friday, friday],
+            1,
+            "holiday 1 does not come after the one before",
+        ),
+        (
+            &[friday, saturday, monday],
+            1,
+            "holiday 1 is on the weekend",
+        ),
+    ] {
+        let wrong = BusinessCalendar::new(weekend(), holidays).unwrap_err();
+        assert_eq!(
+            (wrong.index(), wrong.to_string().as_str()),
+            (index, sentence)
+        );
+    }
     let most: Vec<Date> = (0..1_001)
         .map(|it| Date::from_number(738_945 + it).unwrap())
         .collect();
     let none = WeekdaySet::default();
-    assert!(
-        BusinessCalendar::new(none, &most[1..]).is_some()
-            && BusinessCalendar::new(none, &most).is_none()
+    assert!(BusinessCalendar::new(none, &most[1..]).is_ok());
+    let wrong = BusinessCalendar::new(none, &most).unwrap_err();
+    assert_eq!(
+        (wrong.index(), wrong.to_string().as_str()),
+        (1_000, "holiday 1000 is one too many")
     );
     let calendar = BusinessCalendar::new(weekend(), &days).unwrap();
     assert_eq!(
         (calendar.weekend(), calendar.holidays()),
         (weekend(), &days[..])
     );
+}
+
+#[test]
+fn holidays_of() {
+    let mut out = [Date::MIN; 30];
+    let texts = |days: &[Date]| {
+        days.iter()
+            .map(|it| it.to_string())
+            .collect::<Vec<_>>()
+            .join(" ")
+    };
+    let target = KnownCalendar::Target
+        .holidays(2024..=2024, weekend(), &mut out)
+        .unwrap();
+    assert_eq!(
+        texts(target),
+        "2024-01-01 2024-03-29 2024-04-01 2024-05-01 2024-12-25 2024-12-26"
+    );
+    // (Independence Day of 2026 is a Saturday, and kept on Friday)
+    let federal = KnownCalendar::UsFederal
+        .holidays(2026..=2026, weekend(), &mut out)
+        .unwrap();
+    assert!(federal.contains(&date("2026-07-03")) && federal.len() == 11);
+    let england = KnownCalendar::EnglandAndWales
+        .holidays(2024..=2025, weekend(), &mut out)
+        .unwrap();
+    assert!(
+        england.contains(&date("2024-08-26"))
+            && england.contains(&date("2025-04-21"))
+            && england.len() == 16
+    );
+    assert_eq!(
+        KnownCalendar::Target.holidays(2024..=2024, weekend(), &mut out[..5]),
+        None
+    );
+    assert_eq!(
+        KnownCalendar::Target.holidays(300_000..=300_000, weekend(), &mut out),
+        None
+    );
+}
+
+#[test]
+fn easter() {
+    for (year, wanted) in [
+        (2024, "2024-03-31"),
+        (2025, "2025-04-20"),
+        (1961, "1961-04-02"),
+        (2038, "2038-04-25"),
+        (300_000, "none"),
+    ] {
+        assert_eq!(text(proved_calendar::easter(year)), wanted);
+    }
+}
+
+/// Days around Easter of 2024, and none.
+fn column() -> [i32; 5] {
+    ["2024-03-28", "2024-03-29", "2024-03-31", "2024-04-02"]
+        .map(|it| date(it).number())
+        .into_iter()
+        .chain([columns::NO_DATE])
+        .collect::<Vec<_>>()
+        .try_into()
+        .unwrap()
+}
+
+#[test]
+fn column_is_open_day() {
+    let days = easter_days();
+    let calendar = BusinessCalendar::new(weekend(), &days).unwrap();
+    let mut marks = [true; 5];
+    columns::is_open_day(&calendar, &column(), &mut marks);
+    assert_eq!(marks, [true, false, false, true, false]);
+}
+
+#[test]
+fn column_add_open_days() {
+    let days = easter_days();
+    let calendar = BusinessCalendar::new(weekend(), &days).unwrap();
+    let mut moved = [0; 5];
+    columns::add_open_days(&calendar, &column(), 1, &mut moved);
+    let [second, third] = [date("2024-04-02").number(), date("2024-04-03").number()];
+    assert_eq!(moved, [second, second, second, third, columns::NO_DATE]);
+}
+
+#[test]
+fn column_open_days_between() {
+    let days = easter_days();
+    let calendar = BusinessCalendar::new(weekend(), &days).unwrap();
+    let (mut counts, until) = ([0; 5], [date("2024-04-05").number(); 5]);
+    columns::open_days_between(&calendar, &column(), &until, &mut counts);
+    assert_eq!(counts, [4, 3, 3, 3, i64::MIN]);
+}
+
+#[test]
+fn column_roll() {
+    let days = easter_days();
+    let calendar = BusinessCalendar::new(weekend(), &days).unwrap();
+    let mut rolled = [0; 5];
+    columns::roll(&calendar, &column(), Roll::ModifiedFollowing, &mut rolled);
+    let [before, after] = [date("2024-03-28").number(), date("2024-04-02").number()];
+    assert_eq!(rolled, [before, before, before, after, columns::NO_DATE]);
+}
+
+#[test]
+fn column_from_date32() {
+    let mut dates = [0; 4];
+    columns::from_date32(&[0, -719_162, i32::MAX, i32::MIN], &mut dates);
+    assert_eq!(dates, [719_163, 1, columns::NO_DATE, columns::NO_DATE]);
+}
+
+#[test]
+fn column_to_date32() {
+    let mut days = [0; 3];
+    columns::to_date32(&[719_163, 1, columns::NO_DATE], &mut days);
+    assert_eq!(days, [0, -719_162, columns::NO_DATE]);
+}
+
+#[test]
+#[should_panic(expected = "different lengths")]
+fn columns_of_different_lengths() {
+    let calendar = BusinessCalendar::new(weekend(), &[]).unwrap();
+    columns::is_open_day(&calendar, &column(), &mut [false; 4]);
+}
+
+fn rule(text: &str) -> Rule {
+    text.parse().unwrap()
+}
+
+#[test]
+fn rule_check() {
+    for text in [
+        "FREQ=MONTHLY;BYDAY=-1FR",
+        "freq=daily;count=3",
+        "FREQ=YEARLY;BYWEEKNO=20;BYDAY=MO",
+    ] {
+        assert_eq!(rule(text).to_string(), text);
+    }
+    for (text, start, end) in [
+        ("FREQ=YEARLY;BYMONTH=13", 20, 22),
+        ("FREQ=DAILY;BYMONTH=1,13,2", 21, 23),
+        ("", 0, 0),
+    ] {
+        let wrong = text.parse::<Rule>().unwrap_err();
+        assert_eq!((wrong.start(), wrong.end()), (start, end), "{text}");
+    }
+}
+
+#[test]
+fn rule_fault_text() {
+    let wrong = "FREQ=YEARLY;BYMONTH=13".parse::<Rule>().unwrap_err();
+    assert_eq!(wrong.to_string(), "BYMONTH: number out of range");
+    assert_eq!(wrong.field(), Some(5));
+}
+
+#[test]
+fn rule_next() {
+    let fridays = rule("FREQ=MONTHLY;BYDAY=-1FR");
+    let start = date("2024-01-01");
+    for (day, wanted) in [
+        ("2024-01-01", "2024-01-26"),
+        ("2024-01-26", "2024-02-23"),
+        ("2023-01-01", "2024-01-26"),
+        ("+262142-12-31", "none"),
+    ] {
+        assert_eq!(text(fridays.next_after(start, date(day))), wanted);
+    }
+    assert_eq!(
+        rule("FREQ=DAILY;COUNT=3").next_after(start, date("2024-01-03")),
+        None
+    );
+}
+
+#[test]
+fn rule_prev() {
+    let fridays = rule("FREQ=MONTHLY;BYDAY=-1FR");
+    let start = date("2024-01-01");
+    for (day, wanted) in [
+        ("2024-03-01", "2024-02-23"),
+        ("2024-02-23", "2024-01-26"),
+        ("2024-01-26", "none"),
+    ] {
+        assert_eq!(text(fridays.prev_before(start, date(day))), wanted);
+    }
+}
+
+#[test]
+fn rule_is_instance() {
+    let thirty_first = rule("FREQ=MONTHLY;BYMONTHDAY=31");
+    let days = ["2024-01-31", "2024-02-29", "2024-03-31", "2023-12-31"]
+        .map(|it| thirty_first.is_instance(date("2024-01-01"), date(it)));
+    assert_eq!(days, [true, false, true, false]);
+}
+
+#[test]
+fn rule_instances() {
+    let daily = rule("FREQ=DAILY");
+    let start = date("2024-02-01");
+    for count in [1, 2, 5, 6, 20, 21, 85, 86, 1_000] {
+        let until = start.checked_add_days(count - 1).unwrap();
+        let found: Vec<Date> = daily.instances_between(start, start, until).collect();
+        assert_eq!((found.len(), found.last()), (count as usize, Some(&until)));
+        assert!(found.windows(2).all(|it| it[1] - it[0] == 1));
+    }
+    let shown = daily.instances_between(start, date("2024-02-28"), date("2024-03-01"));
+    assert_eq!(shown.map(|it| it.day()).collect::<Vec<_>>(), [28, 29, 1]);
+    assert_eq!(
+        rule("FREQ=WEEKLY;COUNT=3")
+            .instances(start)
+            .map(|it| it.day())
+            .collect::<Vec<_>>(),
+        [1, 8, 15]
+    );
+    assert_eq!(daily.instances(Date::MAX).collect::<Vec<_>>(), [Date::MAX]);
+    let mut none = daily.instances_between(start, date("2024-01-01"), date("2024-01-31"));
+    assert_eq!((none.next(), none.next()), (None, None));
 }

@@ -174,7 +174,7 @@ TABLES |= {
 }
 TABLE_REFUSALS = {
     "rule_dates('FREQ=DAYLY', '2024-03-01', '2024-03-02')": "rule_dates: 'FREQ=DAYLY' is no rule: byte 5: FREQ: not DAILY, WEEKLY, MONTHLY or YEARLY",
-    "rule_dates('', '2024-03-01', '2024-03-02')": "rule_dates: '' is no rule: byte 0: FREQ: missing",
+    "rule_dates('', '2024-03-01', '2024-03-02')": "rule_dates: '' is no rule: byte 0: empty",
     "rule_dates(1, '2024-03-01', '2024-03-02')": "rule_dates: a rule is a text, and not a number",
     "rule_dates('FREQ=DAILY', '2024-03-32', '2024-03-02')": "rule_dates: '2024-03-32' is no date: byte 8: the month has 31 days",
     "rule_dates('FREQ=DAILY', '2024-03-01', 'x')": "rule_dates: 'x' is no date: byte 0: not of this form",
