@@ -86,8 +86,9 @@ static calendar_date_time moment_of_time(int64_t time, int64_t day)
 {
     calendar_date_time moment = {0, CALENDAR_NO_NANOS};
     if (day < DAY_OF_SECONDS) {
+        /* (none is the least number, which is far too) */
         bool is_far = __builtin_mul_overflow(time, DAY_OF_SECONDS / day, &moment.seconds);
-        moment.nanos = is_far || time == NONE ? CALENDAR_NO_NANOS : 0;
+        moment.nanos = is_far ? CALENDAR_NO_NANOS : 0;
     } else if (time != NONE) {
         int64_t units = day / DAY_OF_SECONDS;
         moment.seconds = floored(time, units);

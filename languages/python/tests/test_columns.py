@@ -163,7 +163,7 @@ class Names(Columns):
             self.assertEqual(columns.from_texts(found, numpy.int32).tolist(), [NONE if it is None else it for it in back])
 
     def test_wrong_texts(self):
-        wrong = ["", "2024-02-30", "2024-02-2", "2024-02-291", "2024/02/29", "٢٠٢٤-02-29", "2024-02-29 ", "20240229", " 2024-02-29", "\0" + "2024-02-29"]
+        wrong = ["", "2024-02-30", "2024-02-2", "2024-02-291", "2024/02/29", "٢٠٢٤-02-29", "\u0132\u0130\u0132\u0134-02-29", "2024-02-29 ", "20240229", " 2024-02-29", "\0" + "2024-02-29"]
         for texts in (numpy.array(wrong), numpy.array([it.encode() for it in wrong])):
             self.assertEqual(columns.from_texts(texts).astype(str).tolist(), ["NaT"] * len(wrong))
         mixed = numpy.array(["2024-02-29", "2024-02-291", "2024-02-2"])
@@ -416,7 +416,7 @@ class Times(Columns):
 
     def test_wrong_texts(self):
         wrong = ["", "2024-02-29", "2024-02-30T00:00:00", "2016-12-31T23:59:60", "1600-01-01T00:00:00", "2024-02-29T24:00:00", "x",
-                 "2024-02-29T00:00:00Z", "٢٠٢٤-02-29T00:00:00", " 2024-02-29T00:00:00", "2024-02-29T00:00:00 "]
+                 "2024-02-29T00:00:00Z", "٢٠٢٤-02-29T00:00:00", "\u0132\u0130\u0132\u0134-02-29T00:00:00", " 2024-02-29T00:00:00", "2024-02-29T00:00:00 "]
         for texts in (numpy.array(wrong), numpy.array([it.encode() for it in wrong])):
             self.assertTrue(numpy.isnat(columns.from_time_texts(texts)).all())
         self.assertEqual(columns.from_time_texts(numpy.array(["2024-02-29 00:00:00.5"])).astype(str).tolist(), ["2024-02-29T00:00:00.500000000"])
