@@ -51,7 +51,7 @@ INLINE void dates_of(int64_t day, const int64_t *times, size_t count, int32_t *d
 /* A time of a date; none if there is no date, or 64 bits cannot hold it. */
 static int64_t held(wide time, int32_t date)
 {
-    bool is_held = date != CALENDAR_NONE && NONE < time && time <= INT64_MAX;
+    bool is_held = date != CALENDAR_NONE && NONE <= time && time <= INT64_MAX;
     return is_held ? (int64_t)time : NONE;
 }
 

@@ -512,6 +512,15 @@ class Arrays(Columns):
             self.assertEqual(columns.texts(nothing).tolist(), [b""] * 3)
             self.assertEqual(columns.fields(nothing).years.tolist(), [NONE] * 3)
 
+    def test_beyond_the_calendar(self):
+        """Times before the first date and after the last one are none, and the first and the last time of the calendar are dates."""
+        for unit, day in UNITS.items():
+            ends = [(FIRST - EPOCH) * day, (LAST + 1 - EPOCH) * day - 1]
+            if ends[1] < 2**63:
+                far = [ends[0] - 1, ends[1] + 1, NAT + 1, 2**63 - 1, 2**32 * day, -(2**32) * day]
+                array = numpy.array([it for it in far if NAT < it < 2**63] + ends).view(f"M8[{unit}]")
+                self.assertEqual(columns.is_date(array).tolist(), [False] * (array.size - 2) + [True] * 2)
+
     def test_wrong_types(self):
         wrong = [
             numpy.array([1.0]), numpy.array([numpy.inf]), numpy.array([numpy.nan]), numpy.array([True]), numpy.array(["2024-02-29"]), numpy.array([Date(2024, 2, 29)], object), numpy.array([1j]),
