@@ -1,15 +1,16 @@
 #!/usr/bin/env python3
-"""Measures schedules and open days from Python beside croniter and numpy, in one run.
+"""Measures schedules, rules, open days and time zones from Python beside croniter, dateutil, numpy and zoneinfo, in one run.
 
     benches/python_layers.py [ROUNDS]        (seven rounds if left out)
 
-It needs croniter and numpy, of this interpreter or Debian's, what the wheel needs, and the static libraries that `rt lib`
+It needs croniter, dateutil and numpy, of this interpreter or Debian's, what the wheel needs, and the static libraries that `rt lib`
 leaves in crates/calendar_c/out and crates/layers_c/out.
 
 What ours answer has to be what the others answer before any is timed. Both take turns in each round, and the best one counts, by
-processor time. A row has the time of a call of ours and of the other.
+processor time. A row has the time of a call, or of an instance of a rule, of ours and of the other.
 """
 import datetime
+import itertools
 import os
 import sys
 import tempfile
@@ -25,14 +26,22 @@ from packages import python  # noqa: E402
 try:
     import croniter
     import numpy
+    from dateutil import rrule
 except ImportError:
     restart_without(None)
-    sys.exit("croniter and numpy are wanted: tools/setup installs Debian's")
+    sys.exit("croniter, dateutil and numpy are wanted: tools/setup installs Debian's")
 
 LIBRARIES = {packages.CALENDAR: "calendar_c", packages.LAYERS: "layers_c"}
 FIRST = datetime.datetime(2024, 3, 1, 0, 0, 30)
 # Schedules, with how many starts there are for croniter.
 SCHEDULES = {"* * * * *": 400, "*/15 9-17 * * 1-5": 400, "30 4 1,15 * 5": 200, "0 0 29 2 *": 40}
+RULES = {
+    "FREQ=DAILY": {"freq": rrule.DAILY},
+    "FREQ=WEEKLY;INTERVAL=2;BYDAY=TU,FR": {"freq": rrule.WEEKLY, "interval": 2, "byweekday": (rrule.TU, rrule.FR)},
+    "FREQ=MONTHLY;BYDAY=-1FR": {"freq": rrule.MONTHLY, "byweekday": rrule.FR(-1)},
+    "FREQ=YEARLY;BYMONTH=2;BYMONTHDAY=29": {"freq": rrule.YEARLY, "bymonth": 2, "bymonthday": 29},
+}
+INSTANCES = 2_000
 OURS_MORE = 20
 
 
@@ -86,6 +95,19 @@ def time_schedules(ours, rounds):
         tell(f"`{text}`, croniter made anew", mine, nanos(lambda: [croniter.croniter(text, it).get_next(datetime.datetime) for it in starts], count, rounds))
 
 
+def time_rules(ours, rounds):
+    """The first instances of rules, one after another."""
+    for text, parts in RULES.items():
+        theirs = rrule.rrule(dtstart=datetime.datetime(2024, 1, 1), **parts)
+        rule = ours.Rule(text, ours.DateTime(2024, 1, 1))
+        # (dateutil ends with the year 9999)
+        first = list(itertools.islice(theirs, INSTANCES))
+        found = len(first)
+        wanted(text, list(itertools.islice(rule, found)), first)
+        mine = nanos(lambda: [*itertools.islice(rule, found)], found, rounds)
+        tell(f"`{text}`, an instance", mine, nanos(lambda: [*itertools.islice(theirs, found)], found, rounds))
+
+
 def time_open_days(ours, rounds):
     """Open days of single dates, by ten holidays a year."""
     days = numpy.arange("2020", "2030", 37, dtype="M8[D]")
@@ -106,7 +128,7 @@ def main():
     with tempfile.TemporaryDirectory(prefix="python-layers-") as folder:
         ours = install(folder)
         print("| Call | Ours, ns | Theirs, ns | Ratio |\n|---|---|---|---|")
-        for it in (time_schedules, time_open_days):
+        for it in (time_schedules, time_rules, time_open_days):
             it(ours, rounds)
     return 0
 

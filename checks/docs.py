@@ -51,8 +51,8 @@ ABSENT = {
     "of the kit: its words, its tactics and its std": """IfSome_then SomeIff agree_below agree_below_at jiff_tz num_traits omega refl subst
         unfoldable view_is ensures """,
     "of pandas and Dask": "NA OutOfBoundsDatetime Client compute",
-    "of Python": "OverflowError True TypeError ValueError datetime timedelta __slots__ __getstate__",
-    "of JavaScript": "BigInt calendarName PlainTime iso8601 RangeError Temporal overflow wasm-opt",
+    "of Python": "OverflowError TypeError ValueError datetime timedelta __slots__ __getstate__",
+    "of JavaScript": "BigInt calendarName PlainTime ZonedDateTime iso8601 RangeError Temporal overflow wasm-opt",
     "of earlier versions": "check_rule check_schedule Nearest Roll::Nearest",
     "of C": "int32_t memcpy",
     "of Rust's compiler and of the kit's options": "ConversionError serde",
@@ -63,7 +63,7 @@ ABSENT = {
         from_isoywd from_num_days_from_ce from_hms
         from_num_seconds_from_midnight and_hms proved_calendar::chrono""",
     "files and modules of chrono": "naive internals ",
-    "words of CMake, of the shell and of a line": "find_package cc load_extension pkg-config",
+    "words of CMake, of the shell and of a line": "find_package cc load_extension pkg-config lcalendar ldconfig LD_LIBRARY_PATH",
     "words of the program dates": "MONTH mo us-federal modified-following modified-preceding",
     "texts and digits of a text": "CEST P0D PT59M59 PT90S PT007S PT1H30M PT5400S PT0S",
     "made by tools/dist": "SHA256SUMS",
@@ -73,7 +73,7 @@ ABSENT = {
 NO_FILES = {
     "left by a build": "dist crates/caltool/out/caltool crates/dates/out/dates out out/libcalendar_c.a",
     "where a package is installed": """
-        include/calendar.h include/calendar_layers.h lib/libcalendar-v3.a lib/libcalendar.a lib/libcalendar.so lib/libcalendar.so.0
+        include/calendar.h include/calendar_layers.h lib/libcalendar-v3.a lib/libcalendar.a lib/libcalendar.so
         lib/libcalendar_layers.a lib/libcalendar_layers.so libcalendar-v3.a lib/pkgconfig lib/cmake/calendar /usr/local/lib""",
     "an option of a compiler": "-Ilanguages/c",
     "of the kit": "docs/WALKS.md",

@@ -28,7 +28,8 @@ TOP = os.path.dirname(os.path.dirname(os.path.abspath(__file__)))
 LIBRARIES = (
     "chrono_sets", "chrono_units", "chrono_clock", "chrono_calendar", "chrono_internals", "chrono_stored", "chrono_naive", "chrono_datetime",
     "chrono_instant", "chrono_zoned", "zone_table", "zone_rule", "zone_text", "zone_file", "zone", "chrono_reading", "chrono_stamps", "chrono_cron", "chrono_business",
-    "chrono_rules", "chrono_pattern", "chrono_columns", "pattern_columns", "zone_database", "zoned_cron", "timed_cron", "zoned_rules", "calendar_text", "numbers_c",
+    "chrono_rules", "chrono_pattern", "chrono_columns", "pattern_columns", "zone_database", "zoned_cron", "timed_cron", "zoned_rules", "calendar_text", "calendar_rules",
+    "numbers_c",
 )
 # Libraries whose functions need no example; what examples they have are run.
 OPTIONAL = ("chrono_text",)

@@ -1,6 +1,7 @@
 """The package for Rust, used as its users use it; checks/languages.py runs this.
 
-The package is made with the static library inside, packed, and unpacked again. A project outside, which names it by its
+The declarations of the layers have to be those of calendar_layers.h, each used by the crate and with a test of its name. The package is
+made with the static libraries inside, packed, and unpacked again. A project outside, which names it by its
 path, runs its tests. Where Debian's crates lie, those of its features are run too, its module `chrono` is compared with
 chrono on generated values, and chrono's doc examples are run on it (checks/chrono_docs.py). The examples of the crate are
 run, a build with no library has to say what to do, and each of the wrong lines planted in the wrapper has to fail its tests.
@@ -14,13 +15,14 @@ import sys
 import tarfile
 
 import chrono_docs
+import layers_c
 from results import is_older, read, run
 from wrong_lines import edits, planted
 
 TOP = os.path.dirname(os.path.dirname(os.path.abspath(__file__)))
 sys.path.insert(0, f"{TOP}/tools")
-from debian import FROM_DEBIAN, REGISTRY  # noqa: E402
-from packages import rust  # noqa: E402
+from debian import FROM_DEBIAN, PYTHON, REGISTRY  # noqa: E402
+from packages import CALENDAR, LAYERS, rust  # noqa: E402
 
 FOLDER = f"{TOP}/languages/rust"
 
@@ -31,7 +33,10 @@ FEATURES = {
     "time": '{ version = "0.3", default-features = false }',
 }
 # The tests of the package alone, and those of its features.
-TESTS, FEATURE_TESTS = ("calls", "values", "chrono_names"), ("features", "beside_chrono")
+TESTS, FEATURE_TESTS = ("calls", "layers", "values", "chrono_names"), ("features", "beside_chrono")
+# The structs of the headers by their names in Rust, and what of the layers the crate does not use, as it is built with them.
+STRUCTS = {"calendar_date_time": "Moment", "calendar_fault": "Fault", "calendar_schedule": "Sets", "calendar_fraction": "Quotient"}
+NOT_USED = ("calendar_version",)
 COUNTS = (r"test result: .*? (\d+) passed", r"test result: .*? (\d+) failed")
 
 PROJECT = """\
@@ -54,19 +59,49 @@ def write(path, text):
         it.write(text)
 
 
-def unpacked(room, library):
-    """The package, made, packed and unpacked again."""
+def as_declared(kind):
+    """A type of the header in the words of Rust: the structs have names of their own there."""
+    for name, ours in STRUCTS.items():
+        kind = kind.replace(name, ours)
+    return kind
+
+
+def compare_layers(results):
+    """The declarations of the layers, how they are used, and their tests."""
+    declared = {}
+    for name, listed, result in re.findall(r"fn (\w+)\(([^)]*)\)(?: -> (\w+))?;", read(f"{FOLDER}/src/layer_calls.rs")):
+        kinds = [it.split(":")[1].strip() for it in listed.split(",") if it.strip()]
+        kinds = [re.sub(r"^&(mut )?", lambda it: f"*{it[1] or 'const '}", it) for it in kinds]
+        declared[name] = result or "void", kinds
+    header = layers_c.functions_of_header(re.sub(r"/\*.*?\*/", "", read(layers_c.HEADER), flags=re.S))
+    wanted = {name: (as_declared(result), [as_declared(it) for it in kinds]) for name, (result, kinds) in header.items() if name not in NOT_USED}
+    layers_c.compare(results, "functions of Rust", wanted, declared)
+    sources = "\n".join(read(it) for it in glob.glob(f"{FOLDER}/src/*.rs"))
+    for name in wanted:
+        short = name.removeprefix("calendar_")
+        results.count(re.search(rf"(?<!fn ){name}\(", sources), f"the Rust crate does not call {name}")
+        results.count(f"#[test]\nfn {short}()" in read(f"{FOLDER}/tests/layers.rs"), f"tests/layers.rs has no test {short}")
+
+
+def put_libraries(room, library, layers):
+    """Puts both libraries into a folder, by the names that they have in packages; the folder."""
     os.makedirs(f"{room}/built")
-    shutil.copy(library, f"{room}/built/libcalendar.a")
-    packed = next(it for it in rust.make(TOP, f"{room}/built", f"{room}/dist") if it.endswith(".crate"))
+    for path, name in ((library, CALENDAR), (layers, LAYERS)):
+        shutil.copy(path, f"{room}/built/lib{name}.a")
+    return f"{room}/built"
+
+
+def unpacked(room, built):
+    """The package, made, packed and unpacked again."""
+    packed = next(it for it in rust.make(TOP, built, f"{room}/dist") if it.endswith(".crate"))
     with tarfile.open(packed) as it:
         it.extractall(f"{room}/unpacked")
     return glob.glob(f"{room}/unpacked/*")[0]
 
 
 def make_project(project, package, tests, features=()):
-    """A project that uses the package and has its tests; the project."""
-    named = ", ".join(f'"{it}"' for it in (*features, *(["std"] if features else [])))
+    """A project that uses the package, with std if it has tests, and has its tests; the project."""
+    named = ", ".join(f'"{it}"' for it in (*features, *(["std"] if tests else [])))
     others = "".join(f"{it} = {FEATURES[it]}\n" for it in features)
     write(f"{project}/Cargo.toml", PROJECT.format(package=package, features=named, others=others))
     write(f"{project}/src/lib.rs", "")
@@ -87,8 +122,29 @@ def test_examples(results, room, package):
     built = f"{room}/target/debug/deps"
     library = max(glob.glob(f"{built}/libproved_calendar-*.rlib"), key=os.path.getmtime)
     words = ["rustdoc", "--test", "--edition", "2021", "--crate-name", "proved_calendar", f"{package}/src/lib.rs"]
+    words += [it for name in ("alloc", "std") for it in ("--cfg", f'feature="{name}"')]
     words += ["-L", f"dependency={built}", "--extern", f"proved_calendar={library}"]
     run(results, "the examples in Rust", words, COUNTS, cwd=package)
+
+
+def test_peers(results, room, package):
+    """The layers beside croniter, dateutil and numpy, on 20,000 drawn cases each."""
+    answers = f"{room}/answers.txt"
+    with open(answers, "w", encoding="utf-8") as it:
+        ran = subprocess.run([PYTHON, f"{TOP}/checks/peer_answers.py"], stdout=it, stderr=subprocess.PIPE, text=True)
+    if ran.returncode:
+        print(f"not run: Rust's layers beside other programs: {ran.stderr.strip()[-200:] or 'there is no croniter, dateutil or numpy'}")
+        return
+    project = make_project(f"{room}/peers", package, ("peers",))
+    words = ["cargo", "test", "--offline", "--quiet", "--test", "peers"]
+    run(results, "Rust's layers beside other programs", words, COUNTS, cwd=project, env={**environment(room), "PEER_ANSWERS": answers})
+
+
+def test_bare(results, room, package):
+    """The package builds with no feature, so without std."""
+    words = ["cargo", "check", "--offline"]
+    ran = subprocess.run(words, cwd=make_project(f"{room}/bare", package, []), env=environment(room), capture_output=True, text=True)
+    results.count(ran.returncode == 0, f"a build with no feature says:\n{ran.stderr[-2000:]}")
 
 
 def test_missing(results, room, package):
@@ -104,12 +160,12 @@ def test_missing(results, room, package):
         os.rename(f"{package}/lib-away", f"{package}/lib")
 
 
-def try_wrong_lines(results, room, library):
+def try_wrong_lines(results, room, built):
     """Each wrong line in the wrapper fails its tests, which are built."""
     package, found = f"{room}/planted-package", 0
     project = make_project(f"{room}/planted-project", package, TESTS)
     for number, edit in enumerate(edits("rust"), 1):
-        rust.make_package(TOP, planted("rust", f"{room}/planted", edit), library, package)
+        rust.make_package(TOP, planted("rust", f"{room}/planted", edit), built, package)
         words = ["cargo", "test", "--offline", "--quiet", "--no-fail-fast", "--tests"]
         ran = subprocess.run(words, cwd=project, env=environment(room), stdout=subprocess.PIPE, stderr=subprocess.STDOUT, text=True)
         is_found = "test result: FAILED" in ran.stdout
@@ -119,8 +175,9 @@ def try_wrong_lines(results, room, library):
     results.count(found >= 10, "languages/rust has fewer than ten wrong lines that its tests find")
 
 
-def test(results, room, library):
+def test(results, room, library, layers):
     """All of it."""
+    compare_layers(results)
     if not shutil.which("cargo"):
         print("not run: the tests in Rust, since there is no cargo")
         return
@@ -131,7 +188,8 @@ def test(results, room, library):
         return
     room = f"{room}/rust"
     os.makedirs(room)
-    package = unpacked(room, library)
+    built = put_libraries(room, library, layers)
+    package = unpacked(room, built)
     missing = [it for it in FEATURES if not glob.glob(f"{REGISTRY}/{it}-[0-9]*")]
     if missing:
         print(f"not run: the features of the Rust crate, since there is no {REGISTRY}/{missing[0]}")
@@ -141,5 +199,7 @@ def test(results, room, library):
     run(results, "cargo test", words, COUNTS, cwd=project, env=environment(room))
     test_examples(results, room, package)
     chrono_docs.test(results, room, package, environment(room))
+    test_peers(results, room, package)
+    test_bare(results, room, package)
     test_missing(results, room, package)
-    try_wrong_lines(results, room, library)
+    try_wrong_lines(results, room, built)

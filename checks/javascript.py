@@ -4,14 +4,15 @@
     checks/javascript.py
     checks/javascript.py --picture FILE      (only takes a picture of the page, as docs/page.png is one)
 
-The package is made as `tools/dist javascript` makes it, in a temporary folder. The exports of its module have to be
-those of calendar.h, but for those that C alone has, each called by the wrapper and with a test of its name. In a
+The package is made as `tools/dist javascript` makes it, in a temporary folder. The exports of its two modules have to be
+those of calendar.h, but for those that C alone has, and those of calendar_layers.h. Each is called by the wrapper and has a test
+of its name. checks/peer_answers.py draws cases of the layers, with the answers of other programs. In a
 project of its own, to which the package is put as npm puts it, node runs the tests, the example of the README and,
 where there is a tsc, a file of types. Ten wrong lines are then planted in the wrapper, one at a time, and the tests
 have to fail on each.
 
 In a headless Chromium the package is compared with the browser's own Temporal, and the page is used as a user uses it:
-lines are typed and their answers compared with those of caltool (the program, if it is built, or else the calendar of
+cron lines, wrong ones too, are typed, and what is shown compared with a walk minute by minute. Lines are typed and their answers compared with those of caltool (the program, if it is built, or else the calendar of
 checks/fuzz.py); months, distances and rows of dates are compared with Python's datetime and with the calendar that
 counts (checks/counted.py); what can be reached by the keyboard has to have a name that a screen reader reads; nothing
 may be wider than a narrow screen, and texts have to stand out from what is behind them, in light and in dark.
@@ -31,19 +32,66 @@ import chromium
 import counted
 import fuzz
 import languages
+import layers_c
 from results import Results, is_older, read
 from wrong_lines import edits, planted
 
 TOP = os.path.dirname(os.path.dirname(os.path.abspath(__file__)))
 sys.path.insert(0, f"{TOP}/tools")
+import debian  # noqa: E402
 import packages  # noqa: E402
 from packages import javascript  # noqa: E402
 
 FOLDER = f"{TOP}/languages/javascript"
-# How many bytes the module has at most.
-LARGEST = 22_000
+# How many bytes each module has at most.
+LARGEST = {"module": 22_000, "layers_module": 90_000}
 MONTHS = "January February March April May June July August September October November December".split()
 WEEKDAYS = "Monday Tuesday Wednesday Thursday Friday Saturday Sunday".split()
+
+
+def is_at(hour, minute):
+    """Whether a moment shows a time of the clock."""
+    return lambda it: (it.hour, it.minute) == (hour, minute)
+
+
+# Cron lines in words, and when they are due, as cron's manual has it.
+SCHEDULES = (
+    ("* * * * *", "Every minute", lambda it: True),
+    ("@hourly", "Every hour", lambda it: it.minute == 0),
+    ("5 * * * *", "Every hour at minute 5", lambda it: it.minute == 5),
+    ("*/15 9-17 * * mon-fri", "Every 15 minutes from 09:00 to 17:45, on Mondays to Fridays",
+     lambda it: it.minute % 15 == 0 and 9 <= it.hour <= 17 and it.weekday() < 5),
+    ("0 */2 * * *", "Every 2 hours from 00:00 on", lambda it: it.minute == 0 and it.hour % 2 == 0),
+    ("1,2,9 3,9 * * *", "At minutes 1, 2 and 9 of hours 3 and 9, every day", lambda it: it.minute in (1, 2, 9) and it.hour in (3, 9)),
+    ("0 18 L * *", "At 18:00, on the last day of the month",
+     lambda it: is_at(18, 0)(it) and (it + datetime.timedelta(days=1)).month != it.month),
+    ("0 9 * * 1#1", "At 09:00, on the 1st Monday of the month", lambda it: is_at(9, 0)(it) and it.weekday() == 0 and it.day <= 7),
+    ("0 0 */2 3,4 1", "At 00:00, on the 1st, 3rd, 5th, 7th, 9th, 11th, 13th, 15th, 17th, 19th, 21st, 23rd, 25th, 27th, 29th and 31st of the month if "
+     "it is a Monday, in March and April", lambda it: is_at(0, 0)(it) and it.day % 2 == 1 and it.month in (3, 4) and it.weekday() == 0),
+    ("30 4 1,15 * fri", "At 04:30, on the 1st and 15th of the month, and on Fridays",
+     lambda it: is_at(4, 30)(it) and (it.day in (1, 15) or it.weekday() == 4)),
+    ("30 4 12 * *", "At 04:30, on the 12th of the month", lambda it: is_at(4, 30)(it) and it.day == 12),
+)
+def days_of_2024(is_day):
+    """The days of 2024 that pass a test."""
+    return [it for it in (datetime.date(2024, 1, 1) + datetime.timedelta(n) for n in range(366)) if is_day(it)]
+
+
+# Rules, and their days of 2024 from 1 January on.
+RULES = (
+    ("FREQ=MONTHLY;BYDAY=-1FR", days_of_2024(lambda it: it.weekday() == 4 and (it + datetime.timedelta(7)).month != it.month)),
+    ("FREQ=MONTHLY;BYMONTHDAY=31", days_of_2024(lambda it: it.day == 31)),
+    ("FREQ=DAILY;COUNT=40", days_of_2024(lambda it: it < datetime.date(2024, 2, 10))),
+    ("FREQ=YEARLY;BYMONTH=11;BYDAY=4TH", days_of_2024(lambda it: it.month == 11 and it.weekday() == 3 and 22 <= it.day <= 28)),
+    ("FREQ=DAILY", days_of_2024(lambda it: True)),
+)
+# Lines that are wrong: the part that is marked, and what is said of it.
+WRONG_SCHEDULES = (
+    ("0 25 * * *", "25", "hour: a number that is out of range"),
+    ("0 1,99 * * *", "99", "hour: a number that is out of range"),
+    ("* * * foo *", "foo", "month: an unknown name"),
+    ("* * * *", "\u00a0", "fewer than five fields"),
+)
 
 
 class Findings(Results):
@@ -77,8 +125,8 @@ def run_tests(project):
     return passed, failed or int(ran.returncode != 0 or not passed), ran.stdout
 
 
-def compare_exports(results, module):
-    """The module has the functions of calendar.h, and imports nothing; each is called by the wrapper, and has a test of its name."""
+def exports_of(module):
+    """What a module of WebAssembly imports, and the functions that it exports."""
     script = "const m = new WebAssembly.Module(require('fs').readFileSync(process.argv[1]));"
     script += "console.log(JSON.stringify([WebAssembly.Module.imports(m), WebAssembly.Module.exports(m)]))"
     with tempfile.NamedTemporaryFile(suffix=".wasm") as it:
@@ -86,31 +134,47 @@ def compare_exports(results, module):
         it.flush()
         ran = subprocess.run(["node", "-e", script, it.name], check=True, capture_output=True, text=True)
     imports, exports = json.loads(ran.stdout)
-    results.equal(imports, [], "imports of the module")
-    wanted = sorted(it for it in languages.of_header() if not re.fullmatch(languages.COLUMNS, it))
-    results.equal(sorted(it["name"] for it in exports if it["kind"] == "function"), wanted, "functions of the module")
+    return imports, sorted(it["name"] for it in exports if it["kind"] == "function")
+
+
+def wanted_exports():
+    """Of each module the functions that it has to have, how the wrapper calls one, and the tests that are named after them."""
+    text = re.sub(r"/\*.*?\*/", "", read(layers_c.HEADER), flags=re.S)
+    return {
+        "module": ([it for it in languages.of_header() if not re.fullmatch(languages.COLUMNS, it)], "library", "calls"),
+        "layers_module": ([it for it in layers_c.functions_of_header(text) if not it.startswith("calendar_column_")], "layers", "layers"),
+    }
+
+
+def compare_exports(results, bytes_of_modules):
+    """The modules have the functions of the headers, and import nothing; each is called by the wrapper, and has a test of its name."""
     wrapper = "\n".join(read(f"{FOLDER}/src/{it}.js") for it in javascript.SOURCES)
-    tests = read(f"{FOLDER}/test/calls.test.js")
-    for name in wanted:
-        results.count(f"library.{name}(" in wrapper, f"the wrapper does not call {name}")
-        short = name.removeprefix("calendar_")
-        results.count(re.search(rf'test\("{short}"|^const FIELDS = .*\b{short}:', tests, re.M), f"calls.test.js has no test {short}")
+    for source, (wanted, held_by, tests) in wanted_exports().items():
+        imports, exports = exports_of(bytes_of_modules[source])
+        results.equal(imports, [], f"imports of {source}")
+        results.equal(exports, sorted(wanted), f"functions of {source}")
+        tests = read(f"{FOLDER}/test/{tests}.test.js")
+        for name in wanted:
+            results.count(re.search(rf"\b{held_by}\.{name}\b", wrapper), f"the wrapper does not call {name}")
+            short = name.removeprefix("calendar_")
+            results.count(re.search(rf'test\("{short}"|^const FIELDS = .*\b{short}:', tests, re.M), f"no test is named {short}")
 
 
 def compare_example(results, project):
-    """The example of the README prints what stands beside its lines."""
-    example = re.search(r"^```js\n(.*?)^```$", read(f"{FOLDER}/README.md"), re.M | re.S)[1]
-    wanted = re.findall(r"^console\.log\(.*\); // (.*)$", example, re.M)
-    with open(f"{project}/example.js", "w", encoding="utf-8") as it:
-        it.write(example)
-    ran = subprocess.run(["node", "example.js"], cwd=project, capture_output=True, text=True)
-    results.equal(ran.stdout.splitlines(), wanted, f"the example of languages/javascript/README.md {ran.stderr[-2000:]}")
-    results.count(wanted, "languages/javascript/README.md has no example that prints")
+    """The examples of the README print what stands beside their lines."""
+    for number, example in enumerate(re.findall(r"^```js\n(.*?)^```$", read(f"{FOLDER}/README.md"), re.M | re.S)):
+        wanted = re.findall(r"^ *console\.log\(.*\); // (.*)$", example, re.M)
+        with open(f"{project}/example{number}.js", "w", encoding="utf-8") as it:
+            it.write(example)
+        ran = subprocess.run(["node", f"example{number}.js"], cwd=project, capture_output=True, text=True)
+        results.equal(ran.stdout.splitlines(), wanted, f"example {number} of languages/javascript/README.md {ran.stderr[-2000:]}")
+        results.count(wanted, f"example {number} of languages/javascript/README.md prints nothing")
 
 
-def compare_size(results, bytes_of_module):
-    """The module is small: it holds the functions, and no memory that is filled at the start."""
-    results.count(len(bytes_of_module) <= LARGEST, f"the module has {len(bytes_of_module):,} bytes, which is above {LARGEST:,}")
+def compare_size(results, bytes_of_modules):
+    """The modules are small: they hold the functions, and no memory that is filled at the start."""
+    for source, it in bytes_of_modules.items():
+        results.count(len(it) <= LARGEST[source], f"{source} has {len(it):,} bytes, which is above {LARGEST[source]:,}")
 
 
 def check_types(results, project):
@@ -120,19 +184,39 @@ def check_types(results, project):
         return
     words = ["tsc", "--noEmit", "--strict", "--target", "es2022", "--module", "es2022", "--moduleResolution", "node", "types.ts"]
     right = read(f"{FOLDER}/test/types.ts")
-    for text, is_right in ((right, True), (right.replace("largestUnit: \"weeks\"", "largestUnit: \"fortnights\""), False)):
+    wrong = (right.replace("largestUnit: \"weeks\"", "largestUnit: \"fortnights\""), right.replace('"modifiedFollowing"', '"later"'))
+    for text, is_right in ((right, True), *((it, False) for it in wrong)):
         with open(f"{project}/types.ts", "w", encoding="utf-8") as it:
             it.write(text)
         ran = subprocess.run(words, cwd=project, stdout=subprocess.PIPE, stderr=subprocess.STDOUT, text=True)
         results.count((ran.returncode == 0) == is_right, f"{' '.join(words)}: {ran.stdout[-2000:]}")
 
 
-def try_wrong_lines(results, room, bytes_of_module):
+def compare_peers(results, project):
+    """The layers beside croniter, dateutil and numpy, on 20,000 drawn cases each."""
+    with open(f"{project}/answers.txt", "w", encoding="utf-8") as it:
+        ran = subprocess.run([debian.PYTHON, f"{TOP}/checks/peer_answers.py"], stdout=it, stderr=subprocess.PIPE, text=True)
+    if ran.returncode:
+        print(f"not run: the layers beside other programs: {ran.stderr.strip()[-200:] or 'there is no croniter, dateutil or numpy'}")
+        return
+    words = ["node", "test/peers.js", "answers.txt"]
+    ran = subprocess.run(words, cwd=project, stdout=subprocess.PIPE, stderr=subprocess.STDOUT, text=True, timeout=600)
+    results.count(ran.returncode == 0, f"{' '.join(words)}: {ran.stdout[-2000:]}")
+    if ran.returncode == 0:
+        answer = json.loads(ran.stdout)
+        print(f"beside other programs: alike {answer['alike']}, left out {answer['leftOut']}, {len(answer['differ'])} otherwise", flush=True)
+        for kind, count in answer["alike"].items():
+            results.count(count >= 20_000, f"too few answers on {kind} were compared: {count}")
+        for it in answer["differ"]:
+            results.count(False, it[:1000])
+
+
+def try_wrong_lines(results, room, bytes_of_modules):
     """Each wrong line in the wrapper fails its tests."""
     found = 0
     for number, edit in enumerate(edits("javascript"), 1):
         folder = planted("javascript", f"{room}/planted", edit)
-        package = javascript.make_package(TOP, folder, bytes_of_module, f"{room}/planted-package")
+        package = javascript.make_package(TOP, folder, bytes_of_modules, f"{room}/planted-package")
         passed, failed, _ = run_tests(make_project(f"{room}/planted-project", package))
         results.count(failed, f"wrong line {number} of languages/javascript passes all {passed} tests: {edit}")
         found += bool(failed)
@@ -140,7 +224,7 @@ def try_wrong_lines(results, room, bytes_of_module):
     results.count(found >= 10, "languages/javascript has fewer than ten wrong lines that its tests find")
 
 
-def in_node(results, room, package, bytes_of_module):
+def in_node(results, room, package, bytes_of_modules):
     if not shutil.which("node"):
         print("not run: the tests in JavaScript, since there is no node")
         return
@@ -149,7 +233,7 @@ def in_node(results, room, package, bytes_of_module):
     if is_older(told, least):
         print(f"not run: the tests in JavaScript, since node {told} is older than {least}")
         return
-    compare_exports(results, bytes_of_module)
+    compare_exports(results, bytes_of_modules)
     project = make_project(f"{room}/project", package)
     passed, failed, printed = run_tests(project)
     print(f"node: {passed} passed, {failed} failed", flush=True)
@@ -157,9 +241,10 @@ def in_node(results, room, package, bytes_of_module):
     if failed:
         print(printed[-4000:], flush=True)
     compare_example(results, project)
-    compare_size(results, bytes_of_module)
+    compare_size(results, bytes_of_modules)
     check_types(results, project)
-    try_wrong_lines(results, room, bytes_of_module)
+    compare_peers(results, project)
+    try_wrong_lines(results, room, bytes_of_modules)
 
 
 # ---- in Chromium
@@ -267,6 +352,95 @@ def marked(page):
     return page.run("[...document.querySelectorAll('[aria-invalid]')].map((it) => it.id)")
 
 
+def dues(is_due, start, count):
+    """The first moments after a start at which something is due, found minute by minute."""
+    found, moment = [], start.replace(second=0, microsecond=0)
+    while len(found) < count:
+        moment += datetime.timedelta(minutes=1)
+        if is_due(moment):
+            found.append(moment)
+    return found
+
+
+def use_schedule(results, page):
+    """Cron lines in words with their next five times, and what is wrong with a line, at its place."""
+    start = datetime.datetime(2024, 2, 9, 4, 30, 15)
+    page.type("#after", start.isoformat())
+    for text, words, is_due in SCHEDULES:
+        page.type("#cron", text)
+        results.equal(page.text("#cron-words"), f"{words}.", f"{text!r} in words")
+        wanted = [it.isoformat() for it in dues(is_due, start, 5)]
+        results.equal(page.run("[...document.querySelectorAll('#due li')].map((it) => it.dataset.moment)"), wanted, f"the next times of {text!r}")
+    results.equal(page.text("#due li"), "04:30\nMonday 12 February 2024\n3 days later", "what is shown of a time")
+    for text, wrong, reason in WRONG_SCHEDULES:
+        page.type("#cron", text)
+        results.equal(page.run("[...document.querySelectorAll('#cron-trouble mark')].map((it) => it.textContent)"), [wrong], f"the mark in {text!r}")
+        results.equal(page.run("document.querySelector('#cron-trouble .at').textContent"), text + wrong * (wrong == "\u00a0"), f"the text of {text!r}")
+        results.equal(page.text("#cron-trouble span"), reason, f"what is wrong with {text!r}")
+        results.equal((page.text("#cron-words"), marked(page)), ("", ["cron"]), f"what else is shown of {text!r}")
+    page.type("#cron", "0 0 30 2 *")
+    results.equal(page.text("#cron-trouble"), "no date is due after that", "what is said of a schedule that is never due")
+    page.type("#after", "2024-02-30")
+    results.equal(marked(page), ["after"], "the fields marked at a start that is none")
+    page.run("document.querySelector('#now').click()")
+    results.equal(marked(page), [], "the fields marked now")
+    now = datetime.datetime.fromisoformat(page.run("document.querySelector('#after').value"))
+    results.count(abs(datetime.datetime.now() - now) < datetime.timedelta(minutes=1), f"now is {now} for the page")
+    page.run("document.querySelector('#cron-examples button').click()")
+    results.count(page.text("#cron-words"), "an example of a cron line shows nothing")
+
+
+def use_rule(results, page):
+    """The days of rules, marked in a year, beside dateutil where it is installed, and what is wrong with a rule, at its place."""
+    page.type("#rule-start", "2024-01-01")
+    page.type("#rule-year", "2024")
+    for text, days in RULES:
+        page.type("#rule", text)
+        wanted = [it.isoformat() for it in days]
+        results.equal(page.run("[...document.querySelectorAll('#year-sheet [data-date]')].map((it) => it.dataset.date)"), wanted, f"days of {text}")
+        told = f"{len(days)} day{'' if len(days) == 1 else 's'} in 2024"
+        results.equal(page.text("#rule-words strong"), told, f"the days of {text} in words")
+    results.equal(page.run("document.querySelectorAll('#year-sheet table').length"), 12, "months of the year")
+    cells = "[...document.querySelectorAll('#year-sheet td')].filter((it) => it.textContent).length"
+    results.equal(page.run(cells), 366, "days of the year 2024")
+    columns = "[...document.querySelectorAll('#year-sheet [data-date]')].map((it) => it.cellIndex)"
+    page.type("#rule", "FREQ=MONTHLY;BYDAY=-1FR")
+    results.equal(page.run(f"new Set({columns}).size + '/' + {columns}[0]"), "1/4", "the column of Fridays")
+    results.count("the next one after 2024 is Friday 31 January 2025" in page.text("#rule-words"), "the next day of a rule is not told")
+    page.type("#rule", "FREQ=YEARLY;BYMONTH=5,13")
+    results.equal(page.run("document.querySelector('#rule-trouble mark').textContent"), "13", "the mark in a wrong rule")
+    results.equal((page.text("#rule-words"), marked(page)), ("", ["rule"]), "what else is shown of a wrong rule")
+    page.type("#rule", "FREQ=DAILY")
+    page.type("#rule-year", "300000")
+    results.equal(marked(page), ["rule-year"], "the fields marked at a year that there is not")
+    page.type("#rule-year", "2024")
+    page.run("document.querySelectorAll('#rule-examples button')[3].click()")
+    results.equal(page.text("#rule-words strong"), "10 days in 2024", "the fourth example of a rule")
+
+
+def use_open_days(results, page):
+    """Open days between two dates, and wrong holidays at their place."""
+    page.type("#from", "2024-03-01")
+    page.type("#to", "2024-04-01")
+    for holidays, wanted in (("", 21), ("2024-03-29", 20), ("2024-04-01, 2024-03-29;2024-03-30", 20), ("2024-03-29 2024-03-28", 19)):
+        page.type("#holidays", holidays)
+        results.equal(page.text("#open strong"), f"{wanted} open days", f"open days with the holidays {holidays!r}")
+    page.type("#holidays", "2024-03-29 2024-04-01")
+    page.type("#to", "2024-03-29")
+    results.count("Friday 29 March 2024 is closed; the next open day is Tuesday 2 April 2024" in page.text("#open"), "a closed day is not told")
+    page.run("document.querySelector('#weekend input').click()")
+    results.equal(page.text("#open strong"), "16 open days", "open days without Mondays")
+    page.run("document.querySelector('#weekend input').click()")
+    page.type("#to", "2024-04-01")
+    page.run("(() => { const it = document.querySelector('#known'); it.value = 'target'; it.dispatchEvent(new Event('change')); })()")
+    held = "2024-01-01 2024-03-29 2024-04-01 2024-05-01 2024-12-25 2024-12-26"
+    results.equal((page.run("document.querySelector('#holidays').value"), page.text("#open strong")), (held, "20 open days"), "the holidays of TARGET")
+    page.type("#holidays", "2024-03-29, 2024-02-30")
+    results.equal(page.run("document.querySelector('#holidays-trouble mark').textContent"), "2024-02-30", "the holiday that is marked")
+    results.equal((page.text("#holidays-trouble span"), marked(page), page.text("#open")), ("no date", ["holidays"], ""), "what a wrong holiday shows")
+    page.type("#holidays", "")
+
+
 def use_between(results, page):
     """The days between two dates."""
     for one, other in (("2024-02-29", "2025-02-28"), ("2025-02-28", "2024-02-29"), ("2024-02-29", "2024-02-29"), ("0001-01-01", "9999-12-31")):
@@ -315,19 +489,21 @@ def read_aloud(results, page):
     """What can be reached has a role and a name; tables and rows have theirs."""
     page.call("Accessibility.enable")
     nodes = page.call("Accessibility.getFullAXTree")["nodes"]
-    kinds = {"button", "textbox", "combobox", "spinbutton", "grid", "list", "region", "status"}
+    kinds = {"button", "textbox", "combobox", "spinbutton", "grid", "list", "region", "status", "checkbox"}
     named = [(it["role"]["value"], it.get("name", {}).get("value", "")) for it in nodes if it.get("role", {}).get("value") in kinds]
     for kind, name in named:
         results.count(name or kind in ("status", "list"), f"a {kind} of the page has no name")
     wanted = {("textbox", "A command and its numbers"), ("textbox", "From"), ("textbox", "To"), ("combobox", "Month"), ("spinbutton", "Year"),
-              ("button", "The month before"), ("spinbutton", "Months apart"), ("region", "Ask a line"), ("list", "The dates")}
+              ("button", "The month before"), ("spinbutton", "Months apart"), ("region", "Ask a line"), ("list", "The dates"),
+              ("textbox", "Cron line"), ("textbox", "Rule"), ("combobox", "Holidays of"), ("list", "The next five times"), ("checkbox", "Monday"), ("textbox", "and on the holidays")}
     results.equal(wanted - set(named), set(), "what a screen reader does not find")
-    page.run("document.querySelector('#line').focus()")
+    page.run("document.querySelector('#cron').focus()")
     reached = []
-    for _ in range(60):
+    for _ in range(80):
         reached.append(page.run("document.activeElement.id || document.activeElement.dataset.date && 'day' || ''"))
         page.press("Tab")
-    for it in ("line", "month", "year", "earlier", "today", "later", "day", "from", "to", "swap", "start", "step", "count", "row"):
+    for it in ("cron", "after", "now", "rule", "rule-start", "rule-year", "known", "from", "to", "swap", "holidays", "month", "year", "earlier", "today", "later", "day", "line", "start", "step",
+               "count", "row"):
         results.count(it in reached, f"the Tab key does not reach {it}")
 
 
@@ -338,7 +514,7 @@ CONTRAST = """(() => {
   const behind = (it) => { for (; it; it = it.parentElement) { const rgb = parts(getComputedStyle(it).backgroundColor);
     if (rgb.length < 4 || rgb[3] === 1) return rgb; } return [255, 255, 255]; };
   return ['h1', 'header p', 'label', '.help', '#answer', '#sheet caption', '#sheet th', '#sheet td button', '#sheet td small',
-    '#sheet [aria-selected="true"] button', '#names dt', '#names dd', '#between strong', '#row .month', '#row .gap', '#today', '#line', 'footer p']
+    '#sheet [aria-selected="true"] button', '#names dt', '#names dd', '#between strong', '#open strong', '#cron-words', '#due li', '#due strong', '#due small', 'legend', '.check', '#year-sheet caption', '#year-sheet td', '#year-sheet mark', '#rule-words strong', '#row .month', '#row .gap', '#today', '#line', 'footer p']
     .map((name) => { const it = document.querySelector(name); const [a, b] = [light(parts(getComputedStyle(it).color)), light(behind(it))];
       return [name, (Math.max(a, b) + 0.05) / (Math.min(a, b) + 0.05)]; });
 })()"""
@@ -379,7 +555,7 @@ def in_chromium(results, path):
         page.open(path)
         results.equal(page.run("document.querySelector('#trouble').hidden"), True, "whether the page has no trouble to tell")
         results.equal(page.text("#answer"), "2024-02-29 738945 Thu 2024-W09 60", "the first answer of the page")
-        for use in (use_lines, use_month, use_between, use_row, read_aloud, compare_temporal):
+        for use in (use_schedule, use_rule, use_open_days, use_between, use_month, use_lines, use_row, read_aloud, compare_temporal):
             use(results, page)
         look(results, page, path)
         results.equal(page.faults(), [], "what the page threw")
@@ -394,6 +570,7 @@ def take_picture(path):
         page.call("Emulation.setEmulatedMedia", features=[{"name": "prefers-color-scheme", "value": "light"}])
         page.call("Emulation.setDeviceMetricsOverride", height=900, **size)
         page.open(javascript.make(TOP, None, room)[1])
+        page.type("#after", "2024-02-09T04:30:00")
         page.type("#year", "2024")
         page.run("(() => { const it = document.querySelector('#month'); it.value = '2'; it.dispatchEvent(new Event('change')); })()")
         page.run("(() => { document.querySelector('#sheet [data-date=\"2024-02-29\"]').click(); document.activeElement.blur(); })()")
@@ -412,13 +589,13 @@ def main():
     results = Findings()
     with tempfile.TemporaryDirectory(prefix="javascript-") as room:
         try:
-            bytes_of_module = javascript.module(TOP)
+            bytes_of_modules = javascript.modules(TOP)
         except packages.Missing as it:
             print(f"not run: the package for JavaScript, since there is {it}")
             print("0 passed, 1 failed")
             return 1
         package, page = javascript.make(TOP, None, f"{room}/dist")
-        in_node(results, room, package, bytes_of_module)
+        in_node(results, room, package, bytes_of_modules)
         in_chromium(results, page)
     print(f"{results.passed} passed, {results.failed} failed")
     return 1 if results.failed else 0

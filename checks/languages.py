@@ -305,7 +305,8 @@ def main():
             compare_symbols(results, header, library)
             compare_instructions(results, library, level_of_header())
             compare_higher(results, header, library, f"{room}/higher.a")
-            from_rust.test(results, room, library)
+        if library and layers:
+            from_rust.test(results, room, library, layers)
         if library and layers and shutil.which("cc"):
             from_c.test(results, room, library, layers, sorted(header))
             from_python.test(results, room, library, layers)

@@ -1,20 +1,24 @@
 #!/usr/bin/env python3
-"""Holds the schedules of libcalendar_layers to those of croniter, and its open days to those of numpy.
+"""Holds the schedules of libcalendar_layers to those of croniter, its rules to those of dateutil, and its open days to those of numpy.
 
     checks/layers_peers.py [CASES [SEED]]
 
-It takes or builds the static library as checks/languages.py does, and needs a C compiler, croniter and numpy. The static library
+It takes or builds the static library as checks/languages.py does, and needs a C compiler, croniter, dateutil and numpy. The static library
 becomes a shared one, which is called by ctypes. Each case is a generated schedule and a start: 20,000 cases, or so many. The next
 and the last moment have to be croniter's. Left out is what the two read otherwise: a field of days that begins with `*` and has a
 step, or lists all its numbers. So is what croniter 1.3 does not find: 29 February backwards, and a day in more than 50 years or in
 a month that is too short for the days listed. As many cases count and move open days by generated weekends and holidays.
+
+A tenth as many are recurrence rules, whose first 20 instances in 30 years have to be dateutil's. No case has BYWEEKNO without BYDAY,
+BYSETPOS in weeks, or weekdays of which some have numbers: there dateutil departs from RFC 5545.
 """
 import ctypes
 import datetime
-import os
+import itertools
 import random
 import sys
 import tempfile
+import warnings
 
 from results import TOP, Results
 
@@ -26,11 +30,13 @@ from library import LAYERS, take_library  # noqa: E402
 try:
     import croniter
     import numpy
+    from dateutil import rrule
 except ImportError:
-    croniter = numpy = None
+    croniter = numpy = rrule = None
 
 EPOCH = datetime.datetime(1970, 1, 1)
 RANGES = ((0, 59), (0, 23), (1, 31), (1, 12), (0, 6))
+WEEKDAYS = ("MO", "TU", "WE", "TH", "FR", "SA", "SU")
 
 
 class Moment(ctypes.Structure):
@@ -141,10 +147,51 @@ def test_schedules(results, library, numbers, cases):
     return left_out
 
 
+def listed(numbers, choices, most=3):
+    """Some of the choices, as a list of a rule."""
+    return ",".join(str(it) for it in numbers.sample(choices, numbers.randint(1, most)))
+
+
+def rule(numbers):
+    """The text of a rule."""
+    frequency = numbers.choice(("DAILY", "WEEKLY", "MONTHLY", "YEARLY"))
+    parts = [f"FREQ={frequency}", *([f"INTERVAL={numbers.randint(2, 5)}"] if numbers.random() < 0.4 else [])]
+    has_numbers, is_by_weeks = frequency in ("MONTHLY", "YEARLY"), frequency == "YEARLY" and numbers.random() < 0.2
+    if numbers.random() < 0.3 and not is_by_weeks:
+        parts.append(f"BYMONTH={listed(numbers, range(1, 13))}")
+    if numbers.random() < 0.4 and frequency != "WEEKLY" and not is_by_weeks:
+        parts.append(f"BYMONTHDAY={listed(numbers, [*range(1, 32), *range(-31, 0)])}")
+    if numbers.random() < 0.4 or is_by_weeks:
+        places = (1, 2, 4, -1, -2) if has_numbers and not is_by_weeks and numbers.random() < 0.5 else ("",)
+        days = [f"{n}{day}" for day in WEEKDAYS for n in places]
+        parts.append(f"BYDAY={listed(numbers, days)}")
+    if is_by_weeks:
+        parts.append(f"BYWEEKNO={listed(numbers, range(2, 52))}")
+    if has_numbers and len(parts) > 2 and parts[-1].startswith("BY") and numbers.random() < 0.3:
+        parts.append(f"BYSETPOS={listed(numbers, (1, 2, 3, -1, -2), 2)}")
+    if numbers.random() < 0.3:
+        parts.append(f"COUNT={numbers.randint(1, 15)}")
+    return ";".join(parts)
+
+
+def test_rules(results, library, numbers, cases):
+    """The first instances of rules beside dateutil's."""
+    library.calendar_rule_instances.restype = ctypes.c_size_t
+    out = (ctypes.c_int32 * 20)()
+    for _ in range(cases):
+        text, start = rule(numbers), EPOCH + datetime.timedelta(days=numbers.randrange(10_000, 30_000))
+        until = start + datetime.timedelta(days=11_000)
+        theirs = itertools.islice(rrule.rrulestr(text, dtstart=start).replace(until=until), 20)
+        theirs = [it.toordinal() for it in theirs]
+        days = start.toordinal(), start.toordinal(), until.toordinal()
+        found = library.calendar_rule_instances(text.encode(), ctypes.c_size_t(len(text)), *days, out, ctypes.c_size_t(20))
+        results.count(out[:found] == theirs, f"{text} from {start}: {out[:found]}, dateutil has {theirs}")
+
+
 def main():
     restart_without(croniter)
     if croniter is None:
-        print("not run: checks/layers_peers.py, which needs python3-croniter and python3-numpy\n0 passed, 0 failed")
+        print("not run: checks/layers_peers.py, which needs python3-croniter, python3-dateutil and python3-numpy\n0 passed, 0 failed")
         return 0
     cases = int(sys.argv[1]) if len(sys.argv) > 1 else 20_000
     results, numbers = Results(), random.Random(int(sys.argv[2]) if len(sys.argv) > 2 else 1)
@@ -155,6 +202,9 @@ def main():
             left_out = test_schedules(results, library, numbers, cases)
             print(f"{left_out} answers on schedules were left out")
             test_open_days(results, library, numbers, cases)
+            # (COUNT beside UNTIL, which no text of a rule has)
+            warnings.simplefilter("ignore", DeprecationWarning)
+            test_rules(results, library, numbers, cases // 10)
     print(f"{results.passed} passed, {results.failed} failed")
     return 1 if results.failed else 0
 

@@ -1,15 +1,18 @@
 #!/usr/bin/env python3
 """Holds patterns to Python's strftime, to GNU date and to Debian's chrono, on random patterns and date-times.
 
-    checks/patterns.py [--seed N] [--lines N]      (seed 1 and 20,000 lines, if left out)
+    checks/patterns.py [--seed N] [--lines N] [--rounds N]      (seed 1, 20,000 lines and one round, if left out)
 
-A line has a local date-time and its offset from UTC. It is written with the offset and without it. An answer is this file's own, from
-its own count of days. In the years 1000 to 9999, Python's strftime has to write the same of each specifier that it has, and GNU date of
-all its specifiers in one pattern. Where there is Debian's chrono, checks/chrono_patterns has to write the same too, and to refuse the same
-patterns: all that have none of `%q`, `%U`, `%W` and `%#z`. The first is newer, and chrono only reads the last. Of the other two Debian's
-chrono writes another number in some years, where GNU date and Python agree: how many lines differ is printed. Python writes the seconds
-of an offset by `%z`, so it is asked at whole minutes alone. Bytes that are no pattern are read by a regular expression. `rt try` runs a small program unproved, in a copy of the crates: it answers the lines, and what differs is printed. A second run
-of the same lines with one answer changed has to find that answer. The table of patterns in docs/chrono.md is asked with them.
+A line has a local date-time and its offset from UTC. It is written with the offset, and printed without it. Some bytes between the
+specifiers are no ASCII. An answer is this file's own, from its own count of days. In the years 1000 to 9999, Python's strftime has to
+write the same of each specifier that it has, and GNU date of all its specifiers in one pattern. Where there is Debian's chrono,
+checks/chrono_patterns has to write the same too, and to refuse the same patterns: all that have none of `%q`, `%U`, `%W` and `%#z`. The
+first is newer, and chrono only reads the last. Of the other two Debian's chrono writes another number in some years, where GNU date and
+Python agree: how many lines differ is printed. Python writes the seconds of an offset by `%z`, so it is asked at whole minutes alone.
+Bytes that are no pattern are read by a regular expression. `rt try` runs a small program unproved, in a copy of the crates: it answers the
+lines, and what differs is printed. A second run of the same lines with one answer changed has to find that answer. The table of patterns
+in docs/chrono.md is asked with them. Each round has as many lines of its own, by the next seed: `--lines 200000 --rounds 5` are a million.
+GNU date is asked for 20,000 in a round at most.
 """
 import argparse
 import datetime
@@ -32,6 +35,8 @@ FIRST, LAST = -95_746_129, 95_745_399
 EPOCH, NANOS = 719_163, 10**9
 # How many lines one run of the program answers.
 PART = 10_000
+# How many lines GNU date is asked for in a round at most.
+GNU_LINES = 20_000
 WEEKDAYS = "Monday Tuesday Wednesday Thursday Friday Saturday Sunday".split()
 MONTHS = "January February March April May June July August September October November December".split()
 NUMBERS, OTHERS = "YCyqmdejuwGgVUWHkIlMSfs", "BbhAapPFDRTcxXrvt%Z+"
@@ -78,8 +83,8 @@ fn main(rt: HostRuntime) -> io::Result<()> {
                     Some(text) => print!(rt; "= {}", text.as_str())?,
                     None => print!(rt; "= too long")?,
                 }
-                match pattern.format::<512>(local) {
-                    Some(text) => println!(rt; "|{}", text.as_str())?,
+                match pattern.delayed(local) {
+                    Some(text) => println!(rt; "|{text}")?,
                     None => println!(rt; "|none")?,
                 }
             }
@@ -104,8 +109,9 @@ class Moment:
         self.iso_week = (thursday - Moment.new_year(self.iso_year)) // 7 + 1
 
     def weeks(self, weekday):
-        """How many days of the year up to this one have the weekday."""
-        return sum((day - 1) % 7 == weekday for day in range(self.day - self.ordinal + 1, self.day + 1))
+        """How many days of the year up to this one have the weekday: every seventh from the first on."""
+        start = self.day - self.ordinal + 1
+        return len(range(start + (weekday - start + 1) % 7, self.day + 1, 7))
 
     @staticmethod
     def new_year(year):
@@ -113,19 +119,24 @@ class Moment:
         return 365 * past + past // 4 - past // 100 + past // 400 + 1
 
 
+# Of each number: its value, its fewest digits, and what is put in front of fewer.
+VALUES = {
+    "Y": (lambda m: m.year, 4, "0"), "C": (lambda m: m.year // 100, 2, "0"), "y": (lambda m: m.year % 100, 2, "0"), "q": (lambda m: (m.month + 2) // 3, 1, "0"),
+    "m": (lambda m: m.month, 2, "0"), "d": (lambda m: m.of_month, 2, "0"), "e": (lambda m: m.of_month, 2, "_"), "j": (lambda m: m.ordinal, 3, "0"),
+    "u": (lambda m: m.weekday + 1, 1, "0"), "w": (lambda m: (m.weekday + 1) % 7, 1, "0"), "G": (lambda m: m.iso_year, 4, "0"),
+    "g": (lambda m: m.iso_year % 100, 2, "0"), "V": (lambda m: m.iso_week, 2, "0"), "U": (lambda m: m.weeks(6), 2, "0"), "W": (lambda m: m.weeks(0), 2, "0"),
+    "H": (lambda m: m.at // 3600, 2, "0"), "k": (lambda m: m.at // 3600, 2, "_"), "I": (lambda m: (m.at // 3600 + 11) % 12 + 1, 2, "0"),
+    "l": (lambda m: (m.at // 3600 + 11) % 12 + 1, 2, "_"), "M": (lambda m: m.at // 60 % 60, 2, "0"), "S": (lambda m: m.at % 60 + m.fraction // NANOS, 2, "0"),
+    "f": (lambda m: m.fraction % NANOS, 9, "0"),
+}
+
+
 def number(moment, code, padding):
     """A number: its sign, its digits, and what is missing."""
-    m, hour = moment, moment.at // 3600
     if code == "s":
-        return str((m.day - EPOCH) * 86_400 + m.at - m.offset)
-    value, least, usual = {
-        "Y": (m.year, 4, "0"), "C": (m.year // 100, 2, "0"), "y": (m.year % 100, 2, "0"), "q": ((m.month + 2) // 3, 1, "0"),
-        "m": (m.month, 2, "0"), "d": (m.of_month, 2, "0"), "e": (m.of_month, 2, "_"), "j": (m.ordinal, 3, "0"),
-        "u": (m.weekday + 1, 1, "0"), "w": ((m.weekday + 1) % 7, 1, "0"), "G": (m.iso_year, 4, "0"), "g": (m.iso_year % 100, 2, "0"),
-        "V": (m.iso_week, 2, "0"), "U": (m.weeks(6), 2, "0"), "W": (m.weeks(0), 2, "0"), "H": (hour, 2, "0"), "k": (hour, 2, "_"), "I": ((hour + 11) % 12 + 1, 2, "0"),
-        "l": ((hour + 11) % 12 + 1, 2, "_"), "M": (m.at // 60 % 60, 2, "0"), "S": (m.at % 60 + m.fraction // NANOS, 2, "0"),
-        "f": (m.fraction % NANOS, 9, "0"),
-    }[code]
+        return str((moment.day - EPOCH) * 86_400 + moment.at - moment.offset)
+    of, least, usual = VALUES[code]
+    value = of(moment)
     signed = code in "YG" and not 0 <= value <= 9999
     least += signed
     form = "+" if signed else ""
@@ -175,7 +186,7 @@ def answer(moment, pattern):
             made.append(pattern[at])
             at += 1
         else:
-            return f"{'Cut' if BEGUN.match(pattern, at) else 'Unknown'} {at}"
+            return f"{'Cut' if BEGUN.match(pattern, at) else 'Unknown'} {len(pattern[:at].encode())}"
     return "".join(made)
 
 
@@ -217,7 +228,7 @@ def part(draw):
     if kind < 0.78:
         return "%" + draw.choice(("", ".")) + draw.choice(("", "3", "6", "9")) + "f"
     if kind < 0.97:
-        return draw.choice(("-", ":", " ", "T", "/", ", ", "W", "100", "%%"))
+        return draw.choice(("-", ":", " ", "T", "/", ", ", "W", "100", "%%", "年", ". März ", "𝕏"))
     return draw.choice(("%", "%Q", "%-a", "%--d", "%.5f", "%.", "%3", "%.3", "%-", "%0F", "%33f", "%.-d", "%_%", "%:", "%::", "%::::z", "%#", "%-z", "%:Z", "%_+", "%#:z", "%:::"))
 
 
@@ -253,15 +264,8 @@ def line_of(question):
     return " ".join(map(str, question))
 
 
-def answers_of(room, questions):
-    """What the program answers."""
-    folder = put_program(room, "patterns", ["chrono_datetime", "chrono_zoned", "chrono_pattern"], PROGRAM)
-    return answers_in_parts(room, folder, [line_of(it) for it in questions], PART)
-
-
-def by_chrono(room, questions):
+def by_chrono(program, questions):
     """What chrono writes, `!` where it refuses the pattern, and `-` for a day that it lacks."""
-    program = build_over_chrono(room, "checks/chrono_patterns")
     # chrono panics where it has to write `%#z`, so it is asked for nothing there.
     asked = "".join(f"{line_of((*it[:4], it[4] if '%#' not in it[4] else ''))}\n" for it in questions)
     return subprocess.run([program], input=asked, stdout=subprocess.PIPE, text=True, check=True).stdout.split("\n")[:-1]
@@ -298,32 +302,65 @@ def as_chrono(question, told):
     return told != "-" and not re.search("%[-_0]?[qUW]|%#", question[4])
 
 
-def main():
-    parser = argparse.ArgumentParser(description=__doc__.partition("\n")[0])
+def options_of(doc):
+    """The seed, how many lines each round has, and how many rounds."""
+    parser = argparse.ArgumentParser(description=doc.partition("\n")[0])
     parser.add_argument("--seed", type=int, default=1)
     parser.add_argument("--lines", type=int, default=20_000)
-    options = parser.parse_args()
-    draw = random.Random(options.seed)
-    questions = [question(draw) for _ in range(options.lines)]
-    wanted = [both(it) for it in questions]
+    parser.add_argument("--rounds", type=int, default=1)
+    return parser.parse_args()
+
+
+def chrono_program(room):
+    """The program over Debian's chrono, or none where there is no chrono."""
+    if missing := why_no_chrono():
+        print(f"chrono is not asked: {missing}")
+        return None
+    return build_over_chrono(room, "checks/chrono_patterns")
+
+
+def run_rounds(options, room, run_round):
+    """Runs each round by its seed, up to the first that finds something, and ends with what the last one found."""
+    for seed in range(options.seed, options.seed + options.rounds):
+        os.mkdir(f"{room}/seed{seed}")
+        lines, told, wanted, wrong = run_round(f"{room}/seed{seed}", random.Random(seed), options.lines)
+        print(f"{len(lines)} lines by seed {seed}", flush=True)
+        if wrong or told != wanted:
+            break
+    end(lines, told, wanted, wrong)
+
+
+def answers_by_others(room, chrono, draw, questions, wanted):
+    """What chrono and GNU date write otherwise, of lines and of days of their own."""
+    wrong = []
+    if chrono:
+        others = [(line_of(it), a, b.rpartition("|")[0] if not b.startswith(("Cut ", "Unknown ")) else "!") for it, a, b in zip(questions, by_chrono(chrono, questions), wanted) if as_chrono(it, a)]
+        wrong += ["chrono: " + it for it in differing(*zip(*others))]
+        print(f"{len(others)} of {len(questions)} by chrono too")
+        weeks = draw_weeks(draw, len(questions) // 4)
+        other = [a != answer(Moment(*it[:3]), it[4]) for it, a in zip(weeks, by_chrono(chrono, weeks)) if a != "-"]
+        print(f"chrono differs in {sum(other)} of {len(other)} lines of %U and %W")
+    gnu = by_gnu(room, draw, min(len(questions), GNU_LINES))
+    print(f"{len(gnu[0])} lines by GNU date too")
+    return wrong + ["GNU date: " + it for it in differing(*gnu)]
+
+
+def main():
+    options = options_of(__doc__)
     shown, texts = of_page()
-    wrong = [f"{PAGE}: {it}" for it in differing([line_of(it) for it in shown], texts, [answer(Moment(*it[:3]), it[4]) for it in shown])]
-    questions, wanted = questions + shown, wanted + [f"{it}|{it}" for it in texts]
+    unlike = [f"{PAGE}: {it}" for it in differing([line_of(it) for it in shown], texts, [answer(Moment(*it[:3]), it[4]) for it in shown])]
     with tempfile.TemporaryDirectory(prefix="patterns-") as room:
-        if missing := why_no_chrono():
-            print(f"chrono is not asked: {missing}")
-        else:
-            others = [(line_of(it), a, b.rpartition("|")[0] if not b.startswith(("Cut ", "Unknown ")) else "!") for it, a, b in zip(questions, by_chrono(room, questions), wanted) if as_chrono(it, a)]
-            wrong += ["chrono: " + it for it in differing(*zip(*others))]
-            print(f"{len(others)} of {len(questions)} by chrono too")
-            weeks = draw_weeks(draw, options.lines // 4)
-            other = [a != answer(Moment(*it[:3]), it[4]) for it, a in zip(weeks, by_chrono(room, weeks)) if a != "-"]
-            print(f"chrono differs in {sum(other)} of {len(other)} lines of %U and %W")
-        gnu = by_gnu(room, draw, options.lines)
-        wrong += ["GNU date: " + it for it in differing(*gnu)]
-        print(f"{len(gnu[0])} lines by GNU date too")
-        told = answers_of(room, questions)
-    end([line_of(it) for it in questions], told, wanted, wrong)
+        chrono = chrono_program(room)
+        folder = put_program(room, "patterns", ["chrono_datetime", "chrono_zoned", "chrono_pattern"], PROGRAM)
+
+        def run_round(own, draw, count):
+            drawn = [question(draw) for _ in range(count)]
+            questions, wanted = drawn + shown, [both(it) for it in drawn] + [f"{it}|{it}" for it in texts]
+            wrong = unlike + answers_by_others(own, chrono, draw, questions, wanted)
+            lines = [line_of(it) for it in questions]
+            return lines, answers_in_parts(own, folder, lines, PART), wanted, wrong
+
+        run_rounds(options, room, run_round)
 
 
 if __name__ == "__main__":

@@ -1,23 +1,22 @@
 #!/usr/bin/env python3
 """Holds the reading of texts by patterns to an own reader, to Python's strptime and to Debian's chrono, on random patterns and texts.
 
-    checks/patterns_read.py [--seed N] [--lines N]      (seed 1 and 20,000 lines, if left out)
+    checks/patterns_read.py [--seed N] [--lines N] [--rounds N]      (seed 1, 20,000 lines and one round, if left out)
 
-A text is one that its pattern writes, often with a byte changed, left out or put in. It is read whole, and its front alone: as a date, as a
-date-time and as one with its offset. The wanted answer is this file's own. Where it is a date, its fields are compared with all dates that
-fit, by their names. Python's strptime has to read the same date, and the same date-time with its offset, wherever it has all specifiers of
-a pattern and reads the text. Debian's chrono has to read the same, or nothing where nothing is wanted. It differs where the tables below say. `rt try` runs a small program unproved, in a copy of the crates. A second run
-of the same lines with one answer changed has to find that answer.
+A text is one that its pattern writes, often with a byte changed, left out or put in. It is read whole, and its front alone: as a date, as
+a date-time and as one with its offset. The wanted answer is this file's own. Where it is a date, its fields are compared with all dates
+that fit, by their names. Python's strptime has to read the same date, and the same date-time with its offset, wherever it has all
+specifiers of a pattern and reads the text. Debian's chrono has to read the same, or nothing where nothing is wanted. It differs where the
+tables below say. `rt try` runs a small program unproved, in a copy of the crates. A second run of the same lines with one answer changed
+has to find that answer. Each round has as many lines of its own, by the next seed.
 """
-import argparse
 import datetime
-import random
 import re
 import subprocess
 import tempfile
 
 from outside import answers_in_parts, put_program
-from patterns import EPOCH, FIRST, GROUPS, LAST, MONTHS, NANOS, PART, SPECIFIER, WEEKDAYS, Moment, answer, build_over_chrono, differing, end, offset_text, why_no_chrono
+from patterns import EPOCH, FIRST, GROUPS, LAST, MONTHS, NANOS, PART, SPECIFIER, WEEKDAYS, Moment, answer, chrono_program, differing, offset_text, options_of, run_rounds
 
 SINGLES = {"h": "%b", "n": "\n", "t": "\t"}
 # The part of a number, and its least and greatest value.
@@ -445,37 +444,39 @@ def line_of(question):
     return "|".join(question)
 
 
-def by_chrono(room, questions):
+def by_chrono(program, questions):
     """The dates that chrono reads, and the zoned date-times, `!` for none."""
-    program = build_over_chrono(room, "checks/chrono_patterns")
     asked = "".join(f"{line_of(it)}\n" for it in questions)
     return subprocess.run([program, "read"], input=asked, stdout=subprocess.PIPE, text=True, check=True).stdout.split("\n")[:-1]
 
 
+def read_by_chrono(chrono, questions, answers):
+    """What chrono reads otherwise."""
+    wrong = []
+    # Debian's chrono does not look at the range of an hour or a minute where it reads a date.
+    read = [it.split(" ") for it in by_chrono(chrono, questions)]
+    for place, what in enumerate(("dates", "zoned date-times")):
+        rows = ((it, a[place], b[(0, 3)[place]]) for it, a, b in zip(questions, read, answers))
+        others = [(line_of(it), a, b if DATE.match(b) else "!") for it, a, b in rows if not NOT_OF_CHRONO.search(it[0]) and not b.startswith("OutOfRange")]
+        wrong += [f"chrono, {what}: {it}" for it in differing(*zip(*others))]
+        print(f"{len(others)} of {len(questions)} {what} by chrono too")
+    return wrong
+
+
 def main():
-    parser = argparse.ArgumentParser(description=__doc__.partition("\n")[0])
-    parser.add_argument("--seed", type=int, default=1)
-    parser.add_argument("--lines", type=int, default=20_000)
-    options = parser.parse_args()
-    draw = random.Random(options.seed)
-    questions = [it for it in (question(draw) for _ in range(options.lines)) if "\n" not in line_of(it)]
-    answers = [wanted_of(*it) for it in questions]
-    wanted, wrong = ["; ".join(it) for it in answers], []
+    options = options_of(__doc__)
     with tempfile.TemporaryDirectory(prefix="patterns-read-") as room:
-        if missing := why_no_chrono():
-            print(f"chrono is not asked: {missing}")
-        else:
-            # Debian's chrono does not look at the range of an hour or a minute where it reads a date.
-            read = [it.split(" ") for it in by_chrono(room, questions)]
-            for place, what in enumerate(("dates", "zoned date-times")):
-                rows = ((it, a[place], b[(0, 3)[place]]) for it, a, b in zip(questions, read, answers))
-                others = [(line_of(it), a, b if DATE.match(b) else "!") for it, a, b in rows if not NOT_OF_CHRONO.search(it[0]) and not b.startswith("OutOfRange")]
-                wrong += [f"chrono, {what}: {it}" for it in differing(*zip(*others))]
-                print(f"{len(others)} of {len(questions)} {what} by chrono too")
+        chrono = chrono_program(room)
         folder = put_program(room, "patterns_read", ["chrono_datetime", "chrono_zoned", "chrono_pattern"], PROGRAM)
-        lines = [line_of(it) for it in questions]
-        told = answers_in_parts(room, folder, lines, PART)
-    end(lines, told, wanted, wrong)
+
+        def run_round(own, draw, count):
+            questions = [it for it in (question(draw) for _ in range(count)) if "\n" not in line_of(it)]
+            answers = [wanted_of(*it) for it in questions]
+            wrong = read_by_chrono(chrono, questions, answers) if chrono else []
+            lines = [line_of(it) for it in questions]
+            return lines, answers_in_parts(own, folder, lines, PART), ["; ".join(it) for it in answers], wrong
+
+        run_rounds(options, room, run_round)
 
 
 if __name__ == "__main__":

@@ -9,7 +9,7 @@ docs/reference is made:
   average    the words of a sentence, on average at most 18
   long       sentences of over 30 words, at most 5 in 100, and none of over 40
   tables     at most 5 columns, and at most 25 words in a cell
-  together   the words of all pages but the packages' own, at most 24,000
+  together   the words of all pages but the packages' own, at most 24,500
   package    at most 900 words on the page of a package, and 600 on each further page of it
   README     at most 90 lines and 750 words
 
@@ -27,7 +27,7 @@ import sys
 
 TOP = os.path.dirname(os.path.dirname(os.path.abspath(__file__)))
 PAGES = ("*.md", "docs/*.md", "languages/*/*.md")
-AVERAGE, LONG, LONGEST, SHARE, COLUMNS, CELL, TOGETHER, PACKAGE, FURTHER = 18, 30, 40, 0.05, 5, 25, 24_000, 900, 600
+AVERAGE, LONG, LONGEST, SHARE, COLUMNS, CELL, TOGETHER, PACKAGE, FURTHER = 18, 30, 40, 0.05, 5, 25, 24_500, 900, 600
 README_LINES, README_WORDS = 90, 750
 # Which faults each of these texts has to show.
 SHORT, LONG_ONE = "The prover checks it. ", " ".join(["word"] * 41) + ". "

@@ -1,24 +1,31 @@
 #!/usr/bin/env python3
-"""Holds schedules and open days of the Python package to croniter and numpy, over generated cases.
+"""Holds schedules, open days and rules of the Python package to croniter, numpy and dateutil, over generated cases.
 
     checks/python_layers.py [CASES [SEED]]
 
-It needs a Python with proved_calendar, croniter and numpy; checks/from_python.py runs it over the installed wheel. There are
+It needs a Python with proved_calendar, croniter, numpy and dateutil; checks/from_python.py runs it over the installed wheel. There are
 20,000 cases of each kind, or so many. The next and the last moment of a generated schedule have to be croniter's, with the answers left
 out that checks/layers_peers.py leaves out. Open days are counted, and dates moved and rolled, by generated weekends and holidays.
+Rules are those that checks/rules_days.py makes for dateutil. Each sequence is asked as dateutil's is. Sets of rules, with dates beside
+them and exceptions, are a fortieth as many. A rule that has no instance is left out, since dateutil searches for one up to the year 9999.
 """
 import datetime
+import itertools
 import random
 import sys
 
 try:
     import numpy
+    from dateutil import rrule
     from layers_peers import EPOCH, RANGES, field, peer
+    from rules_days import at_midnight, at_random, made_by_dateutil
 except ImportError:
-    sys.exit("numpy and croniter are wanted: tools/setup installs Debian's")
+    sys.exit("numpy, croniter and dateutil are wanted: tools/setup installs Debian's")
 
-from proved_calendar import BusinessCalendar, Date, Schedule
+from proved_calendar import BusinessCalendar, Date, Rule, RuleSet, Schedule
 
+# The first instances of a rule.
+FIRST = slice(0, 20)
 FIRST_DAY, LAST_DAY = 10_000, 30_000
 # The name of each roll that numpy has.
 ROLLS = {
@@ -92,10 +99,66 @@ def test_open_days(numbers, count):
     return cases.tell()
 
 
+def compare_instances(cases, numbers, ours, theirs, start, case):
+    """A sequence beside one of dateutil, whose instances have the time of day of ours, or are at midnight."""
+    shown = (lambda it: it) if isinstance(start, datetime.datetime) else (lambda it: it and it.date())
+    first = list(itertools.islice(theirs, FIRST.stop))
+    cases.count(ours[FIRST], list(map(shown, first)), *case)
+    near = start + datetime.timedelta(numbers.randrange(-10, 1000))
+    near = numbers.choice((near, *map(shown, first[:3])))
+    their_near, inc = near if isinstance(near, datetime.datetime) else at_midnight(near), bool(numbers.randrange(2))
+    cases.count(ours.after(near, inc), shown(theirs.after(their_near, inc)), *case, "after", near, inc)
+    cases.count(ours.before(near, inc), shown(theirs.before(their_near, inc)), *case, "before", near, inc)
+    cases.count(near in ours, their_near in theirs, *case, "in", near)
+    end = near + datetime.timedelta(numbers.randrange(400))
+    their_end = end if isinstance(end, datetime.datetime) else at_midnight(end)
+    cases.count(ours.between(near, end, inc), list(map(shown, theirs.between(their_near, their_end, inc))), *case, "between", near, end, inc)
+    few = list(itertools.islice(theirs.xafter(their_near, inc=inc), 3))
+    cases.count(list(ours.xafter(near, 3, inc)), list(map(shown, few)), *case, "xafter", near, inc)
+
+
+def a_rule(numbers):
+    """A rule of checks/rules_days.py that has an instance, and its start."""
+    while True:
+        rule, start = at_random(numbers)
+        if Rule(rule.text(), start).after(start, inc=True):
+            return rule, start
+
+
+def test_rules(numbers, count):
+    """Rules over days and over times, beside those of dateutil."""
+    cases = Cases("rules")
+    for _ in range(count):
+        rule, start = a_rule(numbers)
+        theirs, start = made_by_dateutil(rule, start).replace(cache=True), numbers.choice((start, at_midnight(start)))
+        compare_instances(cases, numbers, Rule(rule.text(), start), theirs, start, (rule.text(), start))
+    return cases.tell()
+
+
+def test_rule_sets(numbers, count):
+    """Rules with dates beside them, and without others, beside those of dateutil."""
+    cases = Cases("sets of rules")
+    for _ in range(count):
+        made = [a_rule(numbers) for _ in range(numbers.randrange(1, 4))]
+        start = made[0][1]
+        days = sorted({start + datetime.timedelta(numbers.randrange(-40, 400)) for _ in range(numbers.randrange(6))})
+        parts = [made[: numbers.randrange(1, 3)], days, made[2:], [it for it in days if numbers.randrange(2)]]
+        rules, except_rules = ([Rule(it.text(), at) for it, at in part] for part in (parts[0], parts[2]))
+        ours, theirs = RuleSet(rules, parts[1], except_rules, parts[3]), rrule.rruleset()
+        for call, part in ((theirs.rrule, parts[0]), (theirs.exrule, parts[2])):
+            for it, at in part:
+                call(made_by_dateutil(it, at).replace(cache=True))
+        for call, part in ((theirs.rdate, parts[1]), (theirs.exdate, parts[3])):
+            for it in part:
+                call(at_midnight(it))
+        compare_instances(cases, numbers, ours, theirs, start, (ours,))
+    return cases.tell()
+
+
 def main():
     count = int(sys.argv[1]) if len(sys.argv) > 1 else 20_000
     numbers = random.Random(int(sys.argv[2]) if len(sys.argv) > 2 else 1)
-    results = [test_schedules(numbers, count), test_open_days(numbers, count)]
+    results = [test_schedules(numbers, count), test_open_days(numbers, count), test_rules(numbers, count), test_rule_sets(numbers, count // 40)]
     passed, failed = (sum(it) for it in zip(*results))
     print(f"all: {passed} passed, {failed} failed")
     return 1 if failed else 0

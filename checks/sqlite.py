@@ -25,7 +25,7 @@ import tempfile
 TOP = os.path.dirname(os.path.dirname(os.path.abspath(__file__)))
 sys.path.insert(0, f"{TOP}/tools")
 import packages  # noqa: E402
-from library import CALENDAR, LAYERS, find_library  # noqa: E402
+from library import make_package  # noqa: E402
 from packages import sqlite  # noqa: E402
 from results import LANGUAGES, Results, read, run, succeeds  # noqa: E402
 from wrong_lines import edits, planted  # noqa: E402
@@ -49,18 +49,6 @@ SCHEDULES = (
 def loads_extensions():
     """Whether the module sqlite3 of this Python loads extensions."""
     return hasattr(sqlite3.Connection, "enable_load_extension")
-
-
-def make_package(room):
-    """Makes the package in a folder; the path of the extension, and of the static libraries in it."""
-    built, dist = f"{room}/built", f"{room}/dist"
-    os.makedirs(built)
-    for crate, name in {CALENDAR: packages.CALENDAR, LAYERS: packages.LAYERS}.items():
-        library = find_library(room, crate)
-        if not library:
-            raise RuntimeError(f"there is no lib{crate}.a, and `rt lib` does not build it")
-        packages.build(library, built, name)
-    return sqlite.make(TOP, built, dist)[0], [f"{built}/lib{it}.a" for it in (packages.CALENDAR, packages.LAYERS)]
 
 
 def load(path):
@@ -180,7 +168,7 @@ def try_wrong_lines(results, room, libraries):
 
 def test(results, room, count, seed):
     """All of it."""
-    path, libraries = make_package(room)
+    (path, *_), libraries = make_package(room, "sqlite")
     if not loads_extensions():
         print(f"not run: the tests of the SQLite extension, since no Python here loads extensions; {os.path.basename(path)} is built")
     else:

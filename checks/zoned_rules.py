@@ -19,7 +19,7 @@ import tempfile
 import zoneinfo
 
 from outside import answers_in_parts, put_program
-from zoned_schedules import WALKS, end
+from zoned_schedules import MAIN, WALKS, end
 
 from debian import restart_without  # noqa: E402
 
@@ -77,21 +77,7 @@ use std::io::{self, BufRead, BufReader};
 use zone_database::{Zone, system_database};
 use zoned_rules::{Bound, ClockSteps, ClockUnit, DateTime, DayTimes, InZone, LocalRule, ZonedRecurrence, ZonedRule, instant_of, read_rule};
 
-fn main(rt: HostRuntime) -> io::Result<()> {
-    let Ok(database) = system_database(&rt) else {
-        return Ok(());
-    };
-    for line in BufReader::new(rt.alloc(), rt.reader())?.lines(rt.alloc()) {
-        let line = line?;
-        let (name, words) = line.as_str().split_once(' ').unwrap_or((line.as_str(), ""));
-        match database.zone(&rt, name) {
-            Ok(zone) => answer(&rt, &zone.zone(), words)?,
-            Err(error) => println!(rt; "= {error}")?,
-        }
-    }
-    Ok(())
-}
-
+''' + MAIN + r'''
 // The numbers that commas separate.
 fn listed(text: &str) -> NumberSet {
     let mut set = NumberSet::none();

@@ -96,16 +96,10 @@ WALKS = r'''        "next" => {
             }
         }
 '''
-PROGRAM = r'''//! Answers questions on schedules in a zone, a line each.
-#![tactic(auto)]
 
-use chrono_datetime::NaiveDateTime;
-use chrono_instant::{FromTimestamp, Timestamp};
-use std::io::{self, BufRead, BufReader};
-use zone_database::{Zone, system_database};
-use zoned_cron::{DateTime, Fold, Gap, InZone, Policy, ZonedSchedule, read_schedule};
 
-fn main(rt: HostRuntime) -> io::Result<()> {
+# Asks for each line's zone, and answers the rest of the line in it.
+MAIN = '''fn main(rt: HostRuntime) -> io::Result<()> {
     let Ok(database) = system_database(&rt) else {
         return Ok(());
     };
@@ -119,7 +113,18 @@ fn main(rt: HostRuntime) -> io::Result<()> {
     }
     Ok(())
 }
+'''
 
+PROGRAM = r'''//! Answers questions on schedules in a zone, a line each.
+#![tactic(auto)]
+
+use chrono_datetime::NaiveDateTime;
+use chrono_instant::{FromTimestamp, Timestamp};
+use std::io::{self, BufRead, BufReader};
+use zone_database::{Zone, system_database};
+use zoned_cron::{DateTime, Fold, Gap, InZone, Policy, ZonedSchedule, read_schedule};
+
+''' + MAIN + r'''
 // Answers `CALL GAP FOLD START END SCHEDULE`.
 fn answer(rt: &HostRuntime, zone: &Zone, words: &str) -> io::Result<()> {
     let (call, words) = words.split_once(' ').unwrap_or((words, ""));

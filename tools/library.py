@@ -1,5 +1,6 @@
 """The static libraries for C, for packages and checks: those that `rt lib` leaves, or ones that are built now."""
 import contextlib
+import importlib
 import io
 import os
 import re
@@ -10,6 +11,7 @@ import time
 
 TOP = os.path.dirname(os.path.dirname(os.path.abspath(__file__)))
 sys.path[:0] = [f"{TOP}/checks", f"{TOP}/tools"]
+import packages  # noqa: E402
 from outside import below, copy_crates, listed_crates, load_rt, take_proved, time_of  # noqa: E402
 
 # The crates of the static libraries: that of calendar.h, and that of calendar_layers.h.
@@ -85,6 +87,19 @@ def find_library(room, name=CALENDAR):
     built = {it.name for it in load_rt().rtlib.crates_below(top) if it.is_built()}
     wanted = [it for it in libraries if it not in built]
     return path_of(top, name) if all(build(top, it) for it in [*wanted, name]) else None
+
+
+def make_package(room, language):
+    """Makes the package of a language in a folder, over both static libraries; what it made, and the libraries' paths."""
+    built = f"{room}/built"
+    os.makedirs(built)
+    for crate, name in {CALENDAR: packages.CALENDAR, LAYERS: packages.LAYERS}.items():
+        library = find_library(room, crate)
+        if not library:
+            raise RuntimeError(f"there is no lib{crate}.a, and `rt lib` does not build it")
+        packages.build(library, built, name)
+    made = importlib.import_module(f"packages.{language}").make(TOP, built, f"{room}/dist")
+    return made, [f"{built}/lib{it}.a" for it in (packages.CALENDAR, packages.LAYERS)]
 
 
 def take_library(results, room, name=CALENDAR):

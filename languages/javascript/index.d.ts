@@ -257,8 +257,146 @@ export class PlainDateTime implements Named {
   readonly [Symbol.toStringTag]: "PlainDateTime";
 }
 
+/** An instant, to the nanosecond, counted from 1970-01-01T00:00:00Z without leap seconds. */
+export class Instant {
+  constructor(epochNanoseconds: bigint);
+  /** The instant of a text with an offset, such as `2024-02-29T12:00:00+01:00`, or of an instant. */
+  static from(item: Instant | string): Instant;
+  static fromEpochMilliseconds(milliseconds: number): Instant;
+  static fromEpochNanoseconds(nanoseconds: bigint): Instant;
+  static compare(one: Instant | string, other: Instant | string): -1 | 0 | 1;
+  readonly epochMilliseconds: number;
+  readonly epochNanoseconds: bigint;
+  /** RangeError for days and longer units. */
+  add(duration: DurationLike): Instant;
+  subtract(duration: DurationLike): Instant;
+  until(other: Instant | string, options?: DifferenceOptions<Exclude<ExactUnit, "day">>): Duration;
+  since(other: Instant | string, options?: DifferenceOptions<Exclude<ExactUnit, "day">>): Duration;
+  round(options: Unit<Exclude<ExactUnit, "day">> | RoundingOptions): Instant;
+  equals(other: Instant | string): boolean;
+  toString(): string;
+  toLocaleString(locales?: string | string[], options?: Intl.DateTimeFormatOptions): string;
+  toJSON(): string;
+  valueOf(): never;
+  readonly [Symbol.toStringTag]: "Instant";
+}
+
 /** Whether a year, which may lie beyond those of dates, has 366 days. */
 export function isLeapYear(year: number): boolean;
 
 /** The days from a weekday on to the first of some weekdays, 0 to 6; undefined if there are none of them. */
 export function daysUntil(dayOfWeek: number, ...daysOfWeek: number[]): number | undefined;
+
+/** The version of the library, such as `0.1.0`. */
+export function version(): string;
+
+/** A text is wrong, from the place `start` on and before `end`; both are the same if something is missing there. */
+export class TextError extends RangeError {
+  readonly text: string;
+  readonly start: number;
+  readonly end: number;
+  /** What is wrong. */
+  readonly reason: string;
+}
+
+/** What the fields of a schedule list, each as numbers in order. */
+export interface ScheduleFields {
+  minutes: number[];
+  hours: number[];
+  days: number[];
+  months: number[];
+  /** From 0 for Sunday. */
+  weekdays: number[];
+  /** How many days follow: 0 for `L`, 3 for `L-3`. */
+  daysFromEnd: number[];
+  /** The days of `15W`: the workday that is nearest. */
+  nearestWorkdays: number[];
+  /** The weekdays of `5L`: the last one of the month. */
+  lastWeekdays: number[];
+  /** The weekday and its place in the month of `5#2`. */
+  nthWeekdays: [number, number][];
+  /** Whether `LW` is listed: the last workday of the month. */
+  hasLastWorkday: boolean;
+  /** Whether a day of the month or a weekday is enough. */
+  isEither: boolean;
+}
+
+/** A cron schedule, such as `30 4 1,15 * fri`. It is due at the beginning of minutes. */
+export class Schedule {
+  /** Throws a TextError if the text is no schedule. */
+  constructor(text: string);
+  static from(item: Schedule | string): Schedule;
+  readonly fields: ScheduleFields;
+  /** The first date-time after another at which it is due; undefined if there is none. */
+  nextAfter(start: DateTimeLike): PlainDateTime | undefined;
+  /** The last date-time before another at which it is due; undefined if there is none. */
+  previousBefore(start: DateTimeLike): PlainDateTime | undefined;
+  isDue(moment: DateTimeLike): boolean;
+  /** The date-times after another at which it is due, in order, up to `until`, which counts. */
+  iterate(start: DateTimeLike, options?: { until?: DateTimeLike }): IterableIterator<PlainDateTime>;
+  /** Whether another schedule lists the same. */
+  equals(other: Schedule | string): boolean;
+  toString(): string;
+  toJSON(): string;
+  readonly [Symbol.toStringTag]: "Schedule";
+}
+
+/** A recurrence rule of RFC 5545 from a start on, such as `FREQ=MONTHLY;BYDAY=-1FR`. Its instances are days. */
+export class Rule implements Iterable<PlainDate> {
+  /** Throws a TextError if the text is no rule. */
+  constructor(text: string, start: DateLike);
+  readonly start: PlainDate;
+  /** The first instance after a date; undefined if there is none. */
+  nextAfter(date: DateLike): PlainDate | undefined;
+  /** The last instance before a date; undefined if there is none. */
+  previousBefore(date: DateLike): PlainDate | undefined;
+  /** Whether a date is an instance. */
+  includes(date: DateLike): boolean;
+  /** The instances in order, from a date on and up to another; both count. */
+  iterate(options?: { from?: DateLike; until?: DateLike }): IterableIterator<PlainDate>;
+  [Symbol.iterator](): IterableIterator<PlainDate>;
+  toString(): string;
+  readonly [Symbol.toStringTag]: "Rule";
+}
+
+/** Where a closed date goes (ISDA 2006, section 4.12). */
+export type Roll =
+  | "unadjusted"
+  | "following"
+  | "preceding"
+  | "modifiedFollowing"
+  | "modifiedPreceding"
+  | "nearestIsda"
+  | "nearestQuantLib";
+
+/** How the part of a year is counted (ISDA 2006, section 4.16). */
+export type DayCount = "actualActualIsda" | "actual360" | "actual365Fixed" | "thirty360" | "thirtyE360";
+
+/** Open days: each day but those of a weekend and holidays. */
+export class BusinessCalendar {
+  /** The weekend has weekdays from 1 for Monday to 7, and is [6, 7] if left out. RangeError above 1,000 holidays. */
+  constructor(options?: { weekend?: number[]; holidays?: Iterable<DateLike> });
+  /** The calendar with the known holidays of some years; New Year's Day can be kept in the year before. */
+  static of(
+    name: "usFederal" | "target" | "englandAndWales",
+    firstYear: number,
+    lastYear: number,
+    options?: { weekend?: number[] },
+  ): BusinessCalendar;
+  readonly weekend: number[];
+  /** The holidays that are not on the weekend, in order. */
+  readonly holidays: PlainDate[];
+  isOpen(date: DateLike): boolean;
+  /** The n-th open day after a date; the first one from the date on if n is 0. */
+  add(date: DateLike, n: number): PlainDate;
+  /** How many days are open from one date on and before another. */
+  between(from: DateLike, to: DateLike): number;
+  roll(date: DateLike, roll: Roll): PlainDate;
+  readonly [Symbol.toStringTag]: "BusinessCalendar";
+}
+
+/** The part of a year from one date to another by a day count: a fraction that is not reduced. */
+export function dayCount(kind: DayCount, from: DateLike, to: DateLike): { numerator: number; denominator: number };
+
+/** Easter Sunday of a year, as the Gregorian churches have it. */
+export function easter(year: number): PlainDate;

@@ -1,18 +1,42 @@
-//! Links the static library: that of the folder which `CALENDAR_FOLDER` names by its whole path, or else the one inside
-//! this package, or else the one that this repository builds.
+//! Links the static libraries, that of dates and that of the layers: those of the folder which `CALENDAR_FOLDER` names by its whole
+//! path, or else those inside this package, or else those that this repository builds.
 
 use std::env;
 use std::path::{Path, PathBuf};
 
-/// The names that the library has: in a package, and where it is built.
-const NAMES: [&str; 2] = ["calendar", "calendar_c"];
+/// A static library.
+struct Library {
+    /// The names that it has: in a package, and where it is built.
+    names: [&'static str; 2],
+    /// Where this repository builds it.
+    built: &'static str,
+}
+
+const LIBRARIES: [Library; 2] = [
+    Library {
+        names: ["calendar", "calendar_c"],
+        built: "../../crates/calendar_c/out",
+    },
+    Library {
+        names: ["calendar_layers", "layers_c"],
+        built: "../../crates/layers_c/out",
+    },
+];
 
 fn main() {
     println!("cargo:rerun-if-env-changed=CALENDAR_FOLDER");
     refuse_other_machines();
-    let folders = folders();
+    for library in &LIBRARIES {
+        link(library);
+    }
+}
+
+/// Links a library.
+fn link(library: &Library) {
+    let folders = folders(library);
     let found = folders.iter().find_map(|folder| {
-        let name = NAMES
+        let name = library
+            .names
             .iter()
             .find(|name| folder.join(format!("lib{name}.a")).exists())?;
         Some((folder, name))
@@ -22,10 +46,11 @@ fn main() {
             .iter()
             .map(|it| format!("  {}", it.display()))
             .collect();
+        let [name, crate_name] = library.names;
         panic!(
-            "\n\nThe static library libcalendar.a is missing. Looked for it in\n{}\n\
-             In a clone of the repository `rt lib` in crates/calendar_c proves and builds it, and `tools/dist rust` makes a package \
-             with the library inside. CALENDAR_FOLDER names the folder of one that was built elsewhere.\n\n",
+            "\n\nThe static library lib{name}.a is missing. Looked for it in\n{}\n\
+             In a clone of the repository `rt lib` in crates/{crate_name} proves and builds it, and `tools/dist rust` makes a package \
+             with the libraries inside. CALENDAR_FOLDER names the folder of those that were built elsewhere.\n\n",
             listed.join("\n")
         );
     };
@@ -34,8 +59,8 @@ fn main() {
     println!("cargo:rustc-link-lib=static={name}");
 }
 
-/// The folders in which the library may lie.
-fn folders() -> Vec<PathBuf> {
+/// The folders in which a library may lie.
+fn folders(library: &Library) -> Vec<PathBuf> {
     if let Ok(named) = env::var("CALENDAR_FOLDER") {
         // (each command of cargo reads a relative path from a folder of its own)
         assert!(
@@ -46,7 +71,7 @@ fn folders() -> Vec<PathBuf> {
     }
     let own =
         PathBuf::from(env::var("CARGO_MANIFEST_DIR").expect("cargo says where the crate lies"));
-    vec![own.join("lib"), own.join("../../crates/calendar_c/out")]
+    vec![own.join("lib"), own.join(library.built)]
 }
 
 /// The library is machine code for one kind of machine.

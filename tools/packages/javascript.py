@@ -1,10 +1,11 @@
-"""The package for JavaScript: the library as a module of WebAssembly, the wrapper over it, and a page that needs nothing else.
+"""The package for JavaScript: two modules of WebAssembly, the wrapper over them, and a page that needs nothing else.
 
-The module is made of the sources of crates/calendar_c, as a crate of the kind wasm64 in a repository of its own, over
-what is proved of the libraries below: a repository has one kind of each crate. Binaryen then gives it a memory of 32-bit
-addresses, which more hosts can load. It is kept beside the static library and serves until a source changes.
+Each module is made of the sources of a crate for C, as a crate of the kind wasm64 in a repository of its own, over what is
+proved of the libraries below: a repository has one kind of each crate. Binaryen then gives it a memory of 32-bit addresses,
+which more hosts can load. It is kept beside the static library and serves until a source changes.
 """
 import base64
+import collections
 import json
 import os
 import re
@@ -16,13 +17,17 @@ import urllib.parse
 
 from . import LICENCES, Missing, version
 
-CRATE = "calendar_c"
-# (`rt lib` of the static library takes away a module of the crate's own name)
-KEPT = f"crates/{CRATE}/out/calendar.wasm"
-# What only C has a use for, columns of dates and a date's names as a struct: modules of the crate, and the library below them.
-C_ALONE, BELOW_C_ALONE = ("columns", "split"), "chrono_columns"
-SOURCES = ("numbers", "rounding", "calendar", "texts", "library", "duration", "plain_date", "plain_date_time", "index")
-PAGE = ("answers", "parts", "page")
+# A module of WebAssembly: the crate that it is made of, where it is kept, and what only C has a use for: modules of the crate, and the
+# libraries below them. (`rt lib` of the static library takes away a module of the crate's own name.)
+Module = collections.namedtuple("Module", "crate kept c_alone below_c_alone")
+# By the source that holds it. C alone uses columns, and a date's names as a struct.
+MODULES = {
+    "module": Module("calendar_c", "crates/calendar_c/out/calendar.wasm", ("columns", "split"), ("chrono_columns",)),
+    "layers_module": Module("layers_c", "crates/layers_c/out/layers.wasm", ("open_day_columns",), ()),
+}
+SOURCES = ("instantiate", "moments", "numbers", "rounding", "calendar", "texts", "library", "duration", "plain_date", "plain_date_time",
+           "instant", "layers", "text_error", "schedule", "rule", "business_calendar", "index")
+PAGE = ("answers", "words", "parts", "layer_parts", "page")
 
 
 def read(path):
@@ -37,10 +42,10 @@ def write(path, text):
     return path
 
 
-def leave_out(crate):
-    """Takes what only C has a use for out of a copy of the crate."""
+def leave_out(crate, names):
+    """Takes what only C has a use for out of a copy of the crate: some of its modules."""
     root = read(f"{crate}/src/lib.rt")
-    for name in C_ALONE:
+    for name in names:
         root = root.replace(f"mod {name};\n", "")
         shutil.rmtree(f"{crate}/proofs/{name}", ignore_errors=True)
         if os.path.exists(f"{crate}/src/{name}.rt"):
@@ -48,31 +53,36 @@ def leave_out(crate):
     write(f"{crate}/src/lib.rt", root)
 
 
-def build_module(top, room):
-    """Proves the crate as one of the kind wasm64 and builds its module; the module's path."""
+def line_of(crate, crates):
+    """What crates.txt has for a crate: its name, and its kind if it has one."""
+    return next(it for it in crates if it.split()[0] == crate)
+
+
+def build_module(top, room, wanted):
+    """Proves a crate as one of the kind wasm64 and builds its module; the module's path."""
     from outside import below, copy_crates, listed_crates, take_proved
 
-    crates = listed_crates()
-    line = next(it for it in crates if it.split()[0] == CRATE)
-    crates[line] = [it for it in crates[line] if it != BELOW_C_ALONE]
+    crates, crate = listed_crates(), wanted.crate
+    line = line_of(crate, crates)
+    crates[line] = [it for it in crates[line] if it not in wanted.below_c_alone]
     *libraries, _ = below(line, crates)
-    copy_crates(room, [*libraries, CRATE])
-    leave_out(f"{room}/crates/{CRATE}")
+    copy_crates(room, [*libraries, crate])
+    leave_out(f"{room}/crates/{crate}", wanted.c_alone)
     with open(f"{room}/crates.txt", "w", encoding="utf-8") as it:
         it.writelines(f"{name}: {' '.join(crates[name])}\n" for name in libraries)
-        it.write(f"{CRATE} wasm64: {' '.join(crates[line])}\n")
+        it.write(f"{crate} wasm64: {' '.join(crates[line])}\n")
     if not take_proved(room, libraries):
         print("nothing kept serves: the libraries are proved first", flush=True)
     # (what is proved of the crate as a library for C holds of it as a module too)
-    kept = f"{top}/crates/{CRATE}/out/incremental"
+    kept = f"{top}/crates/{crate}/out/incremental"
     if os.path.isdir(kept):
-        shutil.copytree(kept, f"{room}/crates/{CRATE}/out/incremental")
+        shutil.copytree(kept, f"{room}/crates/{crate}/out/incremental")
     ran = subprocess.run(
-        ["rt", "lib", "--jobs", "1"], cwd=f"{room}/crates/{CRATE}", stdout=subprocess.PIPE, stderr=subprocess.STDOUT, text=True
+        ["rt", "lib", "--jobs", "1"], cwd=f"{room}/crates/{crate}", stdout=subprocess.PIPE, stderr=subprocess.STDOUT, text=True
     )
     if ran.returncode:
-        raise RuntimeError(f"rt lib of {CRATE} as wasm64:\n{ran.stdout[-4000:]}")
-    return f"{room}/crates/{CRATE}/out/{CRATE}.wasm"
+        raise RuntimeError(f"rt lib of {crate} as wasm64:\n{ran.stdout[-4000:]}")
+    return f"{room}/crates/{crate}/out/{crate}.wasm"
 
 
 def lower(wide, module):
@@ -85,24 +95,28 @@ def lower(wide, module):
         raise RuntimeError(f"wasm-opt of the module:\n{ran.stdout[-4000:]}")
 
 
-def module(top):
-    """The bytes of the module: the one that is kept, if it is newer than what it is made of, or else one that is built now."""
+def module(top, wanted):
+    """The bytes of a module: the one that is kept, if it is newer than what it is made of, or else one that is built now."""
     sys.path[:0] = [f"{top}/tools", f"{top}/checks"]
-    from library import is_newer
-    from outside import below, listed_crates
+    from outside import below, listed_crates, time_of
 
-    crates = listed_crates()
-    *libraries, _ = below(next(it for it in crates if it.split()[0] == CRATE), crates)
-    if not is_newer(f"{top}/{KEPT}", libraries):
+    crates, kept = listed_crates(), f"{top}/{wanted.kept}"
+    parts = [f"{top}/crates/{name.split()[0]}/{part}" for name in below(line_of(wanted.crate, crates), crates) for part in ("src", "specs", "proofs")]
+    if not (os.path.exists(kept) and os.path.getmtime(kept) > time_of(parts, max)):
         if not shutil.which("rt"):
-            raise Missing(f"no rt, the Rattle kit's command, and no {KEPT}")
+            raise Missing(f"no rt, the Rattle kit's command, and no {wanted.kept}")
         with tempfile.TemporaryDirectory(prefix="module-") as room:
-            built = build_module(top, room)
-            os.makedirs(os.path.dirname(f"{top}/{KEPT}"), exist_ok=True)
+            built = build_module(top, room, wanted)
+            os.makedirs(os.path.dirname(kept), exist_ok=True)
             lower(built, f"{room}/lowered.wasm")
-            shutil.copy(f"{room}/lowered.wasm", f"{top}/{KEPT}")
-    with open(f"{top}/{KEPT}", "rb") as it:
+            shutil.copy(f"{room}/lowered.wasm", kept)
+    with open(kept, "rb") as it:
         return it.read()
+
+
+def modules(top):
+    """The bytes of each module, by the source that holds it."""
+    return {source: module(top, it) for source, it in MODULES.items()}
 
 
 def address(text):
@@ -111,9 +125,9 @@ def address(text):
     return "data:text/javascript;charset=utf-8," + urllib.parse.quote(text, safe=" ,;:/?@&=+$!*'()[]{}|^`<>~")
 
 
-def page_of(folder, module_text):
+def page_of(folder, module_texts):
     """The page with its styles and all modules inside, so that it is one file that a browser opens from anywhere."""
-    texts = {"module": module_text, **{it: read(f"{folder}/src/{it}.js") for it in SOURCES}}
+    texts = {**module_texts, **{it: read(f"{folder}/src/{it}.js") for it in SOURCES}}
     texts.update({it: read(f"{folder}/page/{it}.js") for it in PAGE})
     listed = json.dumps({"imports": {name: address(text) for name, text in texts.items()}}, indent=1)
     scripts = f'  <script type="importmap">\n{listed}\n  </script>\n  <script type="module">import "page";</script>\n'
@@ -128,18 +142,24 @@ def page_of(folder, module_text):
     return page
 
 
+def module_texts_of(bytes_of_modules):
+    """Each module as one of JavaScript, which no host has to fetch."""
+    return {source: module_text_of(it) for source, it in bytes_of_modules.items()}
+
+
 def module_text_of(bytes_of_module):
-    """The module as one of JavaScript, which no host has to fetch."""
+    """A module of WebAssembly as one of JavaScript."""
     text = base64.b64encode(bytes_of_module).decode()
     return f'/** The proved functions, as `rt lib` builds them: {len(bytes_of_module):,} bytes. */\nexport const MODULE =\n  "{text}";\n'
 
 
-def make_package(top, folder, bytes_of_module, package):
+def make_package(top, folder, bytes_of_modules, package):
     """Makes a package of the wrapper in a folder; its path."""
     shutil.rmtree(package, ignore_errors=True)
     for name in SOURCES:
         write(f"{package}/src/{name}.js", read(f"{folder}/src/{name}.js"))
-    write(f"{package}/src/module.js", module_text_of(bytes_of_module))
+    for name, text in module_texts_of(bytes_of_modules).items():
+        write(f"{package}/src/{name}.js", text)
     for name in ("README.md", "index.d.ts", "package.json"):
         write(f"{package}/{name}", read(f"{folder}/{name}"))
     for name in LICENCES:
@@ -149,8 +169,8 @@ def make_package(top, folder, bytes_of_module, package):
 
 def make(top, built, dist):
     """Makes javascript/proved-calendar, which npm and node take as a folder, and javascript/page.html; their paths."""
-    folder, bytes_of_module = f"{top}/languages/javascript", module(top)
+    folder, bytes_of_modules = f"{top}/languages/javascript", modules(top)
     if f'"version": "{version(top)}"' not in read(f"{folder}/package.json"):
         raise RuntimeError(f"languages/javascript/package.json has another version than calendar.h, {version(top)}")
-    package = make_package(top, folder, bytes_of_module, f"{dist}/javascript/proved-calendar")
-    return [package, write(f"{dist}/javascript/page.html", page_of(folder, module_text_of(bytes_of_module)))]
+    package = make_package(top, folder, bytes_of_modules, f"{dist}/javascript/proved-calendar")
+    return [package, write(f"{dist}/javascript/page.html", page_of(folder, module_texts_of(bytes_of_modules)))]

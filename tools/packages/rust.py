@@ -1,4 +1,4 @@
-"""The package for Rust: the crate with the static library inside, as a folder that a project names by its path, and as one
+"""The package for Rust: the crate with the static libraries inside, as a folder that a project names by its path, and as one
 file."""
 import gzip
 import io
@@ -6,14 +6,14 @@ import os
 import shutil
 import tarfile
 
-from . import LICENCES, version
+from . import CALENDAR, LAYERS, LICENCES, version
 
 NAME = "proved-calendar"
 FILES = ("Cargo.toml", "README.md", "build.rs")
 
 
-def make_package(top, folder, library, package):
-    """Makes the package of a crate's folder and a static library; the path of the package."""
+def make_package(top, folder, built, package):
+    """Makes the package of a crate's folder and the static libraries of another; the path of the package."""
     shutil.rmtree(package, ignore_errors=True)
     os.makedirs(f"{package}/lib")
     shutil.copytree(f"{folder}/src", f"{package}/src")
@@ -21,7 +21,8 @@ def make_package(top, folder, library, package):
         shutil.copy(f"{folder}/{name}", f"{package}/{name}")
     for name in LICENCES:
         shutil.copy(f"{top}/{name}", f"{package}/{name}")
-    shutil.copy(library, f"{package}/lib/libcalendar.a")
+    for name in (CALENDAR, LAYERS):
+        shutil.copy(f"{built}/lib{name}.a", f"{package}/lib/lib{name}.a")
     return package
 
 
@@ -43,6 +44,6 @@ def make(top, built, dist):
     with open(f"{top}/languages/rust/Cargo.toml", encoding="utf-8") as it:
         if f'\nversion = "{version(top)}"\n' not in it.read():
             raise RuntimeError(f"languages/rust/Cargo.toml has another version than calendar.h, {version(top)}")
-    package = make_package(top, f"{top}/languages/rust", f"{built}/libcalendar.a", f"{dist}/rust/{NAME}")
+    package = make_package(top, f"{top}/languages/rust", built, f"{dist}/rust/{NAME}")
     named = f"{NAME}-{version(top)}"
     return [package, pack(package, f"{dist}/rust/{named}.crate", named)]

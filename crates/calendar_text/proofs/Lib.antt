@@ -1,5 +1,6 @@
 mod FoldLemmas
 mod FoldBack
+mod ShortLines
 mod TimesBack
 mod PieceLemmas
-mod PutLemmas
+pub mod PutLemmas

@@ -1,6 +1,6 @@
 -- Folded lines (RFC 5545, section 3.1). "Content lines are delimited by a line break, which is a CRLF sequence", and a long line is split "by
 -- inserting a CRLF immediately followed by a single linear white-space character". A line feed alone is a line break here too.
-use Rattle.std.specs.Prelude.{◌≡◌, ℕ, ◌+◌, ◌-◌, ◌==◌, Bool, true, not, ◌&&◌, ◌||◌, if◌then◌else◌, List, [], ◌∷◌, ◌++◌, slice_index, replicate, codes, refl}
+use Rattle.std.specs.Prelude.{◌≡◌, ℕ, ◌+◌, ◌-◌, ◌==◌, nat_le, Bool, true, false, not, ◌&&◌, ◌||◌, if◌then◌else◌, List, [], ◌∷◌, ◌++◌, slice_index, replicate, codes, refl}
 use Rattle.std.specs.Str.{byte}
 use Rattle.chrono_text.specs.Lists.{is_blank}
 
@@ -50,6 +50,12 @@ folded_behind column (b ∷ bs) = folded_byte column b ++ folded_behind (column_
 abbrev pub folded : List ℕ → List ℕ
 folded text = folded_behind 0 text
 
+-- No line has more than 75 bytes, where the first has so many already. The carriage return in front of a line feed counts for the line here,
+-- so the line break may make it 76
+abbrev pub are_short : ℕ → List ℕ → Bool
+are_short column [] = nat_le column 75
+are_short column (b ∷ bs) = if b == byte "\n" then nat_le column 76 && are_short 0 bs else are_short (column + 1) bs
+
 -- a byte may stand behind another in a text that can be folded: it is no carriage return, and no blank at the beginning of a line
 abbrev pub may_stand_behind : ℕ → ℕ → Bool
 may_stand_behind before b = not (b == byte "\r") && not (is_blank b && (before == byte "\n"))
@@ -92,3 +98,13 @@ folded-long = refl
 folded-longer : folded (replicate 150 65) ≡ replicate 75 65 ++ (codes "\r\n " ++ (replicate 74 65 ++ codes "\r\n A"))
 unfolding folded_behind
 folded-longer = refl
+
+-- the longest line, and one byte more
+are_short-longest : are_short 0 (replicate 75 65 ++ codes "\r\n") ≡ true
+are_short-longest = refl
+
+are_short-longer : are_short 0 (replicate 76 65 ++ codes "\r\n") ≡ false
+are_short-longer = refl
+
+are_short-without_end : are_short 0 (replicate 76 65) ≡ false
+are_short-without_end = refl

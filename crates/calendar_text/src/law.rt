@@ -4,7 +4,7 @@ ghost use Rattle.chrono_datetime.specs.Moment.{moment};
 ghost use Rattle.chrono_datetime.specs.Time.{time_at};
 ghost use Rattle.calendar_text.specs.CalendarTexts.{IsCalendarText, start_read};
 ghost use Rattle.calendar_text.specs.CalendarTimes.{CanBeReadBack, time_of, calendar_time_text};
-ghost use Rattle.calendar_text.specs.Folds.{folded, may_fold, unfolded};
+ghost use Rattle.calendar_text.specs.Folds.{are_short, folded, may_fold, unfolded};
 ghost use Rattle.calendar_text.specs.Reads.{calendar_error_at};
 ghost use Rattle.calendar_text.specs.declared.calendar_error.CalendarTextFault.TheVariants.{OtherKind, OtherZone, PropertyTwice};
 ghost use Rattle.calendar_text.specs.declared.calendar_time.CalendarTime.{CalendarTime};
@@ -13,6 +13,11 @@ ghost use Rattle.calendar_text.specs.declared.calendar_time.CalendarTime.TheVari
 /// A text that is folded and unfolded is the same again, if no line begins with a blank and no byte is a carriage return.
 pub fn folded_texts_are_unfolded()
     ensures { (text : List ℕ) → may_fold text ≡ true → unfolded (folded text) ≡ text }
+{}
+
+/// Each line of a folded text has at most 75 bytes, its line break excluded, as RFC 5545 (3.1) asks.
+pub fn folded_lines_are_short()
+    ensures { (text : List ℕ) → are_short 0 (folded text) ≡ true }
 {}
 
 /// A time that is written is read back, if its year is from 0 to 9999 and it is no fraction of a second.

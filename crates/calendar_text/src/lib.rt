@@ -32,4 +32,5 @@ pub use calendar_lines::CalendarLines;
 pub use calendar_text::{CalendarText, read_calendar_text};
 pub use calendar_time::{CalendarTime, read_calendar_time};
 pub use folds::{fold, folded_place, unfold};
+pub use pieces::behind_name;
 pub use time_list::TimeList;

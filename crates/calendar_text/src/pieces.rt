@@ -59,8 +59,13 @@ pub(crate) fn cut_at(text: &[u8], byte: u8) -> Option<(&[u8], &[u8])>
     split_at_byte(text, byte)
 }
 
-// What stands behind a name, if the text begins with it, in letters of either case.
-pub(crate) fn behind_name<'a>(text: &'a [u8], name: &[u8]) -> Option<&'a [u8]>
+/// Returns what stands behind `name` in `text`, if `text` begins with it. The case of ASCII letters makes no difference.
+///
+/// ```
+/// behind_name(b"value=DATE", b"VALUE=") == Some(b"DATE") // true
+/// behind_name(b"TZID=UTC", b"VALUE=") // None
+/// ```
+pub fn behind_name<'a>(text: &'a [u8], name: &[u8]) -> Option<&'a [u8]>
     ensures some { IfSome result (λ value. begins_alike name.now text.now ≡ true) }
     ensures value { IfSome result (λ value. value.now ≡ drop (length name.now) text.now) }
     ensures whole { IfSome result (λ value. length name.now + length value.now ≡ length text.now) }

@@ -1,9 +1,8 @@
 -- The text of a pattern of ASCII bytes is ASCII.
-use Rattle.std.proofs.Common.{◌≡◌, ℕ, suc, ◌-◌, ◌/◌, ◌%◌, ◌^◌, ◌<◌, ◌==◌, nat_lt, Bool, true, false, ◌&&◌, if◌then◌else◌, List, [], ◌∷◌, ◌++◌, codes, take, length, Option, None, Some, ℤ, pos, refl, ap, sym, ◌∙◌, subst, arith}
+use Rattle.std.proofs.Common.{◌≡◌, ℕ, suc, ◌-◌, ◌/◌, ◌%◌, ◌^◌, ◌<◌, ◌==◌, nat_lt, Bool, true, false, ◌&&◌, if◌then◌else◌, List, [], ◌∷◌, ◌++◌, codes, take, length, Option, None, Some, ℤ, pos, refl, sym, subst, arith}
 use Rattle.std.proofs.lemmas.Bool.{and_parts, ltb-true}
 use Rattle.std.proofs.lemmas.Fmt.{IsAscii-decimal}
-use Rattle.std.proofs.Math.Seq.{drop-append_seam, take-append_seam}
-use Rattle.std.proofs.lemmas.Str.{IsAscii-append, IsAscii-drop, IsAscii-take}
+use Rattle.std.proofs.lemmas.Str.{IsAscii-append, IsAscii-take}
 use Rattle.std.proofs.lemmas.Str.Ascii.{IsAscii-cons, IsAscii-nil}
 use Rattle.std.specs.Fmt.{decimal}
 use Rattle.std.specs.Int.RustNames.{int_lt}
@@ -35,6 +34,7 @@ use Rattle.chrono_datetime.specs.declared.Weekday.{Weekday}
 use Rattle.chrono_datetime.specs.declared.Weekday.TheVariants.{Mon, Tue, Wed, Thu, Fri, Sat, Sun}
 use Rattle.chrono_pattern.specs.Groups.{clock_with, group_text, usual_text}
 use Rattle.chrono_pattern.specs.Numbers.{field_text, least_digits, padded, padding_of, sign_of, size_of, year_sign}
+use Rattle.chrono_pattern.specs.PatternItems.{IsAsciiItem}
 use Rattle.chrono_pattern.specs.Patterns.{text_at_offset, text_from, text_of_item}
 use Rattle.chrono_pattern.specs.PatternSteps.{colon_step, date_number_at, digits_at, group_at, grouped_step, named_step, opened_step, padding_at, pattern_step, single_step, stamped_step, time_number_at, timed_step, unless_padded, unpadded_step, word_at, zoned_step}
 use Rattle.chrono_pattern.specs.Subseconds.{digit_count, fraction_with, nine_digits, subsecond_of}
@@ -248,18 +248,9 @@ subsecond_ascii point count t =
 
 -- ---- items, whose bytes are the pattern's own or a line feed, a tab or `%`
 
-abbrev IsSmallItem : Item → Type 0
-IsSmallItem Empty = ⊤
-IsSmallItem (Byte c) = c < 128
-IsSmallItem (Number field p) = ⊤
-IsSmallItem (Word w) = ⊤
-IsSmallItem (Group g) = ⊤
-IsSmallItem (Subsecond point count) = ⊤
-IsSmallItem (Zoned field) = ⊤
-
-abbrev Steps : Option (State × Item) → Type 0
+abbrev pub Steps : Option (State × Item) → Type 0
 Steps None = ⊤
-Steps (Some next) = IsSmallItem next.1
+Steps (Some next) = IsAsciiItem next.1
 
 if_steps : (b : Bool) (x y : Option (State × Item)) → Steps x → Steps y → Steps (if b then x else y)
 if_steps true x y hx hy = hx
@@ -320,7 +311,7 @@ opened_small : (p : Padding) (c : ℕ) (o : Option NumberField)
 opened_small p c None = timed_small p c (time_number_at c)
 opened_small p c (Some n) = tt
 
-step_small : (s : State) (c : ℕ) → c < 128 → Steps (pattern_step s c)
+pub step_small : (s : State) (c : ℕ) → c < 128 → Steps (pattern_step s c)
 unfolding opened_step
 step_small Outside c small = if_steps (c == byte "%") _ _ tt small
 step_small (Opened p) c small = opened_small p c (date_number_at c)
@@ -391,7 +382,7 @@ zoned_ascii ZoneName m x near date time = zone_ascii x near
 zoned_ascii Stamp m x near date time = stamp_ascii (epoch_second m -ℤ x) (stamp_small m x near date time)
 zoned_ascii Iso8601 m x near date time = iso_ascii m x near date time
 
-item_ascii : (item : Item) (m : Moment) (x : ℤ) → IsOffset x → IsSmallItem item → IsDate m.date → IsTime m.time → IsAscii (text_of_item item m x)
+pub item_ascii : (item : Item) (m : Moment) (x : ℤ) → IsOffset x → IsAsciiItem item → IsDate m.date → IsTime m.time → IsAscii (text_of_item item m x)
 item_ascii Empty m x near small date time = IsAscii-nil
 item_ascii (Byte c) m x near small date time = IsAscii-cons c [] small IsAscii-nil
 item_ascii (Number field p) m x near small date time = number_ascii field p m date time
@@ -409,7 +400,7 @@ step_ascii : (c : ℕ) (bytes : List ℕ) (m : Moment) (x : ℤ) → IsOffset x 
     → (o : Option (State × Item)) → pattern_step s c ≡ o → IsAscii (text_from s (c ∷ bytes) m x)
 step_ascii c bytes m x near small date time rest s None e = subst IsAscii (sym (text_from-none s c bytes m x e)) IsAscii-nil
 step_ascii c bytes m x near small date time rest s (Some next) e =
-    let item : IsSmallItem next.1 = subst Steps e (step_small s c small) in
+    let item : IsAsciiItem next.1 = subst Steps e (step_small s c small) in
     subst IsAscii (sym (text_from-more s c bytes m x next e))
     (IsAscii-append (text_of_item next.1 m x) (text_from next.0 bytes m x) (item_ascii next.1 m x near item date time) (rest next.0))
 
@@ -420,12 +411,3 @@ text_ascii (c ∷ bytes) m x near are date time s =
 
 pub ascii_text : (bytes : List ℕ) (m : Moment) (x : ℤ) → IsOffset x → IsAscii bytes → IsDate m.date → IsTime m.time → IsAscii (text_at_offset bytes m x)
 ascii_text bytes m x near are date time = text_ascii bytes m x near are date time Outside
-
--- ---- a part of a text
-
-pub part_ascii : (done piece rest total : List ℕ) → (done ++ piece) ++ rest ≡ total → IsAscii total → IsAscii piece
-part_ascii done piece rest total whole are =
-    let front : IsAscii (done ++ piece) =
-    subst IsAscii (ap (λ (l : List ℕ). take (length (done ++ piece)) l) (sym whole) ∙ take-append_seam (done ++ piece) rest)
-    (IsAscii-take total (length (done ++ piece)) are) in
-    subst IsAscii (drop-append_seam done piece) (IsAscii-drop (done ++ piece) (length done) front)

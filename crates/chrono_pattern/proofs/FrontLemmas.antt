@@ -4,7 +4,7 @@ use Rattle.std.proofs.lemmas.Bool.{false≢true}
 use Rattle.std.proofs.lemmas.Bool.Decides.{nat_tests}
 use Rattle.std.specs.Prelude.{⊤, IfNone}
 use Rattle.std.specs.Str.{byte}
-use Rattle.chrono_pattern.specs.PatternItems.{item_before, items_from}
+use Rattle.chrono_pattern.specs.PatternItems.{is_within, item_before, items_from}
 use Rattle.chrono_pattern.specs.PatternSteps.{colon_step, date_number_at, digits_at, group_at, grouped_step, named_step, opened_step, padding_at, pattern_step, single_step, stamped_step, time_number_at, timed_step, unless_padded, unpadded_step, word_at, zoned_step}
 use Rattle.chrono_pattern.specs.declared.item.GroupField.{GroupField}
 use Rattle.chrono_pattern.specs.declared.item.Item.{Item}
@@ -122,12 +122,6 @@ pub stands_for_itself : (c : ℕ) → c ≢ byte "%" → pattern_step Outside c 
 stands_for_itself c not = ap (λ (b : Bool). if b then Some (Opened Usual, Empty) else Some (Outside, Byte c)) (differs c not)
 
 -- the same within a specifier of more bytes
-abbrev pub is_within : State → Bool
-is_within Outside = false
-is_within (Opened p) = true
-is_within (Digits point count) = true
-is_within (Marked form) = true
-
 pub within : (s : State) → ((p : Padding) × (s ≡ Opened p)) ⊎ (((point : Bool) × (count : ℕ) × (s ≡ Digits point count)) ⊎ ((form : OffsetForm) × (s ≡ Marked form)))
     → is_within s ≡ true
 within s (inl (p, is)) = ap is_within is

@@ -15,6 +15,7 @@ mod SeparableLemmas
 mod AsciiLemmas
 mod ItemLemmas
 mod FrontLemmas
+mod Utf8Lemmas
 mod BackNumbers
 mod BackDigits
 mod BackYears
@@ -29,3 +30,4 @@ mod BackStamps
 mod BackValues
 mod BackAgain
 mod OffsetTexts
+mod OffsetExact

@@ -1,5 +1,5 @@
 -- Offsets of hours and minutes are read, whatever colons and blanks are between them.
-use Rattle.std.proofs.Common.{◌≡◌, ℕ, zero, suc, ◌+◌, ◌*◌, ◌<◌, Bool, true, false, List, [], ◌∷◌, ◌++◌, codes, Some, pos, Result, Ok, refl, ap, ◌∙◌, arith}
+use Rattle.std.proofs.Common.{◌≡◌, ℕ, zero, suc, ◌+◌, ◌*◌, ◌<◌, Bool, true, false, List, [], ◌∷◌, ◌++◌, codes, Some, pos, Result, Ok, Err, refl, ap, sym, ◌∙◌, arith}
 use Rattle.std.proofs.lemmas.Bool.{and_parts}
 use Rattle.std.specs.List.{list_all}
 use Rattle.chrono_datetime.specs.Moment.{Moment, moment}
@@ -13,7 +13,7 @@ use Rattle.chrono_pattern.specs.Parts.{no_parts}
 use Rattle.chrono_pattern.specs.Progress.{Progress, is_of}
 use Rattle.chrono_pattern.specs.PatternSteps.{date_number_at, group_at, opened_step, pattern_step, time_number_at, unpadded_step, word_at}
 use Rattle.chrono_pattern.specs.Reads.{end_read, text_read}
-use Rattle.chrono_pattern.specs.declared.class.Class.TheVariants.{Gap}
+use Rattle.chrono_pattern.specs.declared.class.Class.TheVariants.{Blank, Gap}
 use Rattle.chrono_pattern.specs.declared.item.Item.TheVariants.{Empty, Zoned}
 use Rattle.chrono_pattern.specs.declared.item.OffsetForm.TheVariants.{Plain}
 use Rattle.chrono_pattern.specs.declared.item.Padding.TheVariants.{Usual}
@@ -21,6 +21,7 @@ use Rattle.chrono_pattern.specs.declared.item.State.TheVariants.{Opened, Outside
 use Rattle.chrono_pattern.specs.declared.item.ZonedField.TheVariants.{Offset}
 use Rattle.chrono_pattern.specs.declared.parsed.Parsed.{Parsed}
 use Rattle.chrono_pattern.specs.declared.stop.Stop.{Stop}
+use Rattle.chrono_pattern.proofs.BackDigits.{blanks_go}
 use Rattle.chrono_pattern.proofs.BackNumbers.{front_stays}
 use Rattle.chrono_pattern.proofs.BackOffsets.{digits_stay, given, minutes_back, no_seconds, two_back}
 use Rattle.chrono_pattern.proofs.BackParts.{put_offset}
@@ -74,13 +75,28 @@ offset_step : pattern_step (Opened Usual) 122 ≡ Some (Outside, Zoned (Offset P
 unfolding opened_step unpadded_step date_number_at time_number_at word_at group_at
 offset_step = refl
 
-pub written_read : (negative : Bool) (hours minutes : ℕ) (gap : List ℕ) → hours < 24 → minutes < 60 → list_all (is_of Gap) gap ≡ true
-    → text_read (codes "%z") (offset_written negative hours gap minutes) ≡ Ok (record no_parts { offset = Some (signed negative (hours * 3_600 + minutes * 60)) })
-written_read negative hours minutes gap day hour all =
-    let r = at_rest (offset_written negative hours gap minutes) no_parts in
-    let q = at_rest [] (record no_parts { offset = Some (signed negative (hours * 3_600 + minutes * 60)) }) in
+unread : (o : Result Progress Stop) → behind_item o Outside [] ≡ o
+unread (Ok q) = read_from-nothing Outside q
+unread (Err e) = refl
+
+-- `%z` alone reads an offset
+pub read_by_z : (text : List ℕ) → text_read (codes "%z") text ≡ end_read (offset_read Plain (at_rest text no_parts))
+read_by_z text =
+    let r = at_rest text no_parts in
     ap (λ (o : Result Progress Stop). end_read o)
     (read_from-more Outside 37 (122 ∷ []) r (Opened Usual, Empty) refl
     ∙ read_from-more (Opened Usual) 122 [] r (Outside, Zoned (Offset Plain)) offset_step
-    ∙ ap (λ (o : Result Progress Stop). behind_item o Outside []) (signed_written negative hours minutes gap day hour all)
-    ∙ read_from-nothing Outside q)
+    ∙ unread (offset_read Plain r))
+
+blanks_left_out : (blanks text : List ℕ) → list_all (is_of Blank) blanks ≡ true → offset_read Plain (at_rest (blanks ++ text) no_parts) ≡ offset_read Plain (at_rest text no_parts)
+unfolding offset_read
+blanks_left_out blanks text all = ap (λ (l : List ℕ). signed_offset_read Plain l no_parts) (blanks_go blanks text all)
+
+pub blanks_before : (blanks text : List ℕ) → list_all (is_of Blank) blanks ≡ true → text_read (codes "%z") (blanks ++ text) ≡ text_read (codes "%z") text
+blanks_before blanks text all =
+    read_by_z (blanks ++ text) ∙ ap (λ (o : Result Progress Stop). end_read o) (blanks_left_out blanks text all) ∙ sym (read_by_z text)
+
+pub written_read : (negative : Bool) (hours minutes : ℕ) (gap : List ℕ) → hours < 24 → minutes < 60 → list_all (is_of Gap) gap ≡ true
+    → text_read (codes "%z") (offset_written negative hours gap minutes) ≡ Ok (record no_parts { offset = Some (signed negative (hours * 3_600 + minutes * 60)) })
+written_read negative hours minutes gap day hour all =
+    read_by_z (offset_written negative hours gap minutes) ∙ ap (λ (o : Result Progress Stop). end_read o) (signed_written negative hours minutes gap day hour all)

@@ -27,3 +27,4 @@ pub mod Separable
 pub mod Kept
 pub mod ReadBack
 pub mod PatternItems
+pub mod DelayedPieces

@@ -1,15 +1,18 @@
 //! `DelayedFormat`: the text of a date-time by a pattern, written where it is printed.
-ghost use Rattle.std.specs.Prelude.{◌≡◌, ◌↔◌, List, ℕ, false, Some, IfSome, IsSome};
+ghost use Rattle.std.specs.Prelude.{◌≡◌, ◌↔◌, ℕ, List, false, Some, IfSome, IsOk, IsSome};
 ghost use Rattle.std.specs.Fmt.{WritesOnOk, WritesStyledOnOk};
-ghost use Rattle.std.specs.Str.{IsAscii};
+ghost use Rattle.std.specs.Str.{IsAscii, IsUtf8};
 ghost use Rattle.chrono_datetime.specs.Moment.{IsMoment, moment};
 ghost use Rattle.chrono_datetime.specs.Time.{TimeOfDay};
 ghost use Rattle.chrono_instant.specs.Offsets.{IsOffset};
 ghost use Rattle.chrono_zoned.specs.Zoned.{local_at, offset_at};
+ghost use Rattle.chrono_pattern.specs.DelayedPieces.{IsAdded};
 ghost use Rattle.chrono_pattern.specs.Needs.{needs_offset, needs_time};
-ghost use Rattle.chrono_pattern.specs.Patterns.{pattern_text, text_at_offset};
+ghost use Rattle.chrono_pattern.specs.PatternItems.{IsAsciiItem};
+ghost use Rattle.chrono_pattern.specs.Patterns.{pattern_text, text_at_offset, text_of_item};
 
-use crate::front_item::front_item;
+use crate::front_item::{front_specifier, split_literal};
+use crate::item::Item;
 use crate::pattern::Pattern;
 use crate::writer::put_any_item;
 use chrono_datetime::{NaiveDate, NaiveDateTime, NaiveTime};
@@ -36,7 +39,7 @@ const ROOM: usize = 155;
 /// ```
 #[derive(Drop)]
 pub struct DelayedFormat<'a> {
-    bytes: &'a [u8],
+    pattern: &'a str,
     moment: NaiveDateTime,
     offset: FixedOffset,
 }
@@ -44,14 +47,12 @@ pub struct DelayedFormat<'a> {
 impl<'a> Model for DelayedFormat<'a> {
     ghost Value = { List ℕ };
 
-    ghost view = { λ d. text_at_offset d.bytes.now d.moment d.offset };
-
-    ghost invariant = { λ d. IsAscii (text_at_offset d.bytes.now d.moment d.offset) };
+    ghost view = { λ d. text_at_offset d.pattern.now d.moment d.offset };
 }
 
 impl<'a> Pattern<'a> {
     /// Returns the text of `moment` as a value that writes it where it is printed. Returns `None` if the pattern needs an offset, or if
-    /// one of its bytes is not ASCII.
+    /// its bytes are not UTF-8. Those of a `str` are.
     ///
     /// The text is that of [`format`](Self::format), and may have any length.
     ///
@@ -60,20 +61,21 @@ impl<'a> Pattern<'a> {
     /// let moment = NaiveDate::from_ymd_opt(2024, 2, 29)?.and_hms_opt(9, 30, 0)?;
     /// Pattern::new(b"%F %R").ok()?.delayed(moment)?.to_string(rt.alloc()).ok()? // "2024-02-29 09:30"
     /// Pattern::new(b"%R%z").ok()?.delayed(moment).is_none() // true
-    /// Pattern::new("%d\u{b7}%m".as_bytes()).ok()?.delayed(moment).is_none() // true
+    /// Pattern::new("%d. M\u{e4}rz".as_bytes()).ok()?.delayed(moment)?.to_string(rt.alloc()).ok()? // "29. März"
+    /// Pattern::new(b"%d\xb7%m").ok()?.delayed(moment).is_none() // true
     /// ```
     pub fn delayed(&self, moment: NaiveDateTime) -> Option<DelayedFormat<'a>>
         ensures text { IfSome result (λ text. text ≡ pattern_text self.now moment) }
-        ensures exists { IsSome result ↔ ((needs_offset self.now ≡ false) × IsAscii self.now) }
+        ensures exists { IsSome result ↔ ((needs_offset self.now ≡ false) × IsUtf8 self.now) }
     {
         if self.needs_offset() {
             return None;
         }
-        delayed_text(self.bytes, moment, FixedOffset::east_opt(0).unwrap())
+        delayed_text(self.text, moment, FixedOffset::east_opt(0).unwrap())
     }
 
     /// Returns the text of `moment` as a value that writes it where it is printed: that of [`format_zoned`](Self::format_zoned). Returns
-    /// `None` if a byte of the pattern is not ASCII.
+    /// `None` if the bytes of the pattern are not UTF-8.
     ///
     /// ```
     /// use chrono_zoned::{FixedOffset, InZone};
@@ -84,13 +86,13 @@ impl<'a> Pattern<'a> {
     pub fn delayed_zoned<Z: TimeZone>(&self, moment: DateTime<Z>) -> Option<DelayedFormat<'a>>
         ensures text { IfSome result (λ text. text
             ≡ text_at_offset self.now (local_at (Z.ahead moment.zone) moment.utc) (offset_at (Z.ahead moment.zone) moment.utc)) }
-        ensures exists { IsSome result ↔ IsAscii self.now }
+        ensures exists { IsSome result ↔ IsUtf8 self.now }
     {
-        delayed_text(self.bytes, moment.naive_local(), moment.offset())
+        delayed_text(self.text, moment.naive_local(), moment.offset())
     }
 
     /// Returns the text of `date` as a value that writes it where it is printed: that of [`format_date`](Self::format_date). Returns `None`
-    /// if the pattern needs a time of day or an offset, or if one of its bytes is not ASCII.
+    /// if the pattern needs a time of day or an offset, or if its bytes are not UTF-8.
     ///
     /// ```
     /// use chrono_datetime::NaiveDate;
@@ -101,7 +103,7 @@ impl<'a> Pattern<'a> {
     pub fn delayed_date(&self, date: NaiveDate) -> Option<DelayedFormat<'a>>
         // The text is the same at each time of the day.
         ensures text { IfSome result (λ text. (t : TimeOfDay) → text ≡ pattern_text self.now (moment date t)) }
-        ensures exists { IsSome result ↔ ((needs_time self.now ≡ false) × (needs_offset self.now ≡ false) × IsAscii self.now) }
+        ensures exists { IsSome result ↔ ((needs_time self.now ≡ false) × (needs_offset self.now ≡ false) × IsUtf8 self.now) }
     {
         if self.needs_time() {
             return None;
@@ -119,28 +121,93 @@ impl fmt::Display for DelayedFormat<'_> {
     ///
     /// A width, a fill, an alignment, a sign or a precision makes no difference. chrono pads the text to a width.
     fn fmt<W: fmt::Write>(&self, f: &mut fmt::Formatter<W>) -> fmt::Result {
-        write_items(self.bytes, self.moment, self.offset, f)
+        write_items(self.pattern, self.moment, self.offset, f)
     }
 }
 
-// The text of a local date-time with its offset by the bytes of a pattern, if all of them are ASCII.
+// The text of a local date-time with its offset by a pattern, if its bytes are UTF-8.
 fn delayed_text<'a>(
-    bytes: &'a [u8],
+    pattern: Option<&'a str>,
     moment: NaiveDateTime,
     offset: FixedOffset,
 ) -> Option<DelayedFormat<'a>>
-    ensures text { IfSome result (λ text. text ≡ text_at_offset bytes.now moment offset) }
-    ensures exists { IsSome result ↔ IsAscii bytes.now }
+    ensures text { IfSome pattern.entry (λ p. IfSome result (λ text. text ≡ text_at_offset p.now moment offset)) }
+    ensures exists { IsSome result ↔ IsSome pattern.entry }
 {
-    if !bytes.is_ascii() {
-        return None;
+    match pattern {
+        None => None,
+        Some(pattern) => Some(DelayedFormat {
+            pattern,
+            moment,
+            offset,
+        }),
     }
+}
+
+// Writes the text in pieces.
+fn write_items<W: fmt::Write>(
+    pattern: &str,
+    moment: NaiveDateTime,
+    offset: FixedOffset,
+    f: &mut fmt::Formatter<W>,
+) -> fmt::Result
+    ensures writes { WritesOnOk W.write_str_gives f.old result (text_at_offset pattern.now moment offset) f.new }
+    ensures styled { WritesStyledOnOk W.write_str_gives f.old result (text_at_offset pattern.now moment offset) f.new }
+{
+    let mut piece = Text::<PIECE>::new();
+    let mut rest = pattern;
+    loop {
+        let (literal, specifiers) = split_literal(rest);
+        add_literal(&mut piece, literal, f)?;
+        match front_specifier(specifiers) {
+            None => return piece.print(f),
+            Some((item, behind)) => {
+                add_item(&mut piece, item, moment, offset, f)?;
+                rest = behind;
+            }
+        }
+    }
+}
+
+// Adds bytes of a pattern to what waits to be written. Where they have no room, or are not ASCII, all of it is written.
+fn add_literal<W: fmt::Write>(
+    piece: &mut Text<PIECE>,
+    literal: &str,
+    f: &mut fmt::Formatter<W>,
+) -> fmt::Result
+    requires { IsAscii piece.old }
+    ensures ascii { IsOk result → IsAscii piece.new }
+    ensures added { IsAdded W.write_str_gives f.old result piece.old literal.now piece.new f.new }
+{
+    if literal.is_ascii() && literal.len() <= piece.room() {
+        piece.push_text(literal.as_bytes());
+        return Ok(());
+    }
+    piece.print(f)?;
+    piece.clear();
+    f.write_str(literal)
+}
+
+// Adds an item to what waits to be written. Where there may be no room for it, the rest is written.
+fn add_item<W: fmt::Write>(
+    piece: &mut Text<PIECE>,
+    item: Item,
+    moment: NaiveDateTime,
+    offset: FixedOffset,
+    f: &mut fmt::Formatter<W>,
+) -> fmt::Result
+    requires waits { IsAscii piece.old }
+    requires item { IsAsciiItem item }
+    ensures ascii { IsOk result → IsAscii piece.new }
+    ensures added { IsAdded W.write_str_gives f.old result piece.old (text_of_item item moment offset) piece.new f.new }
+{
+    if piece.room() < ROOM {
+        piece.print(f)?;
+        piece.clear();
+    }
+    put_any_item(piece, item, moment, offset);
     state_ranges(moment, offset);
-    Some(DelayedFormat {
-        bytes,
-        moment,
-        offset,
-    })
+    Ok(())
 }
 
 // States that a date-time and an offset are in range, as all values of their types are. What the calls return is not used.
@@ -151,28 +218,4 @@ fn state_ranges(moment: NaiveDateTime, offset: FixedOffset)
 {
     moment.signed_duration_since(moment);
     offset.local_minus_utc();
-}
-
-// Writes a text that is ASCII, in pieces.
-fn write_items<W: fmt::Write>(
-    bytes: &[u8],
-    moment: NaiveDateTime,
-    offset: FixedOffset,
-    f: &mut fmt::Formatter<W>,
-) -> fmt::Result
-    requires { IsAscii (text_at_offset bytes.now moment offset) }
-    ensures writes { WritesOnOk W.write_str_gives f.old result (text_at_offset bytes.now moment offset) f.new }
-    ensures styled { WritesStyledOnOk W.write_str_gives f.old result (text_at_offset bytes.now moment offset) f.new }
-{
-    let mut piece = Text::<PIECE>::new();
-    let mut rest = bytes;
-    while let Some((item, behind)) = front_item(rest) {
-        if piece.room() < ROOM {
-            piece.print(f)?;
-            piece.clear();
-        }
-        put_any_item(&mut piece, item, moment, offset);
-        rest = behind;
-    }
-    piece.print(f)
 }

@@ -1,7 +1,7 @@
 //! Laws of patterns, each as the contract of a function.
-ghost use Rattle.std.specs.Prelude.{◌≡◌, ◌<◌, ◌+◌, ◌-◌, ◌*◌, ◌/◌, ◌%◌, ℕ, ℤ, Bool, List, [], false, true, Some, Ok, Err, codes, neg_ℤ, pos, ◌-ℤ◌, unsigned_abs};
+ghost use Rattle.std.specs.Prelude.{◌≡◌, ◌↔◌, ◌<◌, ◌+◌, ◌-◌, ◌*◌, ◌/◌, ◌%◌, ℕ, ℤ, Bool, List, [], false, true, Some, Ok, Err, codes, neg_ℤ, pos, ◌-ℤ◌, unsigned_abs};
 ghost use Rattle.std.specs.List.{list_all};
-ghost use Rattle.std.specs.Str.{IsAscii};
+ghost use Rattle.std.specs.Str.{IsAscii, IsUtf8};
 ghost use Rattle.chrono_datetime.specs.Days.{IsDate, day_of, month_of, ordinal_of, year_of};
 ghost use Rattle.chrono_datetime.specs.Moment.{Moment, moment};
 ghost use Rattle.chrono_datetime.specs.Duration.{nanos_per_second};
@@ -15,7 +15,7 @@ ghost use Rattle.chrono_instant.specs.Offsets.{IsOffset};
 ghost use Rattle.chrono_pattern.specs.DateParts.{is_present, names_date};
 ghost use Rattle.chrono_pattern.specs.NamedParts.{named_parts};
 ghost use Rattle.chrono_text.specs.Numbers.{signed};
-ghost use Rattle.chrono_pattern.specs.OffsetTexts.{offset_written};
+ghost use Rattle.chrono_pattern.specs.OffsetTexts.{GivesOffset, offset_written};
 ghost use Rattle.chrono_pattern.specs.Progress.{is_of};
 ghost use Rattle.chrono_pattern.specs.declared.class.Class.TheVariants.{Gap};
 ghost use Rattle.chrono_pattern.specs.Parses.{IsDateBy, IsMomentBy, IsTimeBy, IsZonedBy};
@@ -153,8 +153,9 @@ pub fn known_readings_of_offsets()
 {}
 
 /// States that `%z` reads each offset of less than a day as ISO 8601 writes it: a sign, hours and minutes of two digits, and a colon
-/// between them or nothing. Any other colons and blanks are read there too.
+/// between them or nothing. Any other colons and blanks are read there too, and blanks in front. It reads nothing else.
 pub fn offsets_are_read_as_they_are_written()
+    ensures exact { (text : List ℕ) → (parts : Parsed) → text_read (codes "%z") text ≡ Ok parts ↔ GivesOffset text parts }
     ensures written { (negative : Bool) → (hours minutes : ℕ) → (between : List ℕ) → hours < 24 → minutes < 60 → list_all (is_of Gap) between ≡ true
         → text_read (codes "%z") (offset_written negative hours between minutes)
         ≡ Ok (record no_parts { offset = Some (signed negative (hours * 3_600 + minutes * 60)) }) }
@@ -284,4 +285,11 @@ pub fn ascii_patterns_write_ascii()
     ensures utc { (bytes : List ℕ) → (m : Moment) → IsAscii bytes → IsDate m.date → IsTime m.time → IsAscii (pattern_text bytes m) }
     ensures zoned { (bytes : List ℕ) → (m : Moment) → (x : ℤ) → IsOffset x → IsAscii bytes → IsDate m.date → IsTime m.time
         → IsAscii (text_at_offset bytes m x) }
+{}
+
+/// States that a pattern of UTF-8 bytes, such as those of a `str`, writes UTF-8. So `delayed` prints each of them.
+pub fn utf8_patterns_write_utf8()
+    ensures utc { (bytes : List ℕ) → (m : Moment) → IsUtf8 bytes → IsDate m.date → IsTime m.time → IsUtf8 (pattern_text bytes m) }
+    ensures zoned { (bytes : List ℕ) → (m : Moment) → (x : ℤ) → IsOffset x → IsUtf8 bytes → IsDate m.date → IsTime m.time
+        → IsUtf8 (text_at_offset bytes m x) }
 {}

@@ -1,5 +1,6 @@
 //! `Pattern`: a pattern of texts, which writes date-times and reads parts of them.
 ghost use Rattle.std.specs.Prelude.{◌≡◌, ◌↔◌, ◌≤◌, ℕ, List, false, true, Some, None, Ok, Err, IfErr, IfOk, IfSome, IsOk, IsSome, length};
+ghost use Rattle.std.specs.Str.{IsUtf8};
 ghost use Rattle.chrono_datetime.specs.Moment.{moment};
 ghost use Rattle.chrono_datetime.specs.Time.{TimeOfDay, time_at};
 ghost use Rattle.chrono_pattern.specs.DateParts.{names_date};
@@ -30,6 +31,7 @@ use chrono_datetime::{NaiveDate, NaiveDateTime, NaiveTime};
 use chrono_text::Text;
 use chrono_zoned::FixedOffset;
 use std::marker::Model;
+use std::str::from_utf8;
 
 /// A pattern of texts: bytes that are written as they are, and specifiers, which begin with `%`.
 ///
@@ -44,6 +46,8 @@ use std::marker::Model;
 #[derive(Drop)]
 pub struct Pattern<'a> {
     pub(crate) bytes: &'a [u8],
+    // The same bytes, if they are UTF-8.
+    pub(crate) text: Option<&'a str>,
     // Whether the pattern has a specifier of the offset from UTC.
     is_zoned: bool,
 }
@@ -53,7 +57,8 @@ impl<'a> Model for Pattern<'a> {
 
     ghost view = { λ p. p.bytes.now };
 
-    ghost invariant = { λ p. IsPattern p.bytes.now × (p.is_zoned ≡ needs_offset p.bytes.now) };
+    ghost invariant = { λ p. IsPattern p.bytes.now × (p.is_zoned ≡ needs_offset p.bytes.now)
+        × IfSome p.text (λ t. t.now ≡ p.bytes.now) × (IsSome p.text ↔ IsUtf8 p.bytes.now) };
 }
 
 impl<'a> Pattern<'a> {
@@ -104,6 +109,7 @@ impl<'a> Pattern<'a> {
         match pattern_error(bytes) {
             None => Ok(Pattern {
                 bytes,
+                text: utf8_text(bytes),
                 is_zoned: needs_offset(bytes),
             }),
             Some(error) => Err(error),
@@ -317,6 +323,14 @@ impl<'a> Pattern<'a> {
         }
         self.format(NaiveDateTime::new(date, NaiveTime::MIN))
     }
+}
+
+// The bytes as a text, if they are UTF-8.
+fn utf8_text(bytes: &[u8]) -> Option<&str>
+    ensures same { IfSome result (λ t. t.now ≡ bytes.now) }
+    ensures exists { IsSome result ↔ IsUtf8 bytes.now }
+{
+    from_utf8(bytes).ok()
 }
 
 // The error of a text by where a reader stopped.

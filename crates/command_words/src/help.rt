@@ -1,6 +1,6 @@
 //! Help, as a terminal of 80 columns shows it.
 
-use crate::pieces::{Put, put};
+use crate::pieces::{Put, gap_before, put, text_if};
 use crate::table::{CommandRow, Operand, Opt, Program};
 
 /// Puts behind a text how a command is called, as `dates add [DAY] SPAN... [OPTION]...`: with its options that have to be given.
@@ -22,17 +22,11 @@ pub fn put_usage(out: &mut String, program: &str, command: &CommandRow) -> Put {
 
 // An operand with a space in front of it.
 fn put_operand(out: &mut String, operand: &Operand) -> Put {
-    let (open, close) = if operand.required {
-        ("", "")
-    } else {
-        ("[", "]")
-    };
-    let gap = if operand.keyword.is_empty() { "" } else { " " };
-    let more = if operand.many { "..." } else { "" };
-    put(
-        out,
-        &[" ", open, operand.keyword, gap, operand.name, more, close],
-    )
+    let Operand { name, keyword, .. } = *operand;
+    let open = text_if(!operand.required, "[");
+    put(out, &[" ", open, keyword, gap_before(keyword), name])?;
+    out.push_str(text_if(operand.many, "..."))?;
+    out.push_str(text_if(!operand.required, "]"))
 }
 
 /// Puts behind a text the words that a value may be, as `a, b or c`.
@@ -85,15 +79,22 @@ pub fn put_program_help(out: &mut String, program: &Program<'_>) -> Put {
     )?;
     put_sentence(out, program.help)?;
     out.push_str("\nCommands:\n")?;
-    for command in program.commands {
-        if !command.name.is_empty() {
-            put(out, &["  ", command.name])?;
-            put_spaces(out, command.name.len(), 9)?;
-            put(out, &[command.help, "\n"])?;
-        }
-    }
+    put_commands(out, program.commands)?;
     put_options(out, program.alone)?;
     put(out, &["\n", program.more, "\n"])
+}
+
+// The commands that have a name, and what each does.
+fn put_commands(out: &mut String, commands: &[CommandRow]) -> Put {
+    for command in commands {
+        let CommandRow { name, help, .. } = *command;
+        if !name.is_empty() {
+            put(out, &["  ", name])?;
+            put_spaces(out, name.len(), 9)?;
+            put(out, &[help, "\n"])?;
+        }
+    }
+    Ok(())
 }
 
 // So many columns are in front of what an option is for.
@@ -103,9 +104,9 @@ const COLUMN: usize = 22;
 fn put_options(out: &mut String, options: &'static [Opt]) -> Put {
     out.push_str("\nOptions:\n")?;
     for option in options {
-        let gap = if option.value.is_empty() { "" } else { " " };
+        let Opt { name, value, .. } = *option;
         let mut from = out.len();
-        put(out, &["  ", option.name, gap, option.value])?;
+        put(out, &["  ", name, gap_before(value), value])?;
         for line in option.help.split('\n') {
             put_spaces(out, out.len().saturating_sub(from), COLUMN)?;
             put(out, &[line, "\n"])?;

@@ -5,7 +5,8 @@ use dates_answer::moved;
 
 pub(crate) fn command() -> CommandRow {
     row!(
-        "add", &[DAY_OR_LINES, operand!("SPAN"; many: true)], OPEN_DAYS_AND_INSTANTS;
+        "add", &[DAY_OR_LINES, operand!("SPAN"; many: true)], 
+        &[WEEKEND, CALENDAR, HOLIDAYS, ZONED, UNIX, PARSE, FORMAT, JSON, HELP];
         help: "move a day or a date-time by each span in turn",
         more: "A SPAN is a whole number of days, weeks, months or years, as 3d, -2w, 1mo and\n\
             4y, or of open days, as 5b. Of a day, 1m is 1mo too.\n\
@@ -23,8 +24,8 @@ pub(crate) fn command() -> CommandRow {
 // What moves days and date-times: moves, in turn, and the texts that write them.
 #[derive(Drop)]
 struct Add<'a> {
-    form: OutputForm,
-    instants: Instants,
+    form: AnswerForm<'a>,
+    instants: Instants<'a>,
     holidays: Holidays,
     moves: Vec<Move>,
     texts: Vec<&'a str>,
@@ -138,10 +139,7 @@ impl<'a> Add<'a> {
                 Moved::Past => Cause::Past,
                 Moved::NotOnce => Cause::NotOnce,
             };
-            let text = match self.texts.as_slice().get(step) {
-                Some(text) => *text,
-                None => "",
-            };
+            let text = self.texts.as_slice().get(step).copied().unwrap_or("");
             return print_nowhere(rt, self.form, form.none_of(last), number, &last, text, why);
         }
         print_reply(rt, self.form, form.reply(last))
@@ -181,7 +179,7 @@ enum Moved {
 
 // What lies a move away. A move of days keeps the time of day.
 fn moved_by(
-    instants: &Instants,
+    instants: &Instants<'_>,
     start: Start,
     by: Move,
     holidays: &mut Holidays,
@@ -203,7 +201,7 @@ fn moved_by(
 }
 
 // The day that is reached at the time of day of the start.
-fn moved_to(instants: &Instants, start: Start, reached: Option<NaiveDate>) -> Moved {
+fn moved_to(instants: &Instants<'_>, start: Start, reached: Option<NaiveDate>) -> Moved {
     let Some(date) = reached else {
         return Moved::Past;
     };

@@ -6,13 +6,24 @@ use dates_answer::ReplyLine;
 /// The exit status of a command, or why it has no answer.
 pub(crate) type Answered<'a> = Result<u8, Fault<'a>>;
 
+/// In which form answers are written.
+#[derive(Clone, Copy)]
+pub(crate) struct AnswerForm<'a> {
+    /// As texts or as JSON.
+    pub form: OutputForm,
+    /// The pattern of days and date-times, if one is given.
+    pub pattern: Option<&'a Pattern<'a>>,
+}
+
 /// What a command is asked.
 #[derive(Drop)]
 pub(crate) struct Asked<'a> {
     /// The command.
     pub command: CommandRow,
     /// In which form the answer is written.
-    pub form: OutputForm,
+    pub form: AnswerForm<'a>,
+    /// How days and instants are read.
+    pub reading: InstantForm<'a>,
     /// The operands and the options.
     pub words: Arguments<'a>,
 }
@@ -66,7 +77,15 @@ pub(crate) fn answered<'a>(printed: io::Result<u8>) -> Answered<'a> {
 }
 
 // Prints the line of a reply; the exit status.
-pub(crate) fn print_reply(rt: &HostRuntime, form: OutputForm, reply: Reply) -> io::Result<u8> {
+pub(crate) fn print_reply(rt: &HostRuntime, form: AnswerForm<'_>, reply: Reply) -> io::Result<u8> {
+    match form.pattern {
+        Some(pattern) => print_by(rt, form.form, pattern, reply),
+        None => print_line(rt, form.form, reply),
+    }
+}
+
+// Prints the line of a reply without a pattern; the exit status.
+pub(crate) fn print_line(rt: &HostRuntime, form: OutputForm, reply: Reply) -> io::Result<u8> {
     let status = match reply {
         Reply::Nothing(_) | Reply::NoParts | Reply::NoWeek(_) | Reply::NoClock => NONE,
         _ => ANSWERED,

@@ -33,7 +33,7 @@ pub(crate) fn answer<'a>(rt: &HostRuntime, asked: &Asked<'a>, _none: &mut Reply)
     let start = value!(weekday_of(asked.option("--first")));
     let mut holidays = value!(holidays_of(rt, asked));
     let calendar = holidays.calendar(years_of(first, first))?;
-    match asked.form {
+    match asked.form.form {
         OutputForm::Text if is_year => print_year(rt, first, start, &calendar)?,
         OutputForm::Text => print_month(rt, month_of(first, 0, start), &calendar)?,
         OutputForm::Json => print_days(rt, first, days_of(first, is_year), &calendar)?,
@@ -48,7 +48,7 @@ fn time_of<'a>(word: Word<'a>) -> Result<(NaiveDate, bool), Fault<'a>> {
     match read_month(text) {
         Ok(first) => Ok((first, false)),
         Err(_) if read_year(text).is_some() => Ok((value!(start_of_year(word)), true)),
-        Err(error) => Err(unread(word, error, what)),
+        Err(error) => Err(unread(word, Unreadable::Form(error), what)),
     }
 }
 

@@ -5,7 +5,7 @@ use dates_answer::WrongLine;
 
 pub(crate) fn command() -> CommandRow {
     row!(
-        "check", &[operand!("FILE"; required: false)], PLAIN;
+        "check", &[operand!("FILE"; required: false)], &[PARSE, JSON, HELP];
         help: "print the lines that are no days, and why",
         more: "It reads standard input where FILE is - or left out. It prints nothing where all\n\
             lines are days.",
@@ -17,13 +17,15 @@ pub(crate) fn command() -> CommandRow {
 
 // Lines of which those that are no days are printed.
 #[derive(Clone, Copy)]
-struct CheckedLines {
-    form: OutputForm,
+struct CheckedLines<'a> {
+    form: AnswerForm<'a>,
+    reading: InstantForm<'a>,
 }
 
 // Each line of the file, or of the input, that is no day; the exit status.
 pub(crate) fn answer<'a>(rt: &HostRuntime, asked: &Asked<'a>, _none: &mut Reply) -> Answered<'a> {
-    let mut lines = CheckedLines { form: asked.form };
+    let (form, reading) = (asked.form, asked.reading);
+    let mut lines = CheckedLines { form, reading };
     match asked.word_or_lines() {
         Some(word) => {
             let file = value!(open_file(rt, word));
@@ -33,13 +35,13 @@ pub(crate) fn answer<'a>(rt: &HostRuntime, asked: &Asked<'a>, _none: &mut Reply)
     }
 }
 
-impl EachLine for CheckedLines {
+impl EachLine for CheckedLines<'_> {
     // The line's number, and why it is no day; the exit status.
     fn take_line(&mut self, rt: &HostRuntime, number: u64, line: &[u8]) -> io::Result<u8> {
-        let Err(why) = day_of_line(line) else {
+        let Err(why) = day_of_line(self.reading, line) else {
             return Ok(ANSWERED);
         };
-        let form = self.form;
+        let form = self.form.form;
         let text = String::from_utf8_lossy(rt.alloc(), line)?;
         let mut reason = String::new(rt.alloc());
         put_reason(&mut reason, why)?;

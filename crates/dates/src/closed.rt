@@ -20,36 +20,13 @@ fn weekend_named(text: &str) -> Option<WeekdaySet> {
     Some(first.union(WeekdaySet::single(weekday_named(second)?)))
 }
 
-/// Whose rules give holidays.
-#[derive(Clone, Copy)]
-pub(crate) enum Ruled {
-    UsFederal,
-    Target,
-    England,
-    Nobody,
-}
-
-// The rules of the calendar with that name; of none where it is empty.
-pub(crate) fn ruled_by(name: &str) -> Ruled {
+// Puts the rules of the calendar with that name into a list; none where it is empty.
+pub(crate) fn put_rules(name: &str, rules: &mut Vec<HolidayRule>) -> Result<(), AllocError> {
     match name {
-        "us-federal" => Ruled::UsFederal,
-        "target" => Ruled::Target,
-        "england" => Ruled::England,
-        _ => Ruled::Nobody,
-    }
-}
-
-// Puts the holidays by rules in these years into the list.
-pub(crate) fn put_holidays(
-    rules: Ruled,
-    years: Years,
-    days: &mut Vec<NaiveDate>,
-) -> io::Result<()> {
-    match rules {
-        Ruled::UsFederal => put_ruled(&us_federal(), years, days),
-        Ruled::Target => put_ruled(&target(), years, days),
-        Ruled::England => put_ruled(&england_and_wales(), years, days),
-        Ruled::Nobody => Ok(()),
+        "us-federal" => rules.extend_from_slice(&us_federal()),
+        "target" => rules.extend_from_slice(&target()),
+        "england" => rules.extend_from_slice(&england_and_wales()),
+        _ => Ok(()),
     }
 }
 
@@ -107,7 +84,11 @@ const LAST_YEAR: i32 = 262_142;
 
 // Puts the dates of rules in these years, in the years of days that are listed, and in a year before and behind them into the list
 // of these.
-fn put_ruled(rules: &[HolidayRule], years: Years, days: &mut Vec<NaiveDate>) -> io::Result<()> {
+pub(crate) fn put_ruled(
+    rules: &[HolidayRule],
+    years: Years,
+    days: &mut Vec<NaiveDate>,
+) -> io::Result<()> {
     let Years {
         mut first,
         mut last,

@@ -15,7 +15,9 @@ const COMPLETION: Opt = option!(
 );
 
 /// The options that stand without the name of a command.
-pub(crate) const OPTIONS: &[Opt] = &[JSON, HELP, VERSION, MAN, REFERENCE, COMPLETION];
+pub(crate) const OPTIONS: &[Opt] = &[
+    PARSE, FORMAT, JSON, HELP, VERSION, MAN, REFERENCE, COMPLETION,
+];
 
 // What the program does without the name of a command.
 pub(crate) fn command() -> CommandRow {
@@ -36,17 +38,17 @@ pub(crate) fn answer<'a>(rt: &HostRuntime, asked: &Asked<'a>, _none: &mut Reply)
     if words.has("--man") || words.has("--reference") || words.has("--completion") {
         return answered(print_page(rt, asked));
     }
-    let form = asked.form;
+    let (form, reading) = (asked.form, asked.reading);
     match asked.word_or_lines() {
-        Some(word) => asked.print(rt, Reply::Names(value!(first_of(word)))),
-        None => take_lines(rt, INPUT, rt.reader(), &mut NamedLines { form }),
+        Some(word) => asked.print(rt, Reply::Names(value!(first_of(reading, word)))),
+        None => take_lines(rt, INPUT, rt.reader(), &mut NamedLines { form, reading }),
     }
 }
 
 // The day that a word names, which else may have been meant for a command.
-pub(crate) fn first_of<'a>(word: Word<'a>) -> Result<NaiveDate, Fault<'a>> {
-    match day_of(word) {
-        Err(Fault::Word(word, _)) => Err(Fault::Word(word, Cause::NoCommand)),
+pub(crate) fn first_of<'a>(form: InstantForm<'_>, word: Word<'a>) -> Result<NaiveDate, Fault<'a>> {
+    match day_of(form, word) {
+        Err(Fault::Word(word, Cause::Expected(_))) => Err(Fault::Word(word, Cause::NoCommand)),
         other => other,
     }
 }
@@ -78,15 +80,16 @@ fn put_page(out: &mut String, asked: &Asked<'_>, program: &Program<'_>) -> Put {
 
 // Each line by all names of its day.
 #[derive(Clone, Copy)]
-struct NamedLines {
-    form: OutputForm,
+struct NamedLines<'a> {
+    form: AnswerForm<'a>,
+    reading: InstantForm<'a>,
 }
 
-impl EachLine for NamedLines {
+impl EachLine for NamedLines<'_> {
     fn take_line(&mut self, rt: &HostRuntime, _number: u64, line: &[u8]) -> io::Result<u8> {
-        match read_day(line) {
-            Ok(date) => print_reply(rt, self.form, Reply::Names(date)),
-            Err(_) => print_reply(rt, self.form, Reply::Nothing(Key::Date)),
+        match self.reading.read_day(line) {
+            Some(date) => print_reply(rt, self.form, Reply::Names(date)),
+            None => print_reply(rt, self.form, Reply::Nothing(Key::Date)),
         }
     }
 }

@@ -9,7 +9,8 @@ const UNIT: Operand = operand!("UNIT"; keyword: "in", values: UNITS, required: f
 
 pub(crate) fn command() -> CommandRow {
     row!(
-        "diff", &[DAY, DAY_OR_LINES, UNIT], OPEN_DAYS_AND_INSTANTS;
+        "diff", &[DAY, DAY_OR_LINES, UNIT],
+        &[WEEKEND, CALENDAR, HOLIDAYS, ZONED, UNIX, PARSE, JSON, HELP];
         help: "print the days or whole units between two days",
         more: "A UNIT is d, w, m or mo, y, b or ymd: days, weeks, months, years, open days, or\n\
             years, months and days. It goes back where the second day is the earlier.\n\
@@ -40,9 +41,9 @@ type Ends = (Option<Start>, Option<Start>);
 
 // From where to where, in what, and by which holidays.
 #[derive(Drop)]
-struct Diff {
-    form: OutputForm,
-    instants: Instants,
+struct Diff<'a> {
+    form: AnswerForm<'a>,
+    instants: Instants<'a>,
     none: Reply,
     ends: Ends,
     measure: Measure,
@@ -69,7 +70,7 @@ pub(crate) fn answer<'a>(rt: &HostRuntime, asked: &Asked<'a>, none: &mut Reply) 
 
 // Reads from where to where, and in what.
 fn read<'a>(
-    instants: &Instants,
+    instants: &Instants<'_>,
     asked: &Asked<'a>,
     none: &mut Reply,
 ) -> Result<(Ends, Measure), Fault<'a>> {
@@ -114,7 +115,7 @@ fn measure_of<'a>(words: &[Word<'a>]) -> Result<Measure, Fault<'a>> {
 }
 
 // Reads two days or two date-times, of which `-` or none at the end stands for the lines of the input.
-fn ends_of<'a>(instants: &Instants, words: &[Word<'a>]) -> Result<Ends, Fault<'a>> {
+fn ends_of<'a>(instants: &Instants<'_>, words: &[Word<'a>]) -> Result<Ends, Fault<'a>> {
     match words {
         [] => Err(Fault::Missing("DAY", "")),
         [first] if first.text == "-" => Err(Fault::Missing("DAY", "")),
@@ -135,7 +136,7 @@ fn ends_of<'a>(instants: &Instants, words: &[Word<'a>]) -> Result<Ends, Fault<'a
 
 // What is wrong where a third word stands in front of `in`.
 fn third_word<'a>(
-    instants: &Instants,
+    instants: &Instants<'_>,
     first: Word<'a>,
     second: Word<'a>,
     third: Word<'a>,
@@ -151,7 +152,7 @@ fn third_word<'a>(
 const IN: &str = "in and a unit, as 'in w'";
 
 // The day, the date-time or the instant that a word names, of the kind of the first.
-fn like<'a>(instants: &Instants, first: Start, word: Word<'a>) -> Result<Start, Fault<'a>> {
+fn like<'a>(instants: &Instants<'_>, first: Start, word: Word<'a>) -> Result<Start, Fault<'a>> {
     let what = match first {
         Start::Day(_) => DAYS,
         Start::DateTime(_) => MOMENTS,
@@ -174,7 +175,7 @@ fn check_options<'a>(words: &Arguments<'a>, measure: Measure) -> Result<(), Faul
         let name = given.option.name;
         match measure {
             Measure::OpenDays => {}
-            _ if name == "--json" || name == "--unix" || name == "--zone" => {}
+            _ if name == "--json" || name == "--unix" || name == "--zone" || name == "--parse" => {}
             _ => return Err(Fault::expected(given.value, "no such option without 'in b'")),
         }
     }
@@ -200,7 +201,7 @@ fn key_of(unit: Unit) -> Key {
     }
 }
 
-impl Diff {
+impl Diff<'_> {
     // How far it is from one day or date-time to another of its kind; the exit status.
     fn answer_ends(&mut self, rt: &HostRuntime, from: Start, to: Start) -> io::Result<u8> {
         let answer = match from {
@@ -233,7 +234,7 @@ impl Diff {
     }
 }
 
-impl EachLine for Diff {
+impl EachLine for Diff<'_> {
     fn take_line(&mut self, rt: &HostRuntime, _number: u64, line: &[u8]) -> io::Result<u8> {
         match (self.ends, self.instants.read(line)) {
             ((Some(from), _), Some(to)) => self.answer_ends(rt, from, to),

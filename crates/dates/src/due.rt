@@ -33,7 +33,7 @@ const PREV: &str = "prev";
 
 pub(crate) fn next() -> CommandRow {
     row!(
-        "next", &[operand!("CRON")], &[AFTER, HOW_MANY, BY_CLOCK, UNIX, JSON, HELP];
+        "next", &[operand!("CRON")], &[AFTER, HOW_MANY, BY_CLOCK, UNIX, PARSE, FORMAT, JSON, HELP];
         help: "print when a schedule is due next",
         more: MORE,
         example: "$ dates next '0 9 * * 5#3' --from 2024-03-01T00:00\n2024-03-15T09:00:00"
@@ -43,7 +43,7 @@ pub(crate) fn next() -> CommandRow {
 pub(crate) fn prev() -> CommandRow {
     CommandRow {
         name: PREV,
-        options: &[BEFORE, HOW_MANY, BY_CLOCK, UNIX, JSON, HELP],
+        options: &[BEFORE, HOW_MANY, BY_CLOCK, UNIX, PARSE, FORMAT, JSON, HELP],
         help: "print when a schedule was due before",
         example: "$ dates prev '0 0 L * *' --from 2024-03-15T00:00\n2024-02-29T00:00:00",
         ..next()
@@ -52,92 +52,66 @@ pub(crate) fn prev() -> CommandRow {
 
 // The moments at which the schedule is due, on or back, a line each; `none` where there are fewer. The exit status.
 pub(crate) fn answer<'a>(rt: &HostRuntime, asked: &Asked<'a>, none: &mut Reply) -> Answered<'a> {
-    let form = InstantForm::of(&asked.words);
-    *none = none_of(asked, form);
+    let form = asked.reading;
+    *none = match form {
+        InstantForm::Seconds => form.no_moment(),
+        _ if asked.words.has("--zone") => Reply::NoClock,
+        _ => form.no_moment(),
+    };
     let schedule = value!(schedule_of(asked.word(0)));
     let word = asked.option("--from");
     let from = value!(moment_of(form, word));
     let count = value!(amount_of(asked.option("--count")));
     let instants = value!(instants_by(rt, asked));
-    let Some(zone) = &instants.zone else {
-        return answered(print_due(rt, asked, &schedule, from, count));
-    };
-    match value!(instants.once(word, from)) {
-        Start::Stamp(start) => answered(print_fired(rt, asked, zone, &schedule, start, count)),
-        _ => asked.print(rt, *none),
+    let from = value!(instants.once(word, from));
+    let goes_back = asked.command.name == PREV;
+    let (form, mut last) = (asked.form, from);
+    for _ in 0..count {
+        match due_beside(instants.zone.as_ref(), &schedule, last, goes_back) {
+            Some(due) => {
+                print_due(rt, form, &instants, &due)?;
+                last = due;
+            }
+            None => return asked.print(rt, *none),
+        }
     }
+    Ok(ANSWERED)
 }
 
-// Prints so many moments at which a schedule is due behind or before one; the exit status.
+// Prints when a schedule is due: an instant as the zone's clock shows it, if there is a zone and no seconds are asked for.
 fn print_due(
     rt: &HostRuntime,
-    asked: &Asked<'_>,
+    form: AnswerForm<'_>,
+    instants: &Instants<'_>,
+    due: &Start,
+) -> io::Result<u8> {
+    match (instants.form, &instants.zone, *due) {
+        (InstantForm::Seconds, _, _) => print_reply(rt, form, instants.form.reply(*due)),
+        (_, Some(zone), Start::Stamp(stamp)) => print_in(rt, form, zone, stamp),
+        (reading, _, _) => print_reply(rt, form, reading.reply(*due)),
+    }
+}
+
+// When a schedule is due next, or was due last before: by the clock of a zone, if there is one.
+fn due_beside(
+    zone: Option<&OwnedZone>,
     schedule: &Schedule,
-    from: Start,
-    count: u64,
-) -> io::Result<u8> {
-    let form = InstantForm::of(&asked.words);
-    let goes_back = asked.command.name == PREV;
-    let mut last = from.local();
-    for _ in 0..count {
-        let Some(moment) = next_of(schedule, last, goes_back) else {
-            return print_reply(rt, asked.form, none_of(asked, form));
-        };
-        let Some(due) = from.at(moment) else {
-            return print_reply(rt, asked.form, none_of(asked, form));
-        };
-        print_reply(rt, asked.form, form.reply(due))?;
-        last = moment;
+    last: Start,
+    goes_back: bool,
+) -> Option<Start> {
+    if let (Some(zone), Start::Stamp(stamp)) = (zone, last) {
+        return Some(Start::Stamp(fired_beside(zone, schedule, stamp, goes_back)?));
     }
-    Ok(ANSWERED)
-}
-
-// Prints so many instants at which a schedule is due by a zone's clock behind or before one; the exit status.
-fn print_fired(
-    rt: &HostRuntime,
-    asked: &Asked<'_>,
-    zone: &OwnedZone,
-    schedule: &Schedule,
-    start: DateTime<FixedOffset>,
-    count: u64,
-) -> io::Result<u8> {
-    let form = InstantForm::of(&asked.words);
-    let goes_back = asked.command.name == PREV;
-    let mut last = start;
-    for _ in 0..count {
-        let Some(due) = fired_next(zone, schedule, last, goes_back) else {
-            return print_reply(rt, asked.form, none_of(asked, form));
-        };
-        print_shown(rt, asked.form, form, zone, due)?;
-        last = due;
-    }
-    Ok(ANSWERED)
-}
-
-// That there is no such moment: by a zone's clock, which has a name, or without one.
-fn none_of(asked: &Asked<'_>, form: InstantForm) -> Reply {
-    match form {
-        InstantForm::Text if asked.words.has("--zone") => Reply::NoClock,
-        _ => form.no_moment(),
-    }
-}
-
-// Prints an instant: as the zone's clock shows it, or by its seconds; the exit status.
-fn print_shown(
-    rt: &HostRuntime,
-    form: OutputForm,
-    instants: InstantForm,
-    zone: &OwnedZone,
-    due: DateTime<FixedOffset>,
-) -> io::Result<u8> {
-    match instants {
-        InstantForm::Text => print_in(rt, form, zone, due),
-        InstantForm::Seconds => print_reply(rt, form, instants.reply(Start::Stamp(due))),
-    }
+    let moment = if goes_back {
+        schedule.prev_before(last.local())
+    } else {
+        schedule.next_after(last.local())
+    };
+    last.at(moment?)
 }
 
 // The next instant at which a schedule is due by a zone's clock, or the last before.
-fn fired_next(
+fn fired_beside(
     zone: &OwnedZone,
     schedule: &Schedule,
     last: DateTime<FixedOffset>,
@@ -152,15 +126,6 @@ fn fired_next(
         zoned.next_after(start)
     };
     Some(due?.fixed_offset())
-}
-
-// The next moment at which a schedule is due, or the last before.
-fn next_of(schedule: &Schedule, last: NaiveDateTime, goes_back: bool) -> Option<NaiveDateTime> {
-    if goes_back {
-        schedule.prev_before(last)
-    } else {
-        schedule.next_after(last)
-    }
 }
 
 // The schedule that a word writes.

@@ -1,6 +1,7 @@
 //! Faults: why a command has no answer, how that is said, and the exit statuses.
 
 use crate::prelude::*;
+use chrono_pattern::PatternError;
 use chrono_rules::RuleError;
 use command_words::{Why, Wrong, nearest, put_choices, put_usage};
 use std::alloc::AllocFailed;
@@ -49,7 +50,7 @@ impl<'a> Fault<'a> {
 #[derive(Clone, Copy)]
 pub(crate) enum Cause<'a> {
     /// It is written as a day or a time is, and there is none such.
-    NoDay(ReadError),
+    NoDay(Unreadable),
     /// A move leads out of the calendar.
     Past,
     /// The zone's clock shows the date-time twice, or skips it.
@@ -76,6 +77,8 @@ pub(crate) enum Cause<'a> {
     NoValue,
     /// It names no time zone.
     Zone(ZoneError),
+    /// It writes no pattern.
+    Pattern(PatternError),
 }
 
 /// Standard input, in place of the word that names a file.
@@ -123,7 +126,7 @@ pub(crate) fn refuse(
     let status = match fault {
         Fault::Failed(error) => return Err(error),
         Fault::Machine(error) => return refuse_machine(rt, error),
-        Fault::NoSuch(_, _) => print_reply(rt, form, none)?,
+        Fault::NoSuch(_, _) => print_line(rt, form, none)?,
         _ => {
             text.push_str("dates: ")?;
             WRONG
@@ -192,15 +195,10 @@ fn refuse_machine(rt: &HostRuntime, error: ZoneError) -> io::Result<u8> {
     Ok(tell(rt, text.as_str(), WRONG))
 }
 
-// A space, if a text stands behind it.
-pub(crate) fn gap_before(text: &str) -> &'static str {
-    if text.is_empty() { "" } else { " " }
-}
-
 // Puts what is wrong with a word behind a text.
 pub(crate) fn put_cause(out: &mut String, cause: Cause<'_>) -> Put {
     match cause {
-        Cause::NoDay(error) => show(out, &error),
+        Cause::NoDay(error) => put_no_day(out, error),
         Cause::Past => out.push_str("past the calendar's end"),
         Cause::NotOnce => out.push_str("a local time that the zone's clock shows twice, or never"),
         Cause::Never => out.push_str("the zone's clock never shows it"),
@@ -217,10 +215,19 @@ pub(crate) fn put_cause(out: &mut String, cause: Cause<'_>) -> Put {
         Cause::NoOption => out.push_str("no such option"),
         Cause::NoValue => out.push_str("its value is missing"),
         Cause::Zone(error) => show(out, &error),
+        Cause::Pattern(error) => put_pattern_error(out, error),
     }
 }
 
 const COMMAND: &str = "expected a day as 2024-02-29 or a command; dates --help lists them";
+
+// Puts why a text names no day behind another.
+pub(crate) fn put_no_day(out: &mut String, error: Unreadable) -> Put {
+    match error {
+        Unreadable::Form(error) => show(out, &error),
+        Unreadable::Pattern(error) => put_unread(out, error),
+    }
+}
 
 // Puts why a line of holidays is no day behind a text.
 fn put_holiday(out: &mut String, reason: Reason) -> Put {
@@ -260,7 +267,7 @@ fn put_argument(out: &mut String, place: usize, bytes: &[u8]) -> Put {
     for chunk in bytes.utf8_chunks() {
         for character in chunk.valid().chars() {
             if character.is_control() {
-                put_escaped(out, character as u32)?;
+                write!(out, "\\u{:04x}", character as u32).or(Err(AllocError))?;
             } else {
                 out.push(character)?;
             }
@@ -270,11 +277,6 @@ fn put_argument(out: &mut String, place: usize, bytes: &[u8]) -> Put {
         }
     }
     Ok(())
-}
-
-// Puts a character behind a text by its number.
-fn put_escaped(out: &mut String, number: u32) -> Put {
-    write!(out, "\\u{number:04x}").or(Err(AllocError))
 }
 
 // The name that is most like a wrong one, if one is like it.

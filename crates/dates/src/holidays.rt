@@ -1,7 +1,7 @@
 //! The holidays of a command: read once, and put together once for the lines that touch the same years.
 
 use crate::prelude::*;
-use chrono_business::{Calendar, without_weekends};
+use chrono_business::{Calendar, HolidayRule, without_weekends};
 use chrono_datetime::WeekdaySet;
 use std::fs::{self, File};
 
@@ -9,8 +9,8 @@ use std::fs::{self, File};
 #[derive(Drop)]
 pub(crate) struct Holidays {
     weekend: WeekdaySet,
-    // Whose rules give others, if any do.
-    rules: Ruled,
+    // The rules that give others.
+    rules: Vec<HolidayRule>,
     /// Those that the file of the options lists.
     pub listed: Vec<NaiveDate>,
     // These and those of the rules in some years, in order and but for those on the weekend.
@@ -39,7 +39,7 @@ impl Holidays {
         self.years = None;
         self.days.clear();
         self.days.extend_from_slice(self.listed.as_slice())?;
-        put_holidays(self.rules, years, &mut self.days)?;
+        put_ruled(self.rules.as_slice(), years, &mut self.days)?;
         put_in_order(&mut self.days, self.weekend);
         self.years = Some(years);
         Ok(())
@@ -59,13 +59,14 @@ pub(crate) fn holidays_of<'a>(rt: &HostRuntime, asked: &Asked<'a>) -> Result<Hol
     let weekend = value!(weekend_of(asked.option("--weekend")));
     let mut holidays = Holidays {
         weekend,
-        rules: ruled_by(asked.option("--calendar").text),
+        rules: Vec::new(rt.alloc()),
         listed: Vec::new(rt.alloc()),
         days: Vec::new(rt.alloc()),
         years: None,
     };
+    put_rules(asked.option("--calendar").text, &mut holidays.rules)?;
     if let Some(word) = asked.value("--holidays") {
-        value!(put_listed(rt, word, &mut holidays.listed));
+        value!(put_listed(rt, asked.reading, word, &mut holidays.listed));
     }
     Ok(holidays)
 }
@@ -73,6 +74,7 @@ pub(crate) fn holidays_of<'a>(rt: &HostRuntime, asked: &Asked<'a>) -> Result<Hol
 // Puts the days that the file of a word lists into a list.
 fn put_listed<'a>(
     rt: &HostRuntime,
+    form: InstantForm<'_>,
     word: Word<'a>,
     days: &mut Vec<NaiveDate>,
 ) -> Result<(), Fault<'a>> {
@@ -80,7 +82,7 @@ fn put_listed<'a>(
     let mut reader = BufReader::new(rt.alloc(), value!(open_file(rt, word)))?;
     for number in 1..u64::MAX {
         match read_line(&mut reader, &mut line) {
-            Ok(true) => match day_of_line(line.as_slice()) {
+            Ok(true) => match day_of_line(form, line.as_slice()) {
                 Ok(day) => days.push(day)?,
                 Err(reason) => return Err(Fault::NoHoliday(word, number, reason)),
             },

@@ -9,7 +9,7 @@ const FROM_ZONE: Opt = option!(
 
 pub(crate) fn command() -> CommandRow {
     row!(
-        "in", &[ZONE, operand!("TIME")], &[FROM_ZONE, UNIX, JSON, HELP];
+        "in", &[ZONE, operand!("TIME")], &[FROM_ZONE, UNIX, PARSE, FORMAT, JSON, HELP];
         help: "print what a time zone's clock shows",
         more: ZONES,
         example: "$ dates in America/New_York 2024-02-29T12:00Z\n2024-02-29T07:00:00-05:00 EST"
@@ -20,7 +20,7 @@ pub(crate) fn command() -> CommandRow {
 pub(crate) fn answer<'a>(rt: &HostRuntime, asked: &Asked<'a>, none: &mut Reply) -> Answered<'a> {
     *none = Reply::NoClock;
     let zone = value!(zone_of(rt, asked.word(0)));
-    let start = value!(moment_of(InstantForm::of(&asked.words), asked.word(1)));
+    let start = value!(moment_of(asked.reading, asked.word(1)));
     let from = given!(asked.value("--from-zone"), word, zone_of(rt, word));
     match instants_of(from.as_ref().unwrap_or(&zone), start) {
         MappedLocalTime::None => {

@@ -56,7 +56,7 @@ pub(crate) const ALONE: u64 = 0;
 // Prints that there is no answer, since a move from there leads nowhere; the exit status.
 pub(crate) fn print_nowhere(
     rt: &HostRuntime,
-    form: OutputForm,
+    form: AnswerForm<'_>,
     none: Reply,
     number: u64,
     from: &Start,
@@ -81,7 +81,7 @@ pub(crate) fn print_nowhere(
 /// Why a line names no day; `Form` is that it is not written as one, and `Mark` a byte order mark.
 #[derive(Clone, Copy)]
 pub(crate) enum Reason {
-    Day(ReadError),
+    Day(Unreadable),
     Moment,
     Spaces,
     Mark,
@@ -94,7 +94,7 @@ pub(crate) enum Reason {
 // Puts why a line names no day behind a text.
 pub(crate) fn put_reason(out: &mut String, reason: Reason) -> Put {
     out.push_str(match reason {
-        Reason::Day(error) => return show(out, &error),
+        Reason::Day(error) => return put_no_day(out, error),
         Reason::Moment => "a date-time, and no day",
         Reason::Spaces => "begins or ends with white space",
         Reason::Mark => "begins with a byte order mark",
@@ -106,19 +106,20 @@ pub(crate) fn put_reason(out: &mut String, reason: Reason) -> Put {
 }
 
 // The day that a line names, or why it names none.
-pub(crate) fn day_of_line(line: &[u8]) -> Result<NaiveDate, Reason> {
+pub(crate) fn day_of_line(form: InstantForm<'_>, line: &[u8]) -> Result<NaiveDate, Reason> {
     if line.len() >= MOST_BYTES {
         return Err(Reason::Length);
     }
-    match read_start(line) {
+    match form.read(line) {
         Ok(start) => match start {
             Start::Day(date) => Ok(date),
             _ => Err(Reason::Moment),
         },
-        Err(error) if error.cause != ReadCause::NotThisForm && parted(line).is_none() => {
-            Err(Reason::Day(error))
+        Err(Unreadable::Form(error))
+            if error.cause == ReadCause::NotThisForm || parted(line).is_some() => {
+            Err(beside_day(line))
         }
-        Err(_) => Err(beside_day(line)),
+        Err(error) => Err(Reason::Day(error)),
     }
 }
 

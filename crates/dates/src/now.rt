@@ -8,7 +8,7 @@ const TODAY: &str = "today";
 
 pub(crate) fn now() -> CommandRow {
     row!(
-        "now", &[], &[IN_ZONE, UNIX, JSON, HELP];
+        "now", &[], &[IN_ZONE, UNIX, FORMAT, JSON, HELP];
         help: "print what time it is, to the second",
         more: ZONES,
         example: "$ dates now --zone UTC | cut -c 20-\n+00:00"
@@ -18,7 +18,7 @@ pub(crate) fn now() -> CommandRow {
 pub(crate) fn today() -> CommandRow {
     CommandRow {
         name: TODAY,
-        options: &[IN_ZONE, JSON, HELP],
+        options: &[IN_ZONE, FORMAT, JSON, HELP],
         help: "print what day it is",
         example: "$ dates today --zone Asia/Tokyo | wc -c\n11",
         ..now()
@@ -28,11 +28,11 @@ pub(crate) fn today() -> CommandRow {
 // The day, or the second, that the zone's clock shows now; the exit status.
 pub(crate) fn answer<'a>(rt: &HostRuntime, asked: &Asked<'a>, none: &mut Reply) -> Answered<'a> {
     if asked.command.name != TODAY {
-        *none = InstantForm::of(&asked.words).no_moment();
+        *none = asked.reading.no_moment();
     }
     let zone = value!(zone_of(rt, asked.option("--zone")));
     let shown = shown_in(&zone, second_of(SystemTime::now(rt)?));
-    let instants = InstantForm::of(&asked.words);
+    let instants = asked.reading;
     match shown {
         Some(stamp) if asked.command.name == TODAY => {
             asked.print(rt, Reply::Date(stamp.naive_local().date()))

@@ -5,7 +5,7 @@ use chrono_business::Roll;
 
 pub(crate) fn command() -> CommandRow {
     row!(
-        "open", &[DAY_OR_LINES], OPEN_DAYS;
+        "open", &[DAY_OR_LINES], &[WEEKEND, CALENDAR, HOLIDAYS, PARSE, JSON, HELP];
         help: "print whether a day is open",
         more: "It prints yes where the day is neither on the weekend nor a holiday, and else\n\
             no. With - in place of the day, or none, it answers each line of standard input.",
@@ -15,8 +15,9 @@ pub(crate) fn command() -> CommandRow {
 
 // Whether days are open by these holidays, or where they go by a convention.
 #[derive(Drop)]
-struct Days {
-    form: OutputForm,
+struct Days<'a> {
+    form: AnswerForm<'a>,
+    reading: InstantForm<'a>,
     none: Reply,
     roll: Option<Roll>,
     holidays: Holidays,
@@ -25,7 +26,7 @@ struct Days {
 // Whether the day, or that of each line, is open; the exit status.
 pub(crate) fn answer<'a>(rt: &HostRuntime, asked: &Asked<'a>, none: &mut Reply) -> Answered<'a> {
     *none = Reply::Nothing(Key::Open);
-    let date = given!(asked.word_or_lines(), word, day_of(word));
+    let date = given!(asked.word_or_lines(), word, day_of(asked.reading, word));
     answer_days(rt, asked, *none, date, None)
 }
 
@@ -39,6 +40,7 @@ pub(crate) fn answer_days<'a>(
 ) -> Answered<'a> {
     let mut days = Days {
         form: asked.form,
+        reading: asked.reading,
         none,
         roll,
         holidays: value!(holidays_of(rt, asked)),
@@ -49,7 +51,7 @@ pub(crate) fn answer_days<'a>(
     }
 }
 
-impl Days {
+impl Days<'_> {
     // The day that a day rolls to, or `none` past the calendar's end; without a convention whether it is open. The exit status.
     fn answer_day(&mut self, rt: &HostRuntime, number: u64, date: NaiveDate) -> io::Result<u8> {
         let (form, none) = (self.form, self.none);
@@ -64,11 +66,11 @@ impl Days {
     }
 }
 
-impl EachLine for Days {
+impl EachLine for Days<'_> {
     fn take_line(&mut self, rt: &HostRuntime, number: u64, line: &[u8]) -> io::Result<u8> {
-        match read_day(line) {
-            Ok(date) => self.answer_day(rt, number, date),
-            Err(_) => print_reply(rt, self.form, self.none),
+        match self.reading.read_day(line) {
+            Some(date) => self.answer_day(rt, number, date),
+            None => print_reply(rt, self.form, self.none),
         }
     }
 }

@@ -37,11 +37,3 @@ pub(crate) const HOLIDAYS: Opt =
 
 /// The options of a command that has no others.
 pub(crate) const PLAIN: &[Opt] = &[JSON, HELP];
-
-/// The options of a command that knows open days.
-pub(crate) const OPEN_DAYS: &[Opt] = &[WEEKEND, CALENDAR, HOLIDAYS, JSON, HELP];
-
-/// The options of a command that knows open days and instants.
-pub(crate) const OPEN_DAYS_AND_INSTANTS: &[Opt] = &[
-    WEEKEND, CALENDAR, HOLIDAYS, ZONED, UNIX, JSON, HELP,
-];

@@ -6,6 +6,7 @@ pub(crate) use crate::fault::*;
 pub(crate) use crate::holidays::*;
 pub(crate) use crate::lines::*;
 pub(crate) use crate::options::*;
+pub(crate) use crate::patterned::*;
 pub(crate) use crate::table::*;
 pub(crate) use crate::texts::*;
 pub(crate) use crate::values::*;
@@ -13,10 +14,11 @@ pub(crate) use crate::zoned::*;
 pub(crate) use chrono_datetime::{
     Datelike, NaiveDate, NaiveDateTime, NaiveTime, TimeDelta, Weekday,
 };
+pub(crate) use chrono_pattern::Pattern;
 pub(crate) use chrono_reading::{ReadCause, ReadError};
 pub(crate) use chrono_zoned::{DateTime, FixedOffset, InZone, MappedLocalTime, Timestamp};
 pub(crate) use command_words::{
-    Arguments, CommandRow, OPERAND, OPTION, Operand, Opt, Put, Word, put,
+    Arguments, CommandRow, OPERAND, OPTION, Operand, Opt, Put, Word, gap_before, put,
 };
 pub(crate) use dates_answer::{Key, OutputForm, Quoted, Reply, Span, Unit};
 pub(crate) use std::alloc::{AllocError, Allocator, Global};

@@ -14,7 +14,8 @@ const CONVENTIONS: &[&str] = &[
 
 pub(crate) fn command() -> CommandRow {
     row!(
-        "roll", &[DAY_OR_LINES, operand!("CONVENTION"; values: CONVENTIONS)], OPEN_DAYS;
+        "roll", &[DAY_OR_LINES, operand!("CONVENTION"; values: CONVENTIONS)],
+        &[WEEKEND, CALENDAR, HOLIDAYS, PARSE, FORMAT, JSON, HELP];
         help: "print where a closed day goes",
         more: "A CONVENTION is following, preceding, modified-following, modified-preceding,\n\
             nearest or unadjusted. An open day stays.\n\
@@ -25,19 +26,20 @@ pub(crate) fn command() -> CommandRow {
 
 // Where the day, or that of each line, goes; the exit status.
 pub(crate) fn answer<'a>(rt: &HostRuntime, asked: &Asked<'a>, none: &mut Reply) -> Answered<'a> {
-    let (date, roll) = value!(read(asked.word(0), asked.words.operand(1)));
+    let (date, roll) = value!(read(asked.reading, asked.word(0), asked.words.operand(1)));
     crate::open::answer_days(rt, asked, *none, date, Some(roll))
 }
 
 // The day and the convention; no day for the lines of the input.
 fn read<'a>(
+    form: InstantForm<'_>,
     first: Word<'a>,
     second: Option<Word<'a>>,
 ) -> Result<(Option<NaiveDate>, Roll), Fault<'a>> {
     match second {
         Some(second) if first.text == "-" => Ok((None, value!(roll_of(second)))),
-        Some(second) => Ok((Some(value!(day_of(first))), value!(roll_of(second)))),
-        None if begins_as_day(first) => match day_of(first) {
+        Some(second) => Ok((Some(value!(day_of(form, first))), value!(roll_of(second)))),
+        None if begins_as_day(first) => match day_of(form, first) {
             Ok(_) => Err(Fault::Missing("CONVENTION", "")),
             Err(fault) => Err(fault),
         },

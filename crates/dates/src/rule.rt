@@ -14,7 +14,7 @@ const HOW_MANY: Opt = option!(
 
 pub(crate) fn command() -> CommandRow {
     row!(
-        "rule", &[operand!("RRULE")], &[START, FROM, HOW_MANY, JSON, HELP];
+        "rule", &[operand!("RRULE")], &[START, FROM, HOW_MANY, PARSE, FORMAT, JSON, HELP];
         help: "print the instances of a recurrence rule",
         more: "An RRULE is written as RFC 5545 writes it, in parts with ; between them:\n\
             FREQ=WEEKLY;INTERVAL=2;BYDAY=TU;COUNT=5        every other Tuesday, five times\n\
@@ -30,8 +30,8 @@ pub(crate) fn command() -> CommandRow {
 // The instances of the rule, a line each; `none` where there is none. The exit status.
 pub(crate) fn answer<'a>(rt: &HostRuntime, asked: &Asked<'a>, none: &mut Reply) -> Answered<'a> {
     let rule = value!(rule_of(asked.word(0)));
-    let start = value!(day_of(asked.option("--start")));
-    let from = given!(asked.value("--from"), word, day_of(word)).unwrap_or(start);
+    let start = value!(day_of(asked.reading, asked.option("--start")));
+    let from = given!(asked.value("--from"), word, day_of(asked.reading, word)).unwrap_or(start);
     let most = given!(asked.value("--count"), word, amount_of(word)).unwrap_or(u64::MAX);
     let mut status = NONE;
     for day in rule.instances_from(start, from).take(most as usize) {

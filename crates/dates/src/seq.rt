@@ -5,7 +5,7 @@ use dates_answer::sequence_day;
 
 pub(crate) fn command() -> CommandRow {
     row!(
-        "seq", &[DAY, DAY, operand!("SPAN"; required: false)], PLAIN;
+        "seq", &[DAY, DAY, operand!("SPAN"; required: false)], &[PARSE, FORMAT, JSON, HELP];
         help: "print the days from one to another",
         more: "Each is the first day moved by no span, by one, by two and so on, as long as\n\
             that is not past the second day. With no SPAN it goes day by day, also back.\n\
@@ -17,8 +17,8 @@ pub(crate) fn command() -> CommandRow {
 
 // The days of the sequence as long as they are not past its end; `none` where the first day is past it. The exit status.
 pub(crate) fn answer<'a>(rt: &HostRuntime, asked: &Asked<'a>, none: &mut Reply) -> Answered<'a> {
-    let from = value!(day_of(asked.word(0)));
-    let to = value!(day_of(asked.word(1)));
+    let from = value!(day_of(asked.reading, asked.word(0)));
+    let to = value!(day_of(asked.reading, asked.word(1)));
     let step = given!(asked.words.operand(2), word, step_of(word));
     let step = step.unwrap_or(day_by_day(from, to));
     let mut status = NONE;
@@ -43,9 +43,7 @@ fn step_of<'a>(word: Word<'a>) -> Result<Span, Fault<'a>> {
 // A day on, or back where the second day is the earlier.
 fn day_by_day(from: NaiveDate, to: NaiveDate) -> Span {
     let unit = Unit::Days;
-    if to.num_days_from_ce() < from.num_days_from_ce() {
-        Span { count: -1, unit }
-    } else {
-        Span { count: 1, unit }
-    }
+    let is_back = to.num_days_from_ce() < from.num_days_from_ce();
+    let count = if is_back { -1 } else { 1 };
+    Span { count, unit }
 }

@@ -25,6 +25,8 @@ macro_rules! each_command {
             cal::command,
             now::now,
             now::today,
+            format::format,
+            format::parse,
             in_zone::command,
             zone_changes::command,
         }
@@ -122,9 +124,9 @@ pub(crate) fn answer_arguments(rt: &HostRuntime, arguments: &[String]) -> io::Re
 
 // The command with that name, and a day where there is none.
 fn command_named(name: &str) -> CommandRow {
-    for command in commands() {
+    for command in &commands() {
         if command.name == name {
-            return command;
+            return *command;
         }
     }
     crate::day::command()
@@ -150,21 +152,55 @@ fn answer_words(rt: &HostRuntime, command: CommandRow, words: Arguments<'_>) -> 
     } else {
         OutputForm::Text
     };
+    match patterns_of(&command, &words) {
+        Ok((format, parse)) => {
+            answer_by(rt, command, form, words, format.as_ref(), parse.as_ref())
+        }
+        Err(fault) => refuse(rt, &command, form, Reply::Nothing(Key::Date), fault),
+    }
+}
+
+// Answers a command by its words and its patterns; the exit status.
+fn answer_by<'a>(
+    rt: &HostRuntime,
+    command: CommandRow,
+    form: OutputForm,
+    words: Arguments<'a>,
+    pattern: Option<&'a Pattern<'a>>,
+    parse: Option<&'a Pattern<'a>>,
+) -> io::Result<u8> {
     let mut none = Reply::Nothing(Key::Date);
+    let reading = InstantForm::of(&words, parse);
     let asked = Asked {
         command,
-        form,
+        form: AnswerForm { form, pattern },
+        reading,
         words,
     };
-    let answered = match wrong_count(&asked) {
-        Some(fault) => Err(fault),
-        None => answer(rt, &asked, &mut none),
-    };
-    match answered {
+    match answer(rt, &asked, &mut none) {
         Ok(status) => Ok(status),
         Err(fault) => refuse(rt, &command, form, none, fault),
     }
 }
+
+// The patterns by which a command prints and reads, if its words are as many as it takes.
+fn patterns_of<'a>(command: &CommandRow, words: &Arguments<'a>) -> Result<Patterns<'a>, Fault<'a>> {
+    if let Some(fault) = wrong_count(command, words) {
+        return Err(fault);
+    }
+    let format = given!(pattern_word(command, words, FORMAT), word, pattern_of(word));
+    let word = pattern_word(command, words, PARSE);
+    if let Some(word) = word {
+        if words.has("--unix") {
+            return Err(Fault::expected(word, "no --parse beside --unix"));
+        }
+    }
+    let parse = given!(word, word, reading_of(word));
+    Ok((format, parse))
+}
+
+// The patterns by which a command prints and reads.
+type Patterns<'a> = (Option<Pattern<'a>>, Option<Pattern<'a>>);
 
 // What is wrong with the first word, where it names no command and is neither an option nor a day.
 fn wrong_first<'a>(command: &CommandRow, first: Option<Word<'a>>) -> Option<Fault<'a>> {
@@ -172,15 +208,14 @@ fn wrong_first<'a>(command: &CommandRow, first: Option<Word<'a>>) -> Option<Faul
     if !command.name.is_empty() || first.text.starts_with("--") {
         return None;
     }
-    match crate::day::first_of(first) {
+    match crate::day::first_of(InstantForm::Text, first) {
         Ok(_) => None,
         Err(fault) => Some(fault),
     }
 }
 
 // What is missing, or which operand is one too many.
-fn wrong_count<'a>(asked: &Asked<'a>) -> Option<Fault<'a>> {
-    let (command, words) = (&asked.command, &asked.words);
+fn wrong_count<'a>(command: &CommandRow, words: &Arguments<'a>) -> Option<Fault<'a>> {
     if let Some(operand) = words.missing_operand(command) {
         return Some(Fault::Missing(operand.name, ""));
     }

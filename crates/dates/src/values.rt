@@ -1,6 +1,7 @@
 //! The values of words.
 
 use crate::prelude::*;
+use chrono_pattern::PatternReadError;
 use chrono_text::{read_decimal, read_year};
 
 /// What is expected in place of a day.
@@ -12,30 +13,62 @@ pub(crate) const MOMENTS: &str = "a date-time as 2024-02-29T04:30";
 /// What is expected in place of a date-time with its offset.
 pub(crate) const STAMPS: &str = "a date-time with its offset as 2024-02-29T04:30+01:00";
 
-/// How instants are written.
+/// How instants are read and written.
 #[derive(Clone, Copy)]
-pub(crate) enum InstantForm {
+pub(crate) enum InstantForm<'a> {
     /// As date-times with their offset.
     Text,
     /// As seconds since 1970 in UTC.
     Seconds,
+    /// Read by a pattern, and written as date-times.
+    Pattern(&'a Pattern<'a>),
 }
 
-impl InstantForm {
-    // The form by the options of a command.
-    pub(crate) fn of(words: &Arguments<'_>) -> InstantForm {
-        if words.has("--unix") {
-            InstantForm::Seconds
-        } else {
-            InstantForm::Text
+/// Why a text names no day, date-time or instant.
+#[derive(Clone, Copy)]
+pub(crate) enum Unreadable {
+    /// By the forms of ISO 8601.
+    Form(ReadError),
+    /// By a pattern.
+    Pattern(PatternReadError),
+}
+
+impl From<ReadError> for Unreadable {
+    fn from(error: ReadError) -> Self {
+        Unreadable::Form(error)
+    }
+}
+
+impl From<PatternReadError> for Unreadable {
+    fn from(error: PatternReadError) -> Self {
+        Unreadable::Pattern(error)
+    }
+}
+
+impl<'a> InstantForm<'a> {
+    // The form by the options of a command, and by the pattern of one of them.
+    pub(crate) fn of(words: &Arguments<'_>, pattern: Option<&'a Pattern<'a>>) -> Self {
+        match pattern {
+            Some(pattern) => InstantForm::Pattern(pattern),
+            None if words.has("--unix") => InstantForm::Seconds,
+            None => InstantForm::Text,
         }
     }
 
     // The day, the date-time or the instant that a text names; by seconds an instant alone.
-    pub(crate) fn read(self, text: &[u8]) -> Result<Start, ReadError> {
+    pub(crate) fn read(self, text: &[u8]) -> Result<Start, Unreadable> {
         match self {
-            InstantForm::Text => read_start(text),
-            InstantForm::Seconds => read_instant(text),
+            InstantForm::Text => Ok(read_start(text)?),
+            InstantForm::Seconds => Ok(read_instant(text)?),
+            InstantForm::Pattern(pattern) => Ok(read_by(pattern, text)?),
+        }
+    }
+
+    // The day that a text names.
+    pub(crate) fn read_day(self, text: &[u8]) -> Option<NaiveDate> {
+        match self.read(text).ok()? {
+            Start::Day(date) => Some(date),
+            _ => None,
         }
     }
 
@@ -45,8 +78,8 @@ impl InstantForm {
             Start::Day(date) => Reply::Date(date),
             Start::DateTime(moment) => Reply::Moment(moment),
             Start::Stamp(stamp) => match self {
-                InstantForm::Text => Reply::Stamp(stamp),
                 InstantForm::Seconds => Reply::Number(Key::Unix, stamp.timestamp()),
+                _ => Reply::Stamp(stamp),
             },
         }
     }
@@ -65,6 +98,9 @@ impl InstantForm {
             InstantForm::Text if !text.contains(&b'T') && !text.contains(&b':') => {
                 Reply::Nothing(Key::Date)
             }
+            InstantForm::Pattern(pattern) if !pattern.names_date_time() => {
+                Reply::Nothing(Key::Date)
+            }
             form => form.no_moment(),
         }
     }
@@ -72,24 +108,29 @@ impl InstantForm {
     // That there is no date-time.
     pub(crate) fn no_moment(self) -> Reply {
         match self {
-            InstantForm::Text => Reply::Nothing(Key::Moment),
             InstantForm::Seconds => Reply::Nothing(Key::Unix),
+            _ => Reply::Nothing(Key::Moment),
         }
     }
 }
 
 // What is wrong with a word that cannot be read: that something else was expected, or that there is no such day or time.
-pub(crate) fn unread<'a>(word: Word<'a>, error: ReadError, what: &'static str) -> Fault<'a> {
-    if error.cause == ReadCause::NotThisForm {
-        Fault::expected(word, what)
-    } else {
-        Fault::NoSuch(word, Cause::NoDay(error))
+pub(crate) fn unread<'a>(word: Word<'a>, error: Unreadable, what: &'static str) -> Fault<'a> {
+    match error {
+        Unreadable::Form(error) if error.cause == ReadCause::NotThisForm => Fault::expected(
+            word, what,
+        ),
+        Unreadable::Pattern(wrong) if is_other_form(wrong) => Fault::Word(
+            word,
+            Cause::NoDay(error),
+        ),
+        _ => Fault::NoSuch(word, Cause::NoDay(error)),
     }
 }
 
 // The day, the date-time or the instant that a word names, where that is expected.
 pub(crate) fn start_as<'a>(
-    form: InstantForm,
+    form: InstantForm<'_>,
     word: Word<'a>,
     what: &'static str,
 ) -> Result<Start, Fault<'a>> {
@@ -97,34 +138,34 @@ pub(crate) fn start_as<'a>(
 }
 
 // The day, the date-time or the instant that a word names.
-pub(crate) fn start_of<'a>(form: InstantForm, word: Word<'a>) -> Result<Start, Fault<'a>> {
+pub(crate) fn start_of<'a>(form: InstantForm<'_>, word: Word<'a>) -> Result<Start, Fault<'a>> {
     let what = match form {
-        InstantForm::Text => "a day as 2024-02-29 or a date-time as 2024-02-29T04:30",
         InstantForm::Seconds => "seconds since 1970 as 1709204400, or a date-time with its offset",
+        _ => "a day as 2024-02-29 or a date-time as 2024-02-29T04:30",
     };
     start_as(form, word, what)
 }
 
 // The day that a word names.
-pub(crate) fn day_of<'a>(word: Word<'a>) -> Result<NaiveDate, Fault<'a>> {
-    match value!(start_as(InstantForm::Text, word, DAYS)) {
+pub(crate) fn day_of<'a>(form: InstantForm<'_>, word: Word<'a>) -> Result<NaiveDate, Fault<'a>> {
+    match value!(start_as(form, word, DAYS)) {
         Start::Day(date) => Ok(date),
         Start::DateTime(_) | Start::Stamp(_) => Err(Fault::expected(word, DAYS)),
     }
 }
 
 // The date-time or the instant that a word names.
-pub(crate) fn moment_of<'a>(form: InstantForm, word: Word<'a>) -> Result<Start, Fault<'a>> {
-    if let InstantForm::Seconds = form {
-        return start_of(form, word);
+pub(crate) fn moment_of<'a>(form: InstantForm<'_>, word: Word<'a>) -> Result<Start, Fault<'a>> {
+    match value!(start_as(form, word, MOMENTS)) {
+        Start::Day(_) => Err(Fault::expected(word, MOMENTS)),
+        start => Ok(start),
     }
-    Ok(value!(read_moment(word.text.as_bytes()), error => unread(word, error, MOMENTS)))
 }
 
 // The Monday of the week that a word names.
 pub(crate) fn week_of<'a>(word: Word<'a>) -> Result<NaiveDate, Fault<'a>> {
     let week = read_week(word.text.as_bytes());
-    Ok(value!(week, error => unread(word, error, "a week as 2024-W09")))
+    Ok(value!(week, error => unread(word, Unreadable::Form(error), "a week as 2024-W09")))
 }
 
 // The year that a word writes.

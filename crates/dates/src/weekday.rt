@@ -4,7 +4,7 @@ use crate::prelude::*;
 
 pub(crate) fn command() -> CommandRow {
     row!(
-        "weekday", &[DAY], PLAIN;
+        "weekday", &[DAY], &[PARSE, JSON, HELP];
         help: "print the weekday of a day",
         more: "",
         example: "$ dates weekday 2024-02-29\nThursday"
@@ -14,6 +14,6 @@ pub(crate) fn command() -> CommandRow {
 // The weekday of the day; the exit status.
 pub(crate) fn answer<'a>(rt: &HostRuntime, asked: &Asked<'a>, none: &mut Reply) -> Answered<'a> {
     *none = Reply::Nothing(Key::Weekday);
-    let date = value!(day_of(asked.word(0)));
+    let date = value!(day_of(asked.reading, asked.word(0)));
     asked.print(rt, Reply::Weekday(date.weekday()))
 }

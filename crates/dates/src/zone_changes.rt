@@ -8,7 +8,7 @@ const OF_YEAR: Opt =
 
 pub(crate) fn command() -> CommandRow {
     row!(
-        "zone", &[ZONE], &[OF_YEAR, JSON, HELP];
+        "zone", &[ZONE], &[OF_YEAR, FORMAT, JSON, HELP];
         help: "print when a time zone's clock is set",
         more: ZONES,
         example: "$ dates zone Europe/Berlin --year 2024\n\
@@ -28,7 +28,7 @@ pub(crate) fn answer<'a>(rt: &HostRuntime, asked: &Asked<'a>, none: &mut Reply) 
 // Prints what the clock shows whenever it is set, and its rule; the exit status.
 fn print_changes(
     rt: &HostRuntime,
-    form: OutputForm,
+    form: AnswerForm<'_>,
     zone: &OwnedZone,
     year: Option<i32>,
 ) -> io::Result<u8> {
@@ -38,7 +38,7 @@ fn print_changes(
     }
     let by_rule = match year {
         Some(year) => print_by_rule(rt, form, zone, year)?,
-        None => print_rule(rt, form, zone.rule_text())?,
+        None => print_rule(rt, form.form, zone.rule_text())?,
     };
     if status.min(by_rule) == NONE {
         return print_reply(rt, form, Reply::NoClock);
@@ -59,7 +59,7 @@ fn print_rule(rt: &HostRuntime, form: OutputForm, text: &str) -> io::Result<u8> 
 // Prints what the clock shows when it is set at that second, unless that lies in another year than is asked for; the exit status.
 fn print_set(
     rt: &HostRuntime,
-    form: OutputForm,
+    form: AnswerForm<'_>,
     zone: &OwnedZone,
     second: i64,
     year: Option<i32>,
@@ -76,30 +76,24 @@ fn print_set(
 // Prints what the clock shows when the rule sets it in a year, behind all rows; the exit status.
 fn print_by_rule(
     rt: &HostRuntime,
-    form: OutputForm,
+    form: AnswerForm<'_>,
     zone: &OwnedZone,
     year: i32,
 ) -> io::Result<u8> {
     let Some((begins, ends)) = rule_changes(zone, year) else {
         return Ok(NONE);
     };
-    let first = print_behind(rt, form, zone, begins.min(ends), year)?;
-    let second = print_behind(rt, form, zone, begins.max(ends), year)?;
-    Ok(first.min(second))
-}
-
-// Prints what the clock shows when it is set at that second, if that lies behind all rows; the exit status.
-fn print_behind(
-    rt: &HostRuntime,
-    form: OutputForm,
-    zone: &OwnedZone,
-    second: i64,
-    year: i32,
-) -> io::Result<u8> {
-    match zone.rows().last() {
-        Some(row) if second <= row.second => Ok(NONE),
-        _ => print_set(rt, form, zone, second, Some(year)),
+    let last = match zone.rows().last() {
+        Some(row) => row.second,
+        None => i64::MIN,
+    };
+    let mut status = NONE;
+    for second in [begins.min(ends), begins.max(ends)] {
+        if last < second {
+            status = status.min(print_set(rt, form, zone, second, Some(year))?);
+        }
     }
+    Ok(status)
 }
 
 // When the rule sets the clock in a year, ahead and back.

@@ -31,18 +31,12 @@ pub(crate) fn zone_of<'a>(rt: &HostRuntime, word: Word<'a>) -> Result<OwnedZone,
     if word.text == LOCAL {
         return machine_zone(rt);
     }
-    match read_zone(rt, word.text) {
-        Ok(zone) => Ok(zone),
-        Err(error) => Err(Fault::Word(word, Cause::Zone(error))),
-    }
+    Ok(value!(read_zone(rt, word.text), error => Fault::Word(word, Cause::Zone(error))))
 }
 
 // The machine's own zone.
 pub(crate) fn machine_zone<'a>(rt: &HostRuntime) -> Result<OwnedZone, Fault<'a>> {
-    match local_zone(rt) {
-        Ok(local) => Ok(local.zone),
-        Err(error) => Err(Fault::Machine(error)),
-    }
+    Ok(value!(local_zone(rt), error => Fault::Machine(error)).zone)
 }
 
 // The zone of a name.
@@ -52,19 +46,22 @@ fn read_zone(rt: &HostRuntime, name: &str) -> Result<OwnedZone, ZoneError> {
 
 /// How a command reads, moves and writes instants: in a zone, if one is named.
 #[derive(Drop)]
-pub(crate) struct Instants {
-    pub form: InstantForm,
+pub(crate) struct Instants<'a> {
+    pub form: InstantForm<'a>,
     pub zone: Option<OwnedZone>,
 }
 
 // How a command takes instants, by its options.
-pub(crate) fn instants_by<'a>(rt: &HostRuntime, asked: &Asked<'a>) -> Result<Instants, Fault<'a>> {
-    let form = InstantForm::of(&asked.words);
+pub(crate) fn instants_by<'a>(
+    rt: &HostRuntime,
+    asked: &Asked<'a>,
+) -> Result<Instants<'a>, Fault<'a>> {
+    let form = asked.reading;
     let zone = given!(asked.value("--zone"), word, zone_of(rt, word));
     Ok(Instants { form, zone })
 }
 
-impl Instants {
+impl Instants<'_> {
     // What a text names: a date-time without offset is an instant of the zone.
     pub(crate) fn read(&self, text: &[u8]) -> Option<Start> {
         self.placed(self.form.read(text).ok()?)
@@ -150,7 +147,7 @@ pub(crate) fn shown_in(
 // Prints what a zone's clock shows at an instant, and the name of its time there; the exit status.
 pub(crate) fn print_in(
     rt: &HostRuntime,
-    form: OutputForm,
+    form: AnswerForm<'_>,
     zone: &OwnedZone,
     stamp: DateTime<FixedOffset>,
 ) -> io::Result<u8> {
@@ -158,7 +155,13 @@ pub(crate) fn print_in(
         let from = Start::Stamp(stamp);
         return print_nowhere(rt, form, Reply::NoClock, ALONE, &from, "", Cause::Past);
     };
-    let name = zone.abbreviation(stamp.timestamp()).unwrap_or("");
+    if form.pattern.is_some() {
+        return print_reply(rt, form, Reply::Stamp(shown));
+    }
+    let (form, name) = (
+        form.form,
+        zone.abbreviation(stamp.timestamp()).unwrap_or(""),
+    );
     println!(rt; "{}", ClockLine { form, shown, name })?;
     Ok(ANSWERED)
 }

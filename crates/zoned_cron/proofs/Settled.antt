@@ -1,5 +1,5 @@
 -- The first and the last firing where no change is near.
-use Rattle.std.proofs.Common.{◌≡◌, true, ℤ, pos, ◌+ℤ◌, ◌-ℤ◌, ◌≤ℤ◌, ◌<ℤ◌, Some, refl, ◌∙◌}
+use Rattle.std.proofs.Common.{◌≡◌, true, ℤ, pos, ◌+ℤ◌, ◌≤ℤ◌, ◌<ℤ◌, Some, refl, ◌∙◌}
 use Rattle.chrono_datetime.specs.Moment.{IsBefore, IsMoment, Moment}
 use Rattle.chrono_instant.specs.Instants.{LiesIn, epoch_second}
 use Rattle.chrono_instant.specs.Offsets.{IsOffset}
@@ -36,7 +36,7 @@ pub record IsLastDue {Z : Type 0} (z : ZonedSchedule Z) (end m : Moment) : Type 
 lies_in : {Z : Type 0} (ahead : Z → ℤ → ℤ) (z : ZonedSchedule Z) (m : Moment) (d : Zoned Z) → is_due z.schedule.sets m ≡ true → IsSettledAt ahead z.zone m d → LiesIn (epoch_second d.utc) 0 d.utc
 lies_in ahead z m d due found = record { second = refl; past = found.fraction ∙ due_fraction z.schedule.sets m due; exists = found.local.exists }
 
-pub next_settled : {Z : Type 0} (ahead : Z → ℤ → ℤ) (z : ZonedSchedule Z) (from until : ℤ) (start local planned : Moment) (d : Zoned Z) → IsStretch (ahead z.zone) from until → from ≡ (epoch_second start -ℤ pos 172_800) → (epoch_second start +ℤ pos 172_800) ≤ℤ until → IsMoment start → IsMoment local → epoch_second local ≡ (epoch_second start +ℤ ahead z.zone from) → IsNextDue z local planned → IsSettledAt ahead z.zone planned d → IsNextFiring ahead z start (Some d)
+pub next_settled : {Z : Type 0} (ahead : Z → ℤ → ℤ) (z : ZonedSchedule Z) (from until : ℤ) (start local planned : Moment) (d : Zoned Z) → IsStretch (ahead z.zone) from until → (from +ℤ pos 172_800) ≤ℤ epoch_second start → (epoch_second start +ℤ pos 172_800) ≤ℤ until → IsMoment start → IsMoment local → epoch_second local ≡ (epoch_second start +ℤ ahead z.zone from) → IsNextDue z local planned → IsSettledAt ahead z.zone planned d → IsNextFiring ahead z start (Some d)
 next_settled ahead z from until start local planned d stretch begun long i j is next found =
     let s = z.schedule.sets in
     let clock = ahead z.zone in

@@ -131,7 +131,7 @@ all_reach s ahead p from until start local q holds offsets low long is least u l
     reaches s ahead p start local u (Some q) (omega (arith, ints, is, here)) least f more
 
 -- the only instant of the next planned time comes after the start
-pub first_there : (s : FieldSets) (ahead : ℤ → ℤ) (p : Policy) (from until start local l c : ℤ) → HoldsUntil ahead from until → from ≡ (start -ℤ pos 172_800) → (start +ℤ pos 172_800) ≤ℤ until → local ≡ (start +ℤ ahead from) → local <ℤ l → IsPlanned s l → Shows ahead l c → IsSettled ahead c → IsEpochSecond c → (start <ℤ c) × Fires s ahead p c
+pub first_there : (s : FieldSets) (ahead : ℤ → ℤ) (p : Policy) (from until start local l c : ℤ) → HoldsUntil ahead from until → (from +ℤ pos 172_800) ≤ℤ start → (start +ℤ pos 172_800) ≤ℤ until → local ≡ (start +ℤ ahead from) → local <ℤ l → IsPlanned s l → Shows ahead l c → IsSettled ahead c → IsEpochSecond c → (start <ℤ c) × Fires s ahead p c
 first_there s ahead p from until start local l c holds begun long is later planned shows settled date = (
   by_lt_z start c (λ lt. lt)
       (λ le.
@@ -141,7 +141,7 @@ first_there s ahead p from until start local l c holds begun long is later plann
   settled_fires s ahead p l c date settled shows planned,
 )
 
-pub first_least : (s : FieldSets) (ahead : ℤ → ℤ) (p : Policy) (from until start local l c : ℤ) → HoldsUntil ahead from until → from ≡ (start -ℤ pos 172_800) → (start +ℤ pos 172_800) ≤ℤ until → local ≡ (start +ℤ ahead from) → ((k : ℤ) → local <ℤ k → IsPlanned s k → l ≤ℤ k) → Shows ahead l c → IsSettled ahead c → (u : ℤ) → start <ℤ u → Fires s ahead p u → c ≤ℤ u
+pub first_least : (s : FieldSets) (ahead : ℤ → ℤ) (p : Policy) (from until start local l c : ℤ) → HoldsUntil ahead from until → (from +ℤ pos 172_800) ≤ℤ start → (start +ℤ pos 172_800) ≤ℤ until → local ≡ (start +ℤ ahead from) → ((k : ℤ) → local <ℤ k → IsPlanned s k → l ≤ℤ k) → Shows ahead l c → IsSettled ahead c → (u : ℤ) → start <ℤ u → Fires s ahead p u → c ≤ℤ u
 first_least s ahead p from until start local l c holds begun long is least shows settled u later f =
     settled_least ahead l c u settled shows (all_reach s ahead p from until start local l holds settled.near (omega (arith, ints, begun)) long is least u later f)
 

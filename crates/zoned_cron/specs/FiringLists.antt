@@ -5,8 +5,12 @@ use Rattle.chrono_datetime.specs.Moment.{IsBefore, Moment}
 use Rattle.chrono_instant.specs.Instants.{epoch_second}
 use Rattle.chrono_zoned.specs.Zoned.{Zoned}
 use Rattle.zoned_cron.specs.declared.schedule.ZonedSchedule.{ZonedSchedule}
-use Rattle.zoned_cron.specs.declared.search.firings.Firings.{Firings}
 use Rattle.zoned_cron.specs.Fires.{FiresAt, NotFiringAfter, NotFiringBetween}
+
+-- what an iterator has left: the instants of a schedule in its zone after the last one, and none once there is no last one
+pub record FiringsLeft (Z : Type 0) : Type 0 where
+  pub schedule : ZonedSchedule Z
+  pub last : Option (Zoned Z)
 
 -- In what follows `ahead zone u` tells how many seconds the clock of a zone is ahead of UTC at the second u.
 
@@ -24,7 +28,7 @@ module _ {Z : Type 0} (ahead : Z → ℤ → ℤ) where
   AreFirings z start (d ∷ rest) = IsNextFiring z start (Some d) × AreFirings z d.utc rest
 
   -- a call gave the next instant after the last one, which it now is; once none came, none comes
-  pub record GivesNext (it : Firings Z) (r : Option (Zoned Z)) (rest : Firings Z) : Type 0 where
+  pub record GivesNext (it : FiringsLeft Z) (r : Option (Zoned Z)) (rest : FiringsLeft Z) : Type 0 where
     pub kept : rest.schedule ≡ it.schedule
     pub moved : rest.last ≡ r
     pub next : MatchOption it.last (r ≡ None) (λ start. IsNextFiring it.schedule start.utc r)
@@ -35,5 +39,5 @@ seconds_after None = 0
 seconds_after (Some d) = unsigned_abs (pos 8_210_266_876_799 -ℤ epoch_second d.utc)
 
 -- no more instants come than that
-abbrev pub instants_left : {Z : Type 0} → Firings Z → Count
+abbrev pub instants_left : {Z : Type 0} → FiringsLeft Z → Count
 instants_left it = at_most (seconds_after it.last)

@@ -6,11 +6,13 @@ use Rattle.chrono_instant.specs.Offsets.{IsOffset}
 use Rattle.chrono_zoned.specs.declared.mapped_local_time.MappedLocalTime.{MappedLocalTime}
 use Rattle.chrono_zoned.specs.declared.mapped_local_time.MappedLocalTime.TheVariants.{None as NoInstant, Single, Ambiguous}
 use Rattle.chrono_zoned.specs.Zoned.{IsLocal, Zoned}
-use Rattle.chrono_zoned.specs.Zones.{Shows}
+use Rattle.chrono_zoned.specs.Zones.{HoldsUntil, Shows}
 use Rattle.chrono_cron.specs.declared.field_sets.FieldSets.{FieldSets}
 use Rattle.chrono_cron.specs.Due.{is_due}
 use Rattle.zoned_cron.specs.declared.policy.Policy.{Policy}
 use Rattle.zoned_cron.specs.declared.schedule.ZonedSchedule.{ZonedSchedule}
+use Rattle.zoned_cron.specs.declared.search.held.Held.{Held}
+use Rattle.zoned_cron.specs.FiringLists.{IsNextFiring}
 use Rattle.zoned_cron.specs.Fires.{FiresAt, IsBehindGap, IsInstant, NotFiringBetween, Takes}
 
 -- the clock shows a date at u, and is ahead by less than a day
@@ -50,6 +52,21 @@ pub record IsSettledAt {Z : Type 0} (ahead : Z → ℤ → ℤ) (z : Z) (m : Mom
   pub shows : Shows (ahead z) (epoch_second m) (epoch_second d.utc)
   pub fraction : d.utc.time.fraction ≡ m.time.fraction
   pub settled : IsSettled (ahead z) (epoch_second d.utc)
+
+-- the clock keeps the offset of a stretch from its beginning until its end, and each of its offsets is less than a day
+pub record IsHeld (ahead : ℤ → ℤ) (h : Held) : Type 0 where
+  pub offset : h.offset ≡ ahead h.from
+  pub holds : HoldsUntil ahead h.from h.until
+  pub near : (v : ℤ) → IsOffset (ahead v)
+
+-- a stretch holds for two days before the second u, and for two days from then on
+pub record Surrounds (h : Held) (u : ℤ) : Type 0 where
+  pub low : (h.from +ℤ pos 172_800) ≤ℤ u
+  pub high : (u +ℤ pos 172_800) ≤ℤ h.until
+
+-- if no change is near the instant of the local time m, it is the first instant after UTC's `start` at which z fires
+abbrev pub IsNextIfSettled : {Z : Type 0} → (Z → ℤ → ℤ) → ZonedSchedule Z → Moment → Moment → Type 0
+IsNextIfSettled {Z} ahead z start m = (d : Zoned Z) → IsSettledAt ahead z.zone m d → IsNextFiring ahead z start (Some d)
 
 -- d is the last instant before UTC's `end` at which z fires
 abbrev pub IsPreviousFiring : {Z : Type 0} → (Z → ℤ → ℤ) → ZonedSchedule Z → Moment → Zoned Z → Type 0

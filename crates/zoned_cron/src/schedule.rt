@@ -8,6 +8,7 @@ ghost use Rattle.zoned_cron.specs.FiringLists.{AreFirings, GivesNext, seconds_af
 
 use crate::policy::Policy;
 use crate::search::firings::Firings;
+use crate::search::held::Held;
 use crate::search::instants::begun_by;
 use chrono_cron::Schedule;
 use chrono_datetime::Timelike;
@@ -93,12 +94,9 @@ impl<Z: TimeZone> ZonedSchedule<Z> {
         ensures none { IfNone result (NotFiringAfter self.now.schedule.sets (Z.ahead self.now.zone) self.now.policy start.utc) }
     {
         let utc = start.naive_utc();
-        if let Some(found) = self.first_settled(utc) {
-            return Some(found);
-        }
         date_times_exist(utc);
-        self.zone
-            .timestamp_opt(self.first_after(utc.timestamp())?, 0)
+        let held = Held::around(self.zone, utc.timestamp());
+        self.first_by(utc, &held)
     }
 
     /// Returns the last instant before `start` at which the schedule fires.
@@ -143,10 +141,6 @@ impl<Z: TimeZone> ZonedSchedule<Z> {
         // What calls of `next` give, up to the first `None`, is the instants in order.
         ensures runs { (given : List (Zoned Z)) → Drains (GivesNext Z.ahead) result given → AreFirings Z.ahead self.now start.utc given }
     {
-        date_times_exist(start.naive_utc());
-        Firings {
-            schedule: *self,
-            last: Some(start),
-        }
+        Firings::begin(*self, start)
     }
 }

@@ -1,8 +1,9 @@
 /** Ties what is typed to what is shown. */
 
-import { PlainDate } from "../src/index.js";
+import { BusinessCalendar, PlainDate, PlainDateTime, TextError } from "../src/index.js";
 import { answerOf } from "./answers.js";
-import { dateOfText, element, MONTHS, moveOfKey, showBetween, showMonth, showRow } from "./parts.js";
+import { datesOfText, faultNodes, showOpenDays, showSchedule, showYear } from "./layer_parts.js";
+import { dateOfText, element, LONG_WEEKDAYS, MONTHS, moveOfKey, showBetween, showMonth, showRow } from "./parts.js";
 
 /** The commands of caltool: one line for each, and what it asks. */
 const EXAMPLES = {
@@ -21,6 +22,34 @@ const EXAMPLES = {
   "on 2024 12 30 2 4": "the first Tuesday or Thursday",
   "every 2024 1 31 1 2": "the second of dates every month",
 };
+
+/** Cron lines, and what each shows. */
+const CRON_EXAMPLES = {
+  "30 4 1,15 * fri": "days of the month or a weekday",
+  "*/15 9-17 * * mon-fri": "office hours",
+  "0 0 29 2 *": "leap days",
+  "0 18 L * *": "the last day of the month",
+  "0 9 * * 1#1": "the first Monday of the month",
+  "@daily": "a nickname",
+  "0 25 * * *": "an hour that there is not",
+};
+
+/** Rules, and what each shows. */
+const RULE_EXAMPLES = {
+  "FREQ=MONTHLY;BYDAY=-1FR": "the last Friday of each month",
+  "FREQ=WEEKLY;INTERVAL=2;BYDAY=MO,WE": "Mondays and Wednesdays of every other week",
+  "FREQ=YEARLY;BYMONTH=11;BYDAY=4TH": "the fourth Thursday of November",
+  "FREQ=DAILY;COUNT=10": "ten days",
+  "FREQ=MONTHLY;BYMONTHDAY=31": "the 31st, where there is one",
+  "FREQ=MONTHLY;BYDAY=MO,TU,WE,TH,FR;BYSETPOS=-1": "the last weekday of each month",
+  "FREQ=YEARLY;BYWEEKNO=1,99": "a week that there is not",
+};
+
+/** Calendars whose holidays are known. */
+const KNOWN = { "": "my own list", usFederal: "the United States", target: "the euro (TARGET)", englandAndWales: "England and Wales" };
+
+/** Saturday and Sunday. */
+const USUAL_WEEKEND = [6, 7];
 
 const at = (id) => document.getElementById(id);
 
@@ -53,8 +82,55 @@ function orRefused(place, fields, show) {
     if (!(refused instanceof RangeError)) {
       throw refused;
     }
-    place.textContent = refused.message;
+    const isAtPlace = refused instanceof TextError;
+    place.replaceChildren(...(isAtPlace ? faultNodes(refused) : [refused.message]));
   }
+}
+
+/** Buttons that put an example into a field; what they stand for is their title. */
+function chips(list, field, examples, nameOf, show) {
+  const items = Object.keys(examples).map((example) => {
+    const button = element("button", { type: "button", title: examples[example], ariaLabel: `${example}: ${examples[example]}` });
+    button.textContent = nameOf(example);
+    button.addEventListener("click", () => {
+      field.value = example;
+      show();
+      field.focus();
+    });
+    return element("li", {}, button);
+  });
+  list.replaceChildren(...items);
+}
+
+/** This second by the clock of the machine, as a date-time. */
+function clockNow() {
+  const now = new Date();
+  const date = [now.getFullYear(), now.getMonth() + 1, now.getDate()];
+  return new PlainDateTime(...date, now.getHours(), now.getMinutes(), now.getSeconds());
+}
+
+function startSchedule() {
+  const [cron, after, words, due, trouble] = ["cron", "after", "cron-words", "due", "cron-trouble"].map(at);
+  const show = () => {
+    words.replaceChildren();
+    due.replaceChildren();
+    orRefused(trouble, [cron, after], () => {
+      const start = read(after, (text) => PlainDateTime.from(text.trim()));
+      const shown = read(cron, (text) => showSchedule(words, due, text, start));
+      if (shown === 0) {
+        throw new RangeError("no date is due after that");
+      }
+    });
+  };
+  const startNow = () => {
+    after.value = `${clockNow()}`;
+    show();
+  };
+  cron.addEventListener("input", show);
+  after.addEventListener("input", show);
+  at("now").addEventListener("click", startNow);
+  chips(at("cron-examples"), cron, CRON_EXAMPLES, String, show);
+  startNow();
 }
 
 function startLine() {
@@ -63,17 +139,7 @@ function startLine() {
     answer.textContent = answerOf(line.value);
     help.textContent = Object.hasOwn(EXAMPLES, line.value) ? `This asks for ${EXAMPLES[line.value]}.` : "none: no such date; error: no such command.";
   };
-  const chips = Object.keys(EXAMPLES).map((example) => {
-    const button = element("button", { type: "button", title: EXAMPLES[example], ariaLabel: `${example}: ${EXAMPLES[example]}` });
-    button.textContent = example.split(" ")[0];
-    button.addEventListener("click", () => {
-      line.value = example;
-      show();
-      line.focus();
-    });
-    return element("li", {}, button);
-  });
-  at("examples").replaceChildren(...chips);
+  chips(at("examples"), line, EXAMPLES, (it) => it.split(" ")[0], show);
   line.addEventListener("input", show);
   show();
 }
@@ -109,11 +175,64 @@ function startMonth() {
   show(today);
 }
 
+/** The year of a text; a RangeError if the calendar does not have it. */
+const yearOfText = (text) => new PlainDate(text === "" ? NaN : text, 1, 1).year;
+
+function startRule() {
+  const [rule, start, year, sheet, words, trouble] = ["rule", "rule-start", "rule-year", "year-sheet", "rule-words", "rule-trouble"].map(at);
+  const show = () => {
+    sheet.replaceChildren();
+    words.replaceChildren();
+    orRefused(trouble, [rule, start, year], () => {
+      const [from, shown] = [read(start, dateOfText), read(year, yearOfText)];
+      read(rule, (text) => showYear(sheet, words, text, from, shown));
+    });
+  };
+  [rule, start, year].forEach((it) => it.addEventListener("input", show));
+  chips(at("rule-examples"), rule, RULE_EXAMPLES, String, show);
+  show();
+}
+
+/** A list to choose known holidays from, which are put into a field for the years of two dates. */
+function knownHolidays(select, field, years, weekend, show) {
+  select.replaceChildren(...Object.entries(KNOWN).map(([value, name]) => element("option", { value }, name)));
+  select.addEventListener("change", () => {
+    orRefused(at("holidays-trouble"), [field], () => {
+      const chosen = select.value === "" ? [] : BusinessCalendar.of(select.value, ...years(), { weekend: weekend() }).holidays;
+      field.value = chosen.join(" ");
+      show();
+    });
+  });
+  field.addEventListener("input", () => {
+    select.value = "";
+  });
+}
+
+/** Boxes for the weekdays that are closed. */
+function weekendBoxes(fieldset) {
+  const boxes = LONG_WEEKDAYS.map((name, index) => {
+    const box = element("input", { type: "checkbox", value: `${index + 1}`, checked: USUAL_WEEKEND.includes(index + 1), ariaLabel: name });
+    fieldset.append(element("label", { className: "check" }, box, name.slice(0, 3)));
+    return box;
+  });
+  return () => boxes.filter((it) => it.checked).map((it) => Number(it.value));
+}
+
 function startBetween() {
-  const [from, to, output] = [at("from"), at("to"), at("between")];
-  const show = () => orRefused(output, [from, to], () => showBetween(output, read(from, dateOfText), read(to, dateOfText)));
-  from.addEventListener("input", show);
-  to.addEventListener("input", show);
+  const [from, to, output, holidays, open, trouble] = ["from", "to", "between", "holidays", "open", "holidays-trouble"].map(at);
+  const weekend = weekendBoxes(at("weekend"));
+  const show = () => {
+    open.replaceChildren();
+    trouble.replaceChildren();
+    orRefused(output, [from, to, holidays], () => {
+      const dates = [read(from, dateOfText), read(to, dateOfText)];
+      showBetween(output, ...dates);
+      orRefused(trouble, [holidays], () => showOpenDays(open, ...dates, weekend(), read(holidays, datesOfText)));
+    });
+  };
+  [from, to, holidays, at("weekend")].forEach((it) => it.addEventListener("input", show));
+  const years = () => [from, to].map((it) => dateOfText(it.value).year).sort((one, other) => one - other);
+  knownHolidays(at("known"), holidays, years, weekend, show);
   at("swap").addEventListener("click", () => {
     [from.value, to.value] = [to.value, from.value];
     show();
@@ -137,7 +256,9 @@ function startRow() {
   show();
 }
 
-startLine();
-startMonth();
+startSchedule();
+startRule();
 startBetween();
+startMonth();
+startLine();
 startRow();

@@ -6,7 +6,7 @@ import { dateText, WEEKDAYS, weekText, yearText } from "./answers.js";
 export const MONTHS = [
   "January", "February", "March", "April", "May", "June", "July", "August", "September", "October", "November", "December",
 ];
-const LONG_WEEKDAYS = ["Monday", "Tuesday", "Wednesday", "Thursday", "Friday", "Saturday", "Sunday"];
+export const LONG_WEEKDAYS = ["Monday", "Tuesday", "Wednesday", "Thursday", "Friday", "Saturday", "Sunday"];
 
 /** An element with some properties and children. */
 export function element(tag, properties = {}, ...children) {
@@ -16,7 +16,7 @@ export function element(tag, properties = {}, ...children) {
 }
 
 /** A number of things in words. */
-const counted = (number, thing) => `${number.toLocaleString("en")} ${thing}${Math.abs(number) === 1 ? "" : "s"}`;
+export const counted = (number, thing) => `${number.toLocaleString("en")} ${thing}${Math.abs(number) === 1 ? "" : "s"}`;
 
 /** A date in words. */
 export const spoken = (date) =>

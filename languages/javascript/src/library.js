@@ -6,13 +6,12 @@
  * all that the module itself uses.
  */
 
+import { instantiate } from "./instantiate.js";
 import { MODULE } from "./module.js";
+import { getMoment, setMoment } from "./moments.js";
 
 /** Stands for a date, a field or a length that there is not. */
 export const NONE = -(2 ** 31);
-
-/** The nanoseconds of a date-time that there is not. */
-const NO_NANOS = 2 ** 32 - 1;
 
 /** Where things lie behind the module's own memory: a date-time, another or a duration, an answer, a text. */
 const [FIRST, SECOND, ANSWER, TEXT] = [0n, 16n, 32n, 64n];
@@ -20,17 +19,7 @@ const [FIRST, SECOND, ANSWER, TEXT] = [0n, 16n, 32n, 64n];
 /** No text of a date or a date-time is longer. */
 const LONGEST = 32;
 
-function instantiate() {
-  const bytes = Uint8Array.from(atob(MODULE), (it) => it.charCodeAt(0));
-  try {
-    return new WebAssembly.Instance(new WebAssembly.Module(bytes)).exports;
-  } catch (cause) {
-    const hosts = "Chromium 85, Firefox 78, Safari 15 or node 20";
-    throw new Error(`the module does not load here: it needs WebAssembly as ${hosts} have it`, { cause });
-  }
-}
-
-export const library = instantiate();
+export const library = instantiate(MODULE);
 
 /** The first byte of a page behind the module's own memory. */
 const ROOM = BigInt(library.memory.grow(1)) * 65_536n;
@@ -39,17 +28,13 @@ const view = new DataView(library.memory.buffer, Number(ROOM), 128);
 const textBytes = new Uint8Array(library.memory.buffer, Number(ROOM + TEXT), LONGEST);
 
 /** Puts a date-time or a duration into the room, and answers where. */
-function put(at, { seconds, nanos }) {
-  view.setBigInt64(Number(at), BigInt(seconds), true);
-  view.setUint32(Number(at) + 8, nanos, true);
+function put(at, moment) {
+  setMoment(view, Number(at), moment);
   return ROOM + at;
 }
 
 /** The date-time or the duration that a function answered, with seconds as a BigInt; undefined if none. */
-function answered() {
-  const nanos = view.getUint32(Number(ANSWER) + 8, true);
-  return nanos === NO_NANOS ? undefined : { seconds: view.getBigInt64(Number(ANSWER), true), nanos };
-}
+const answered = () => getMoment(view, Number(ANSWER));
 
 /** The date-time at a second of a date and so many nanoseconds past it. */
 export function dateTimeAt(date, secondOfDay, nanos) {

@@ -388,7 +388,7 @@ function timeOf(time) {
 }
 
 /** The set of weekdays as the library has it: one binary digit for each. */
-function setOf(daysOfWeek) {
+export function setOf(daysOfWeek) {
   return daysOfWeek.reduce((set, it) => {
     const weekday = integer(it, "weekday");
     if (weekday < 1 || weekday > 7) {

@@ -39,6 +39,12 @@ function momentAt(date, time) {
   return moment;
 }
 
+/** The two numbers that a date-time is: seconds since 1970 as a BigInt, and nanoseconds past them. */
+export let momentOf;
+
+/** The date-time of such numbers. */
+export let dateTimeOf;
+
 /**
  * A date with a time of day, to the nanosecond, in no time zone.
  *
@@ -49,6 +55,11 @@ function momentAt(date, time) {
 export class PlainDateTime {
   #moment;
   #date;
+
+  static {
+    momentOf = (dateTime) => dateTime.#moment;
+    dateTimeOf = (moment) => new PlainDateTime(BY_NUMBERS, moment);
+  }
 
   /**
    * The date-time of a date and what a clock shows, 60 being the leap second that follows 59; RangeError if there is

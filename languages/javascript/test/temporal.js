@@ -90,6 +90,16 @@
     (it, a) => it.PlainDateTime.from({ ...a.date, ...a.time }).round(a.rounding),
     (it, a) => it.PlainDateTime.from(a.shortText),
     (it, a) => it.PlainDate.from(a.shortText),
+    (it, a) => new it.Instant(a.epoch),
+    (it, a) => it.Instant.from(a.instantText),
+    (it, a) => it.Instant.from(a.instantText).epochMilliseconds,
+    (it, a) => it.Instant.fromEpochMilliseconds(Number(a.epoch / 1_000_000n)),
+    (it, a) => new it.Instant(a.epoch).add(a.exact),
+    (it, a) => new it.Instant(a.epoch).subtract({ hours: a.number, nanoseconds: a.number }),
+    (it, a) => new it.Instant(a.epoch).until(new it.Instant(a.otherEpoch), { largestUnit: a.clockUnit }),
+    (it, a) => new it.Instant(a.epoch).since(new it.Instant(a.otherEpoch), { largestUnit: a.clockUnit }),
+    (it, a) => new it.Instant(a.epoch).round(a.rounding),
+    (it, a) => it.Instant.compare(new it.Instant(a.epoch), it.Instant.from(a.instantText)),
     (it, a) => it.PlainDate.from(a.date).toLocaleString(a.language),
     (it, a) => it.PlainDateTime.from({ ...a.date, ...a.time }).toLocaleString(a.language),
   ];
@@ -109,6 +119,10 @@
     given.rounding.roundingMode = among("ceil", "floor", "expand", "trunc", "halfCeil", "halfFloor", "halfExpand", "halfTrunc", "halfEven", undefined);
     given.rounding.roundingIncrement = among(1, 1, 2, 5, 12, 15, 20, 500);
     given.language = among("en-US", "de-DE", "fr-FR", "ja-JP", "sv-SE");
+    const epoch = () => BigInt(among(draw(2 ** 31), draw(4_000_000) * 1_000_000 - 2_000_000_000_000)) * among(1n, 1_000n, 1_000_000n) + BigInt(draw(1_000));
+    [given.epoch, given.otherEpoch, given.clockUnit] = [epoch(), epoch(), among("auto", "hour", "minutes", "second", "milliseconds", "nanosecond")];
+    const offset = among("Z", "z", "+01:00", "-05:30", "+0545", "-08", "+23:59:59.5", "+24:00", "", "+1", "[Europe/Berlin]", "Z[Asia/Tokyo][u-ca=iso8601]");
+    given.instantText = `${among("2024-02-29T12:30:15.25", "1969-12-31t23:59:59,999", "20240229T123015", "2016-12-31T23:59:60", "2024-02-29", "2024-02-29T12:60")}${offset}`;
     given.shortText = texts(among("20240229", "2024-02-29T12", "2024-02-29 12:30", "20240229T1230", "20240229t123059,25", "+0120240229T12", "-000000-01-01"));
     // (a leap second is a second of its own here, and 59 for Temporal)
     given.number = given.clock === "second" ? draw(60) : among(draw(13), draw(40), draw(1_100));

@@ -1,4 +1,4 @@
-import { daysUntil, Duration, isLeapYear, PlainDate, PlainDateTime } from "proved-calendar";
+import { BusinessCalendar, dayCount, daysUntil, Duration, easter, Instant, isLeapYear, PlainDate, PlainDateTime, Rule, Schedule, TextError } from "proved-calendar";
 
 const due: PlainDate = new PlainDate(2024, 2, 29).add({ years: 1 }, { overflow: "constrain" });
 const weeks: number = due.until("2026-01-01", { largestUnit: "weeks" }).weeks;
@@ -9,3 +9,12 @@ const rounded: Duration = Duration.from("PT90M").round({ largestUnit: "hour", sm
 const hours: number = rounded.total("hour") + later.round({ smallestUnit: "hour" }).hour;
 const isLeap: boolean = isLeapYear(weeks) || order === 0 || days === undefined;
 export const text: string = `${isLeap} ${hours} ${due.toLocaleString("en-US", { dateStyle: "long" })} ${due.toPlainDateTime({ hour: 12 })} ${due.firstOn(1).dayNumber}`;
+const next: PlainDateTime | undefined = Schedule.from("30 4 1,15 * fri").nextAfter(later);
+const third: PlainDateTime[] = [...new Schedule("@daily").iterate(due, { until: "2025-03-03" })];
+const calendar = new BusinessCalendar({ weekend: [7], holidays: [due, "2024-12-25"] });
+const part: { numerator: number; denominator: number } = dayCount("thirty360", due, calendar.roll(due, "modifiedFollowing"));
+const known: PlainDate[] = [easter(2024), ...BusinessCalendar.of("target", 2024, 2025, { weekend: [] }).holidays];
+const place = (wrong: TextError): [number, number, string] => [wrong.start, wrong.end, wrong.reason];
+const seconds: Duration = Instant.from("2024-02-29T12:00Z").until(new Instant(0n), { largestUnit: "hours" });
+const ruleDays: PlainDate[] = [...new Rule("FREQ=DAILY;COUNT=3", due)];
+export const more = [ruleDays, known, next, third, seconds, part, place, calendar.add(due, 2).dayNumber];

@@ -19,10 +19,18 @@ enum { WEEKEND = 32 + 64 };
 static Signature of_parts = {
     .call = "BusinessCalendar", .count = 2, .needed = 0, .places = 2, .names = {"holidays", "weekend"},
 };
+static Signature of_known = {
+    .call = "known", .count = 4, .needed = 3, .places = 4, .names = {"name", "first_year", "last_year", "weekend"},
+};
 static Signature of_add = {.call = "add", .count = 2, .needed = 2, .places = 2, .names = {"date", "days"}};
 static Signature of_between = {.call = "between", .count = 2, .needed = 2, .places = 2, .names = {"start", "end"}};
 static Signature of_roll = {.call = "roll", .count = 2, .needed = 2, .places = 2, .names = {"date", "how"}};
 
+static const char *const known_calendars[] = {
+    [CALENDAR_US_FEDERAL] = "us_federal",
+    [CALENDAR_TARGET] = "target",
+    [CALENDAR_ENGLAND_AND_WALES] = "england_and_wales",
+};
 static const char *const rolls[] = {
     [CALENDAR_ROLL_UNADJUSTED] = "unadjusted",
     [CALENDAR_ROLL_FOLLOWING] = "following",
@@ -126,6 +134,59 @@ static PyObject *business_of(uint8_t weekend, PyObject *dates)
         return PyErr_Format(PyExc_ValueError, "%zu holidays: a calendar has at most %d", count, CALENDAR_MOST_HOLIDAYS);
     }
     return new_business(weekend, numbers, count);
+}
+
+/* Writes the holidays of a known calendar on the days of some years; how many there are, or CALENDAR_NONE. A day of the first days
+ * of a year can be kept in the year before, so one year more is asked for. */
+static int32_t known_holidays(uint32_t which, int32_t first, int32_t last, uint8_t weekend, int32_t *numbers)
+{
+    int32_t end = calendar_from_ymd(last, 12, 31), more = end == CALENDAR_MAX ? last : last + 1;
+    int32_t count = end == CALENDAR_NONE || last < first
+        ? CALENDAR_NONE : calendar_holidays_of(which, first, more, weekend, numbers, CALENDAR_MOST_HOLIDAYS);
+    while (count > 0 && numbers[count - 1] > end) {
+        count--;
+    }
+    return count;
+}
+
+static PyObject *business_known(PyObject *kind, PyObject *const *arguments, Py_ssize_t count, PyObject *keywords)
+{
+    PyObject *parts[PARTS];
+    uint32_t which;
+    int64_t first, last;
+    uint8_t weekend = WEEKEND;
+    (void)kind;
+    if (!take_array(&of_known, arguments, count, keywords, parts) || !READ_WORD(parts[0], "known calendar", known_calendars, &which)
+        || !read_whole(parts[1], &first) || !read_whole(parts[2], &last) || (parts[3] && !read_weekday_set(parts[3], &weekend))) {
+        return NULL;
+    }
+    int32_t *numbers = PyMem_Malloc(CALENDAR_MOST_HOLIDAYS * sizeof numbers[0]);
+    if (!numbers) {
+        return PyErr_NoMemory();
+    }
+    bool are_years = is_i32(first) && is_i32(last);
+    int32_t found = are_years ? known_holidays(which, (int32_t)first, (int32_t)last, weekend, numbers) : CALENDAR_NONE;
+    if (found == CALENDAR_NONE) {
+        PyMem_Free(numbers);
+        return PyErr_Format(PyExc_ValueError, "years %S to %S: they have no holidays, or more than %d", parts[1], parts[2],
+                            CALENDAR_MOST_HOLIDAYS);
+    }
+    return new_business(weekend, numbers, (size_t)found);
+}
+
+PyObject *easter(PyObject *module, PyObject *it)
+{
+    int64_t year;
+    (void)module;
+    if (!read_whole(it, &year)) {
+        return NULL;
+    }
+    int32_t number = is_i32(year) ? calendar_easter((int32_t)year) : CALENDAR_NONE;
+    if (number == CALENDAR_NONE) {
+        refuse_part("year", year, "the calendar has those from -262143 to 262142");
+        return NULL;
+    }
+    return date_of(date_type, number);
 }
 
 static PyObject *business_new(PyTypeObject *kind, PyObject *arguments, PyObject *keywords)
@@ -304,6 +365,12 @@ static PyGetSetDef fields[] = {
 };
 
 static PyMethodDef methods[] = {
+    {"known", METHOD(business_known), METH_FASTCALL | METH_KEYWORDS | METH_CLASS,
+     "known($type, /, name, first_year, last_year, weekend=(6, 7))\n--\n\n"
+     "Returns the calendar with the holidays of some years by known rules.\n\n"
+     ">>> BusinessCalendar.known('target', 2024, 2024).add(Date(2024, 3, 28), 2)\nDate(2024, 4, 3)\n\n"
+     "name is 'us_federal', 'target' (the euro's payment system) or 'england_and_wales'. Raises ValueError for more than 1,000\n"
+     "holidays."},
     {"is_open", is_open, METH_O,
      "is_open($self, date, /)\n--\n\nReturns whether a date is open: neither on the weekend nor a holiday."},
     {"add", METHOD(add_open_days), METH_FASTCALL | METH_KEYWORDS,

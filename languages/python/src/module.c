@@ -55,6 +55,9 @@ static PyMethodDef functions[] = {
      "Returns the part of a year from one date to another, as an exact fraction; negative if end is the earlier.\n\n"
      "kind is 'actual_actual_isda', 'actual_360', 'actual_365_fixed', 'thirty_360' or 'thirty_e_360' (ISDA 2006, 4.16).\n\n"
      ">>> day_count(Date(2024, 1, 31), Date(2024, 2, 29), 'thirty_360')\nFraction(29, 360)"},
+    {"easter", easter, METH_O,
+     "easter(year, /)\n--\n\nReturns Easter Sunday of a year, as the Gregorian churches have it.\n\n"
+     ">>> easter(2024)\nDate(2024, 3, 31)"},
     {"extend", METHOD(extend), METH_FASTCALL,
      "extend(kind, name, member, /)\n--\n\nGives a type of this module a member that is written in Python."},
     {NULL, NULL, 0, NULL},
@@ -63,7 +66,7 @@ static PyMethodDef functions[] = {
 static struct PyModuleDef definition = {
     .m_base = PyModuleDef_HEAD_INIT,
     .m_name = "proved_calendar._calendar",
-    .m_doc = "Dates, date-times, durations, schedules and open days, by functions that are proved to return what counting gives.",
+    .m_doc = "Dates, date-times, durations, schedules, rules and open days, by functions that are proved to return what counting gives.",
     /* (the types stand in variables of these files, so there is one of each in a process) */
     .m_size = -1,
     .m_methods = functions,
@@ -76,7 +79,7 @@ PyMODINIT_FUNC PyInit__calendar(void)
     PyObject *module = PyModule_Create(&definition);
     bool is_made = module && take_weekdays() && take_datetime() && make_iso_calendar_type(module)
         && make_date_type(module) && make_duration_type(module) && make_date_time_type(module)
-        && make_schedule_types(module) && make_business_type(module)
+        && make_schedule_types(module) && make_rule_types(module) && make_business_type(module)
         && PyModule_AddStringConstant(module, "__version__", CALENDAR_VERSION) == 0;
     if (!is_made) {
         Py_CLEAR(module);

@@ -239,11 +239,13 @@ bool take_moment(PyObject *it, calendar_date_time *moment);
 /* The last date-time of the calendar. */
 calendar_date_time last_moment(void);
 
-/* ---- schedules and open days (schedule.c, business.c) */
+/* ---- schedules, rules and open days (schedule.c, rule.c, business.c) */
 
 bool make_schedule_types(PyObject *module);
+bool make_rule_types(PyObject *module);
 bool make_business_type(PyObject *module);
 PyObject *day_count(PyObject *module, PyObject *const *arguments, Py_ssize_t count);
+PyObject *easter(PyObject *module, PyObject *it);
 
 /* ---- ISO year, week and weekday as a tuple (iso_calendar.c) */
 

@@ -10,7 +10,7 @@ import threading
 import unittest
 from fractions import Fraction
 
-from proved_calendar import BusinessCalendar, Date, DateTime, Schedule, TextError, Weekday, day_count
+from proved_calendar import BusinessCalendar, Date, DateTime, Duration, Rule, RuleSet, Schedule, TextError, Weekday, day_count, easter
 
 MON, TUE, WED, THU, FRI, SAT, SUN = Weekday
 GOOD_FRIDAY, EASTER_MONDAY = Date(2024, 3, 29), Date(2024, 4, 1)
@@ -155,6 +155,171 @@ class Schedules(unittest.TestCase):
         self.assertEqual(len(set(found)), 7 * 1440)
 
 
+JANUARY = Date(2024, 1, 1)
+FRIDAYS = Rule("FREQ=MONTHLY;BYDAY=-1FR", JANUARY)
+TIMED = Rule("FREQ=WEEKLY;COUNT=5", DateTime(2024, 1, 1, 9, 30, nanosecond=5))
+
+
+class Rules(unittest.TestCase):
+    def test_instances(self):
+        for text, start, days in [
+            ("FREQ=MONTHLY;BYDAY=-1FR", JANUARY, [Date(2024, 1, 26), Date(2024, 2, 23), Date(2024, 3, 29)]),
+            ("FREQ=YEARLY", Date(2024, 2, 29), [Date(2024, 2, 29), Date(2028, 2, 29), Date(2032, 2, 29)]),
+            ("FREQ=MONTHLY", Date(2024, 1, 31), [Date(2024, 1, 31), Date(2024, 3, 31), Date(2024, 5, 31)]),
+            ("FREQ=DAILY;INTERVAL=10;UNTIL=20240121", JANUARY, [JANUARY, Date(2024, 1, 11), Date(2024, 1, 21)]),
+            ("FREQ=DAILY;COUNT=3", JANUARY, [JANUARY, Date(2024, 1, 2), Date(2024, 1, 3)]),
+        ]:
+            rule = Rule(text=text, start=start)
+            self.assertEqual(rule[:3], days)
+            self.assertEqual([rule[0], rule[1], rule[2]], days)
+            self.assertTrue(all(it in rule and it.to_date() in rule for it in days))
+            self.assertEqual((rule.text, str(rule), rule.start), (text, text, start))
+        self.assertEqual([*Rule("FREQ=DAILY;COUNT=0", JANUARY)], [])
+
+    def test_times(self):
+        weeks = [DateTime(2024, 1, 1 + 7 * it, 9, 30, nanosecond=5) for it in range(5)]
+        self.assertEqual([*TIMED], weeks)
+        self.assertEqual((TIMED.start, TIMED.count(), TIMED[-1], TIMED[1:3]), (weeks[0], 5, weeks[-1], weeks[1:3]))
+        for more, later in ((-1, 1), (0, 2), (1, 2)):
+            at = weeks[1].replace(nanosecond=5 + more)
+            self.assertEqual(TIMED.after(at), weeks[later])
+            self.assertEqual(TIMED.after(at, inc=True), weeks[1 + (more > 0)])
+            self.assertEqual(TIMED.before(at), weeks[more > 0])
+            self.assertEqual(TIMED.before(at, True), weeks[more >= 0])
+            self.assertIs(at in TIMED, more == 0)
+        for seconds, before, after in ((-1, 0, 1), (1, 1, 2)):
+            at = weeks[1] + Duration(seconds=seconds)
+            self.assertEqual((TIMED.before(at), TIMED.after(at)), (weeks[before], weeks[after]))
+        self.assertEqual(TIMED.between(weeks[0], weeks[4]), weeks[1:4])
+        self.assertEqual(TIMED.between(after=weeks[0], before=weeks[4], inc=True), weeks)
+        self.assertFalse(Date(2024, 1, 1) in TIMED or datetime.date(2024, 1, 1) in TIMED or 1 in TIMED or datetime.datetime(2024, 1, 1, 9, 30) in TIMED)
+        self.assertFalse(DateTime(2024, 1, 26) in FRIDAYS or datetime.datetime(2024, 1, 26) in FRIDAYS or "2024-01-26" in FRIDAYS)
+        theirs = Rule("FREQ=DAILY", datetime.datetime(2024, 1, 1, 9))
+        self.assertEqual(theirs.after(datetime.datetime(2024, 1, 1, 9)), datetime.datetime(2024, 1, 2, 9))
+        self.assertIn(datetime.datetime(2024, 1, 5, 9), theirs)
+
+    def test_after_and_before(self):
+        first, second = Date(2024, 1, 26), Date(2024, 2, 23)
+        self.assertEqual((FRIDAYS.after(first), FRIDAYS.after(first, inc=True), FRIDAYS.after(first - 1)), (second, first, first))
+        self.assertEqual((FRIDAYS.before(second), FRIDAYS.before(second, True), FRIDAYS.before(second + 1)), (first, second, second))
+        self.assertEqual(FRIDAYS.after(Date.min), first)
+        self.assertIsNone(FRIDAYS.before(first))
+        self.assertIsNone(FRIDAYS.before(Date.min, inc=True))
+        self.assertIsNone(FRIDAYS.after(Date.max, inc=False))
+        self.assertEqual(Rule("FREQ=DAILY", JANUARY).before(Date.max, inc=True), Date.max)
+        self.assertEqual(Rule("FREQ=DAILY", JANUARY).after(Date.max, inc=True), Date.max)
+        self.assertIsNone(TIMED.after(DateTime.max))
+        self.assertIsNone(TIMED.before(DateTime.min, True))
+        self.assertEqual(FRIDAYS.between(JANUARY, Date(2024, 3, 29)), [first, second])
+        self.assertEqual(FRIDAYS.between(first.to_date(), second.to_date(), True), [first, second])
+        self.assertEqual(FRIDAYS.between(second, first, True), [])
+
+    def test_xafter(self):
+        every = Rule("FREQ=DAILY;COUNT=300", JANUARY)
+        self.assertEqual([*every.xafter(Date(2024, 1, 5), 2)], [Date(2024, 1, 6), Date(2024, 1, 7)])
+        self.assertEqual([*every.xafter(dt=Date(2024, 1, 5), count=1, inc=True)], [Date(2024, 1, 5)])
+        self.assertEqual(len([*every.xafter(JANUARY)]), 299)
+        for count in (0, -1):
+            self.assertEqual([*every.xafter(JANUARY, count)], [])
+
+    def test_sequence(self):
+        days = [JANUARY + it for it in range(3000)]
+        self.assertEqual([*Rule("FREQ=DAILY;COUNT=3000", JANUARY)], days)
+        rule = Rule(f"FREQ=DAILY;UNTIL={days[-1]:%Y%m%d}", JANUARY)
+        self.assertEqual([*rule], days)
+        self.assertEqual(rule.count(), 3000)
+        for place in (0, 1, 2, 5, 13, 14, 61, 62, 63, 64, 1023, 1024, 1025, 2047, 2048, 2999, -1, -2, -1024, -3000):
+            self.assertEqual(rule[place], days[place], place)
+        for place in (3000, -3001, 2**63, -(2**63), 2**64, -(2**64)):
+            self.assertRaises(IndexError, lambda: rule[place])
+        for part in (slice(3), slice(2, 9), slice(2, 40, 7), slice(-3, None), slice(None, None, -1), slice(2990, 5000), slice(None)):
+            self.assertEqual(rule[part], days[part], part)
+        self.assertRaises(TypeError, lambda: rule["1"])
+        self.assertRaises(TypeError, len, rule)
+        instances = iter(rule)
+        self.assertIs(iter(instances), instances)
+        self.assertRaises(TypeError, type(instances))
+        # (up to the end of the calendar)
+        self.assertEqual(Rule("FREQ=YEARLY", Date(262140, 5, 1)).count(), 3)
+        self.assertEqual(Rule("FREQ=DAILY", Date.max)[-1], Date.max)
+
+    def test_errors(self):
+        for text, wrong in [
+            ("FREQ=DAILY;COUNT=x", None), ("", None), ("FREQ=HOURLY", None), ("FREQ=DAILY;BYHOUR=9", None), ("FREQ=MONTHLY;BYDAY=XX", None),
+            ("FREQ=DAILY;UNTIL=20240230", None), ("DTSTART:20240101", None), ("FREQ=DAILY;\u00fc=1", None), ("FREQ=WEEKLY;BYMONTHDAY=1", None),
+        ]:
+            with self.assertRaises(TextError, msg=text) as caught:
+                Rule(text, JANUARY)
+            self.assertTrue(0 <= caught.exception.start <= caught.exception.end <= len(text))
+            self.assertTrue(str(caught.exception))
+        with self.assertRaises(TextError) as caught:
+            Rule("FREQ=DAILY;COUNT=x", JANUARY)
+        self.assertIn("x", caught.exception.text[caught.exception.start:caught.exception.end])
+        aware = DateTime(2024, 1, 1, tzinfo=datetime.timezone.utc)
+        self.assertRaises(ValueError, Rule, "FREQ=DAILY", aware)
+        self.assertRaises(ValueError, TIMED.after, aware)
+        for call in (
+            lambda: Rule("FREQ=DAILY"), lambda: Rule(1, JANUARY), lambda: Rule("FREQ=DAILY", "2024-01-01"), lambda: FRIDAYS.after(1),
+            lambda: FRIDAYS.after(DateTime(2024, 1, 1)), lambda: TIMED.after(JANUARY), lambda: FRIDAYS.before(), lambda: FRIDAYS.between(JANUARY),
+            lambda: FRIDAYS.xafter(JANUARY, 1.0), lambda: TIMED.before(datetime.date(2024, 1, 1)),
+        ):
+            self.assertRaises(TypeError, call)
+
+    def test_values(self):
+        same, other, timed = Rule(FRIDAYS.text, JANUARY.to_date()), Rule(FRIDAYS.text, JANUARY + 1), Rule(FRIDAYS.text, DateTime(JANUARY))
+        self.assertEqual((FRIDAYS, hash(FRIDAYS)), (same, hash(same)))
+        self.assertEqual(len({FRIDAYS, same, other, timed, Rule("FREQ=DAILY", JANUARY), Rule(FRIDAYS.text, DateTime(JANUARY, 1))}), 5)
+        self.assertFalse(FRIDAYS != same or FRIDAYS == other or FRIDAYS == timed or FRIDAYS == FRIDAYS.text)
+        self.assertRaises(TypeError, lambda: FRIDAYS < other)
+        self.assertEqual(repr(FRIDAYS), "Rule('FREQ=MONTHLY;BYDAY=-1FR', Date(2024, 1, 1))")
+        for it in (FRIDAYS, TIMED):
+            for again in (eval(repr(it)), copy.copy(it), copy.deepcopy(it), pickle.loads(pickle.dumps(it))):
+                self.assertEqual(again, it)
+        self.assertRaises(AttributeError, setattr, FRIDAYS, "text", "")
+
+
+class RuleSets(unittest.TestCase):
+    def test_instances(self):
+        daily, mondays = Rule("FREQ=DAILY;COUNT=20", JANUARY), Rule("FREQ=WEEKLY;BYDAY=MO", JANUARY)
+        extra = Date(2024, 3, 1)
+        made = RuleSet([daily, mondays], [extra, Date(2024, 1, 5), extra], [Rule("FREQ=WEEKLY;BYDAY=WE", JANUARY)], [Date(2024, 1, 2), Date(2024, 1, 8)])
+        wanted = [JANUARY + it for it in range(20)] + [Date(2024, 1, 1) + 7 * it for it in range(3, 10)] + [extra]
+        wanted = sorted({it for it in wanted if it.isoweekday() != WED and it not in (Date(2024, 1, 2), Date(2024, 1, 8))})
+        self.assertEqual(made[: len(wanted)], wanted)
+        self.assertEqual([made[it] for it in range(5)], wanted[:5])
+        self.assertEqual(made.between(JANUARY, Date(2024, 3, 4)), wanted[1:-1])
+        self.assertEqual(made.between(JANUARY, Date(2024, 3, 4), inc=True), wanted)
+        for place, it in enumerate(wanted[:-1]):
+            self.assertEqual(made.after(it), wanted[place + 1])
+            self.assertEqual(made.after(it, inc=True), it)
+            self.assertEqual(made.before(wanted[place + 1]), it)
+            self.assertEqual(made.before(it, True), it)
+            self.assertIn(it, made)
+        for it in (Date(2024, 1, 3), Date(2024, 1, 8), Date(2024, 3, 2)):
+            self.assertNotIn(it, made)
+        self.assertIsNone(made.before(JANUARY))
+        self.assertEqual([*made.xafter(JANUARY, 2)], wanted[1:3])
+        few = RuleSet([daily], except_dates=[it.to_date() for it in daily][:15])
+        self.assertEqual((few.count(), few[-1], few[-2:], few.before(Date(2024, 1, 16))), (5, Date(2024, 1, 20), [*few][-2:], None))
+        self.assertRaises(IndexError, lambda: few[5])
+        self.assertEqual([*RuleSet(dates=[extra, JANUARY.to_date()])], [JANUARY, extra])
+        self.assertEqual([*RuleSet()], [])
+
+    def test_values(self):
+        made = RuleSet([FRIDAYS], [JANUARY], except_dates=[datetime.date(2024, 1, 26)])
+        self.assertEqual(repr(made), f"RuleSet(rules=[{FRIDAYS!r}], dates=[Date(2024, 1, 1)], except_dates=[Date(2024, 1, 26)])")
+        for again in (eval(repr(made)), copy.copy(made), copy.deepcopy(made), pickle.loads(pickle.dumps(made))):
+            self.assertEqual((again, hash(again)), (made, hash(made)))
+        self.assertFalse(made == RuleSet([FRIDAYS]) or made != eval(repr(made)) or made == 1)
+        self.assertRaises(AttributeError, setattr, made, "dates", ())
+        self.assertRaises(AttributeError, delattr, made, "dates")
+        timed = RuleSet([TIMED], [datetime.datetime(2024, 1, 1)])
+        self.assertEqual(timed[0], DateTime(2024, 1, 1))
+        for wrong in (lambda: RuleSet([FRIDAYS, TIMED]), lambda: RuleSet([FRIDAYS], [DateTime(2024, 1, 1)]), lambda: RuleSet(["FREQ=DAILY"]),
+                      lambda: RuleSet([], ["2024-01-01"]), lambda: RuleSet(FRIDAYS)):
+            self.assertRaises(TypeError, wrong)
+
+
 class OpenDays(unittest.TestCase):
     def test_is_open(self):
         for day, wanted in [(Date(2024, 3, 28), True), (GOOD_FRIDAY, False), (Date(2024, 3, 30), False), (Date(2024, 3, 31), False),
@@ -218,6 +383,30 @@ class OpenDays(unittest.TestCase):
         self.assertRaises(ValueError, BusinessCalendar, [], [8])
         self.assertRaises(TypeError, BusinessCalendar, [], 6)
 
+    def test_known(self):
+        for name, year, days in [
+            ("target", 2024, [Date(2024, 1, 1), GOOD_FRIDAY, EASTER_MONDAY, Date(2024, 5, 1), Date(2024, 12, 25), Date(2024, 12, 26)]),
+            ("england_and_wales", 2023, [Date(2023, 1, 2), Date(2023, 4, 7), Date(2023, 4, 10), Date(2023, 5, 1), Date(2023, 5, 8),
+                                         Date(2023, 5, 29), Date(2023, 8, 28), Date(2023, 12, 25), Date(2023, 12, 26)]),
+        ]:
+            self.assertEqual(list(BusinessCalendar.known(name, year, year).holidays), days)
+        # (New Year's Day of 2022 was kept on the last day of 2021)
+        federal = BusinessCalendar.known(name="us_federal", first_year=2021, last_year=2021)
+        self.assertEqual((federal.holidays[-1], federal.weekend), (Date(2021, 12, 31), (6, 7)))
+        self.assertEqual(BusinessCalendar.known("us_federal", 2021, 2021, [7]).weekend, (7,))
+        self.assertEqual(BusinessCalendar.known("target", 262142, 262142).holidays[0].year, 262142)
+        for years in ((2024, 2023), (262143, 262143), (-262144, 0), (0, 9999), (2**40, 2**40)):
+            self.assertRaises(ValueError, BusinessCalendar.known, "target", *years)
+        self.assertRaises(ValueError, BusinessCalendar.known, "mars", 2024, 2024)
+        self.assertRaises(TypeError, BusinessCalendar.known, "target", 2024)
+
+    def test_easter(self):
+        self.assertEqual([easter(it) for it in (1818, 1943, 2024, 2038)],
+                         [Date(1818, 3, 22), Date(1943, 4, 25), Date(2024, 3, 31), Date(2038, 4, 25)])
+        for wrong in (262143, -262144, 2**40):
+            self.assertRaises(ValueError, easter, wrong)
+        self.assertRaises(TypeError, easter, "2024")
+
     def test_arguments(self):
         for call in (
             lambda: EASTER.is_open("2024-03-29"), lambda: EASTER.is_open(DateTime(2024, 3, 29)), lambda: EASTER.add(GOOD_FRIDAY),
@@ -272,7 +461,9 @@ class Memory(unittest.TestCase):
             pickle.loads(pickle.dumps((daily, EASTER)))
             repr((daily, EASTER, EASTER.holidays, EASTER.weekend))
             EASTER.add(GOOD_FRIDAY, 3), EASTER.roll(GOOD_FRIDAY, "following"), day_count(GOOD_FRIDAY, EASTER_MONDAY, "actual_360")
-            for wrong in (lambda: Schedule("x"), lambda: BusinessCalendar([1]), lambda: EASTER.roll(GOOD_FRIDAY, "x"),
+            [*TIMED], TIMED[-1], TIMED[1:2], next(iter(FRIDAYS)), FRIDAYS.between(JANUARY, Date(2025, 1, 1)), FRIDAYS.after(JANUARY)
+            pickle.loads(pickle.dumps((TIMED, FRIDAYS))), hash(TIMED), repr(TIMED), TIMED.before(DateTime.max), TIMED.start, TIMED.text
+            for wrong in (lambda: Rule("x", JANUARY), lambda: FRIDAYS.after(1), lambda: TIMED[9], lambda: TIMED["1"], lambda: Schedule("x"), lambda: BusinessCalendar([1]), lambda: EASTER.roll(GOOD_FRIDAY, "x"),
                           lambda: EASTER.add(GOOD_FRIDAY, 10**10), lambda: BusinessCalendar([], [9])):
                 try:
                     wrong()

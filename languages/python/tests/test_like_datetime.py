@@ -19,7 +19,7 @@ except ImportError:
     pandas = None
 
 import proved_calendar
-from proved_calendar import BusinessCalendar, Date, DateTime, Duration, Instant, Schedule, Time
+from proved_calendar import BusinessCalendar, Date, DateTime, Duration, Instant, Rule, RuleSet, Schedule, Time
 
 COUNT = 500
 MICROSECOND = timedelta(microseconds=1)
@@ -402,7 +402,7 @@ class Examples(unittest.TestCase):
         """Each example in a docstring gives what stands there."""
         names = {name: getattr(proved_calendar, name) for name in proved_calendar.__all__}
         members = {
-            f"{kind.__name__}.{name}": it.__doc__ for kind in (Date, DateTime, Duration, Time, Instant, Schedule, BusinessCalendar) for name, it in
+            f"{kind.__name__}.{name}": it.__doc__ for kind in (Date, DateTime, Duration, Time, Instant, Schedule, Rule, RuleSet, BusinessCalendar) for name, it in
             ((name, getattr(kind, name)) for name in dir(kind)) if name not in ("__doc__", "__class__")
         }
         documented = {**members, **{name: it.__doc__ for name, it in names.items()}}

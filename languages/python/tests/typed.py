@@ -3,7 +3,8 @@ import datetime
 from fractions import Fraction
 
 from proved_calendar import (
-    BusinessCalendar, Date, DateTime, Duration, Instant, Schedule, TextError, Time, Weekday, day_count, days_in_month, days_until, is_leap_year,
+    BusinessCalendar, Date, DateTime, Duration, Instant, Rule, RuleSet, Schedule, TextError, Time, Weekday, day_count, days_in_month, days_until, easter,
+    is_leap_year,
 )
 
 
@@ -47,9 +48,17 @@ try:
     Schedule("0 25 * * *")
 except TextError as error:
     wrong: str = error.text[error.start:error.end]
+fridays: Rule[Date] = Rule("FREQ=WEEKLY;BYDAY=FR", day)
+meetings: Rule[DateTime] = Rule("FREQ=WEEKLY;COUNT=3", moment)
+without: RuleSet[Date] = RuleSet([fridays], [day, theirs], except_dates=[day + 7])
+third: Date = fridays[2]
+found: DateTime | None = meetings.after(moment) or meetings.before(standard, inc=True)
+several: list[Date] = [*fridays[:3], *without[:2], *without.between(day, day + 30), *fridays.xafter(day, 2)]
+is_one: bool = day in fridays or day in without or meetings.count() == 3
 open_days: BusinessCalendar = BusinessCalendar([day, theirs], weekend=(Weekday.FRIDAY, 6))
 reached: Date = open_days.roll(open_days.add(theirs, 3), "modified_following")
 are_open: int = open_days.is_open(day) + open_days.between(day, theirs) + len(open_days.holidays) + sum(open_days.weekend)
+euro: BusinessCalendar = BusinessCalendar.known("target", 2024, easter(2025).year)
 part: Fraction = day_count(day, theirs, "thirty_360")
 
 instant: Instant = Instant.fromisoformat("2024-02-29T12:00:00Z") + longer - datetime.timedelta(1)

@@ -20,7 +20,8 @@
 //! Each function panics if its slices have different lengths, as `copy_from_slice` does.
 
 use crate::calls::*;
-use crate::{Date, WeekdaySet};
+use crate::layer_calls::*;
+use crate::{BusinessCalendar, Date, Roll, WeekdaySet};
 
 /// A number that no date has.
 ///
@@ -382,5 +383,177 @@ pub fn read_dates(texts: &[[u8; 10]], dates: &mut [i32]) {
             dates.as_mut_ptr(),
             dates.len(),
         )
+    });
+}
+
+/// Writes whether each date is open, and `false` for no date.
+///
+/// ```
+/// use proved_calendar::{columns, BusinessCalendar, Date, Weekday, WeekdaySet};
+/// let calendar = BusinessCalendar::new(WeekdaySet::from([Weekday::Thu]), &[]).unwrap();
+/// let mut marks = [true; 2];
+/// columns::is_open_day(&calendar, &[Date::UNIX_EPOCH, Date::MAX], &mut marks);
+/// assert_eq!(marks, [false, true]);
+/// ```
+#[track_caller]
+pub fn is_open_day(
+    calendar: &BusinessCalendar<'_>,
+    dates: &(impl DayNumbers + ?Sized),
+    marks: &mut [bool],
+) {
+    let (weekend, holidays) = parts(calendar);
+    let (dates, to) = (dates.day_numbers(), marks.as_mut_ptr().cast());
+    // SAFETY: so many elements lie in each slice, and the one that is written overlaps no other. It gets 0 and 1 alone.
+    check(unsafe {
+        calendar_column_is_open_day(
+            weekend,
+            holidays.as_ptr(),
+            holidays.len(),
+            dates.as_ptr(),
+            dates.len(),
+            to,
+            marks.len(),
+        )
+    });
+}
+
+/// Writes the `n`-th open day after each date, as [`BusinessCalendar::add_open_days`] finds it.
+///
+/// ```
+/// use proved_calendar::{columns, BusinessCalendar, Date, WeekdaySet};
+/// let calendar = BusinessCalendar::new(WeekdaySet::default(), &[]).unwrap();
+/// let mut moved = [0; 2];
+/// columns::add_open_days(&calendar, &[Date::UNIX_EPOCH, Date::MAX], 2, &mut moved);
+/// assert_eq!(moved, [719_165, columns::NO_DATE]);
+/// ```
+#[track_caller]
+pub fn add_open_days(
+    calendar: &BusinessCalendar<'_>,
+    dates: &(impl DayNumbers + ?Sized),
+    n: i64,
+    moved: &mut [i32],
+) {
+    let (weekend, holidays) = parts(calendar);
+    let dates = dates.day_numbers();
+    // SAFETY: so many elements lie in each slice, and the one that is written overlaps no other.
+    check(unsafe {
+        calendar_column_add_open_days(
+            weekend,
+            holidays.as_ptr(),
+            holidays.len(),
+            dates.as_ptr(),
+            dates.len(),
+            n,
+            moved.as_mut_ptr(),
+            moved.len(),
+        )
+    });
+}
+
+/// Writes how many days are open from each date on and before the other at its place.
+///
+/// ```
+/// use proved_calendar::{columns, BusinessCalendar, Date, WeekdaySet};
+/// let calendar = BusinessCalendar::new(WeekdaySet::default(), &[]).unwrap();
+/// let mut days = [0; 1];
+/// columns::open_days_between(&calendar, &[Date::UNIX_EPOCH], &[719_170], &mut days);
+/// assert_eq!(days, [7]);
+/// ```
+#[track_caller]
+pub fn open_days_between(
+    calendar: &BusinessCalendar<'_>,
+    from: &(impl DayNumbers + ?Sized),
+    to: &(impl DayNumbers + ?Sized),
+    days: &mut [i64],
+) {
+    let (weekend, holidays) = parts(calendar);
+    let (from, to) = (from.day_numbers(), to.day_numbers());
+    // SAFETY: so many elements lie in each slice, and the one that is written overlaps no other.
+    check(unsafe {
+        calendar_column_open_days_between(
+            weekend,
+            holidays.as_ptr(),
+            holidays.len(),
+            from.as_ptr(),
+            from.len(),
+            to.as_ptr(),
+            to.len(),
+            days.as_mut_ptr(),
+            days.len(),
+        )
+    });
+}
+
+/// Writes the date that each date goes to by a roll.
+///
+/// ```
+/// use proved_calendar::{columns, BusinessCalendar, Date, Roll, Weekday, WeekdaySet};
+/// let calendar = BusinessCalendar::new(WeekdaySet::from([Weekday::Thu]), &[]).unwrap();
+/// let mut rolled = [0; 1];
+/// columns::roll(&calendar, &[Date::UNIX_EPOCH], Roll::Following, &mut rolled);
+/// assert_eq!(rolled, [719_164]);
+/// ```
+#[track_caller]
+pub fn roll(
+    calendar: &BusinessCalendar<'_>,
+    dates: &(impl DayNumbers + ?Sized),
+    roll: Roll,
+    rolled: &mut [i32],
+) {
+    let (weekend, holidays) = parts(calendar);
+    let dates = dates.day_numbers();
+    // SAFETY: so many elements lie in each slice, and the one that is written overlaps no other.
+    check(unsafe {
+        calendar_column_roll(
+            weekend,
+            holidays.as_ptr(),
+            holidays.len(),
+            dates.as_ptr(),
+            dates.len(),
+            roll as u32,
+            rolled.as_mut_ptr(),
+            rolled.len(),
+        )
+    });
+}
+
+/// The weekend and the holidays of a calendar as the library takes them.
+fn parts<'a>(calendar: &BusinessCalendar<'a>) -> (u8, &'a [i32]) {
+    (
+        calendar.weekend().members,
+        calendar.holidays().day_numbers(),
+    )
+}
+
+/// Writes the date of each 32-bit number of days since 1 January 1970, as Arrow's date32 has them.
+///
+/// ```
+/// use proved_calendar::columns;
+/// let mut dates = [0; 2];
+/// columns::from_date32(&[0, i32::MAX], &mut dates);
+/// assert_eq!(dates, [719_163, columns::NO_DATE]);
+/// ```
+#[track_caller]
+pub fn from_date32(days: &[i32], dates: &mut [i32]) {
+    // SAFETY: so many elements lie in each slice, and the one that is written overlaps no other.
+    check(unsafe {
+        calendar_column_from_date32(days.as_ptr(), days.len(), dates.as_mut_ptr(), dates.len())
+    });
+}
+
+/// Writes the days from 1 January 1970 to each date, as Arrow's date32 has them; [`NO_DATE`] for no date.
+///
+/// ```
+/// use proved_calendar::{columns, Date};
+/// let mut days = [7; 1];
+/// columns::to_date32(&[Date::UNIX_EPOCH], &mut days);
+/// assert_eq!(days, [0]);
+/// ```
+#[track_caller]
+pub fn to_date32(dates: &(impl DayNumbers + ?Sized), days: &mut [i32]) {
+    let dates = dates.day_numbers();
+    // SAFETY: so many elements lie in each slice, and the one that is written overlaps no other.
+    check(unsafe {
+        calendar_column_to_date32(dates.as_ptr(), dates.len(), days.as_mut_ptr(), days.len())
     });
 }

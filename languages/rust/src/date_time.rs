@@ -37,7 +37,7 @@ pub struct DateTime {
 
 impl DateTime {
     /// The date-time that a function of the library returns.
-    fn found(moment: Moment) -> Option<DateTime> {
+    pub(crate) fn found(moment: Moment) -> Option<DateTime> {
         let after = NonZeroU32::new(moment.nanos.wrapping_sub(NO_NANOS))?;
         Some(DateTime {
             seconds: moment.seconds,
@@ -46,7 +46,7 @@ impl DateTime {
     }
 
     /// The date-time as the library takes it.
-    const fn moment(self) -> Moment {
+    pub(crate) const fn moment(self) -> Moment {
         Moment {
             seconds: self.seconds,
             nanos: self.nanos(),

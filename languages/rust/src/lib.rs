@@ -7,6 +7,7 @@ extern crate alloc;
 #[cfg(feature = "std")]
 extern crate std;
 
+mod business;
 mod calls;
 pub mod chrono;
 pub mod columns;
@@ -14,7 +15,12 @@ mod date;
 mod date_range;
 mod date_time;
 mod duration;
+mod layer_calls;
 mod parse_error;
+#[cfg(feature = "alloc")]
+mod rule;
+mod schedule;
+mod text_error;
 mod weekday;
 mod weekday_set;
 #[cfg(feature = "chrono")]
@@ -27,6 +33,9 @@ mod with_time;
 #[cfg(any(feature = "chrono", feature = "time"))]
 mod conversion_error;
 
+pub use business::{
+    easter, BusinessCalendar, DayCount, Fraction, HolidaysError, KnownCalendar, Roll,
+};
 #[cfg(any(feature = "chrono", feature = "time"))]
 pub use conversion_error::ConversionError;
 pub use date::{days_in_month, is_leap_year, Date};
@@ -34,5 +43,9 @@ pub use date_range::DateRange;
 pub use date_time::DateTime;
 pub use duration::Duration;
 pub use parse_error::ParseError;
+#[cfg(feature = "alloc")]
+pub use rule::{Rule, RuleDays};
+pub use schedule::{Schedule, ScheduleTimes};
+pub use text_error::TextError;
 pub use weekday::Weekday;
 pub use weekday_set::{WeekdaySet, Weekdays};

@@ -15,12 +15,6 @@ typedef struct {
     size_t byte;
 } Fault;
 
-/* The bytes of a text. */
-typedef struct {
-    const char *bytes;
-    size_t length;
-} Text;
-
 static bool is_digit(Text text, size_t at)
 {
     return at < text.length && text.bytes[at] >= '0' && text.bytes[at] <= '9';
@@ -125,8 +119,15 @@ static char *refusal(const char *function, Text text, const char *what, Fault fa
     return message;
 }
 
-/* The bytes of a value, which has to be a text. */
-static bool read_text(const char *function, sqlite3_value *value, const char *what, Text *text, char **message)
+char *refusal_of_part(const char *function, Text text, const char *what, size_t from, size_t end)
+{
+    Text part = {text.bytes + from, end - from};
+    Fault fault = fault_of_day(part);
+    fault.byte += from;
+    return refusal(function, text, what, fault);
+}
+
+bool read_text(const char *function, sqlite3_value *value, const char *what, Text *text, char **message)
 {
     if (sqlite3_value_type(value) != SQLITE_TEXT) {
         const char *kind = sqlite3_value_type(value) == SQLITE_BLOB ? "blob" : "number";
@@ -139,7 +140,7 @@ static bool read_text(const char *function, sqlite3_value *value, const char *wh
     return text->bytes != NULL;
 }
 
-static int32_t day_of(Text text)
+int32_t day_of(Text text)
 {
     return calendar_read_date((const uint8_t *)text.bytes, text.length);
 }
@@ -200,6 +201,22 @@ bool read_schedule(const char *function, sqlite3_value *value, calendar_schedule
         *message = sqlite3_mprintf("%s: %!." MOST_NAMED "Q is no schedule: %.*s", function, text.bytes, (int)length, (char *)words);
     }
     return is_read;
+}
+
+bool read_word(const char *function, sqlite3_value *value, const char *what, const char *const *words, uint32_t *number, char **message)
+{
+    Text text;
+    if (!read_text(function, value, what, &text, message)) {
+        return false;
+    }
+    for (*number = 0; words[*number]; ++*number) {
+        /* (a byte of zero ends the comparison, and the length tells such texts apart) */
+        if (sqlite3_stricmp(words[*number], text.bytes) == 0 && words[*number][text.length] == 0) {
+            return true;
+        }
+    }
+    *message = sqlite3_mprintf("%s: %!.80Q is no %s, such as %s", function, text.bytes, what, words[1]);
+    return false;
 }
 
 bool read_number(const char *function, sqlite3_value *value, sqlite3_int64 *number, char **message)

@@ -109,10 +109,23 @@ static void years_between(sqlite3_context *context, int count, sqlite3_value **v
     }
 }
 
+static void easter(sqlite3_context *context, int count, sqlite3_value **values)
+{
+    sqlite3_int64 year;
+    char *message;
+    (void)count;
+    if (read_number(name_of(context), values[0], &year, &message)) {
+        answer_day(context, year == (int32_t)year ? calendar_easter((int32_t)year) : CALENDAR_NONE);
+    } else {
+        answer_refusal(context, message);
+    }
+}
+
 static const Scalar SCALARS[] = {
     {"is_date", 1, is_date}, {"weekday", 1, weekday}, {"iso_week", 1, iso_week}, {"iso_year", 1, iso_year},
     {"day_of_year", 1, day_of_year}, {"days_in_month", 1, days_in_month}, {"add_days", 2, add_days},
     {"add_months", 2, add_months}, {"days_between", 2, days_between}, {"years_between", 2, years_between},
+    {"easter", 1, easter},
 };
 
 int add_dates(sqlite3 *db)

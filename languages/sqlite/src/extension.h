@@ -16,6 +16,21 @@ enum { DATE_ROOM = 13, MOMENT_ROOM = 32 };
 
 /* ---- arguments.c: arguments that are read */
 
+/* The bytes of a text. */
+typedef struct {
+    const char *bytes;
+    size_t length;
+} Text;
+
+/* Takes the bytes of a value, which has to be a text. */
+bool read_text(const char *function, sqlite3_value *value, const char *what, Text *text, char **message);
+
+/* The day that a text writes, or CALENDAR_NONE. */
+int32_t day_of(Text text);
+
+/* The message that a text is not what it should be, since one part of it is no date. */
+char *refusal_of_part(const char *function, Text text, const char *what, size_t from, size_t end);
+
 /* Reads the text of a date. */
 bool read_day(const char *function, sqlite3_value *value, int32_t *day, char **message);
 
@@ -25,11 +40,30 @@ bool read_moment(const char *function, sqlite3_value *value, calendar_date_time 
 /* Reads a schedule as cron writes it. */
 bool read_schedule(const char *function, sqlite3_value *value, calendar_schedule *schedule, char **message);
 
+/* Reads a word of a list that ends with null, in any case, as its number. */
+bool read_word(const char *function, sqlite3_value *value, const char *what, const char *const *words, uint32_t *number, char **message);
+
 /* Reads a whole number. */
 bool read_number(const char *function, sqlite3_value *value, sqlite3_int64 *number, char **message);
 
 /* Whether a value is the text of a date. */
 bool is_day(sqlite3_value *value);
+
+/* ---- calendars.c: weekends and holidays */
+
+/* Saturday and Sunday. */
+#define PLAIN_WEEKEND 96
+
+/* A weekend, and holidays that rise strictly, none of them on the weekend. */
+typedef struct {
+    uint8_t weekend;
+    size_t count;
+    int32_t holidays[];
+} OpenDays;
+
+/* Reads the dates of a text as holidays, and the digits of another as weekdays; Saturday and Sunday if there is no other. The answer is
+ * memory of SQLite, or null. */
+OpenDays *read_calendar(const char *function, sqlite3_value *holidays, sqlite3_value *weekend, char **message);
 
 /* ---- answers.c: answers that are written */
 
@@ -59,8 +93,11 @@ const char *name_of(sqlite3_context *context);
 
 int add_dates(sqlite3 *db);
 int add_schedules(sqlite3 *db);
+int add_open_day_functions(sqlite3 *db);
 int add_days_of(sqlite3 *db);
 int add_due_between(sqlite3 *db);
+int add_rule_dates(sqlite3 *db);
+int add_holidays_of(sqlite3 *db);
 
 /* ---- tables.c: functions whose answer is a table */
 
@@ -76,10 +113,17 @@ typedef struct {
     /* days_of */
     int32_t day, last;
     sqlite3_int64 step;
-    /* due_between: the moments that are found, and the place of the present one */
+    /* what is found, and the place of the present row in it */
+    size_t count, at;
+    /* due_between */
     calendar_schedule schedule;
     calendar_date_time until, found[CHUNK];
-    size_t count, at;
+    /* rule_dates: the text of the rule belongs to an argument */
+    Text rule;
+    int32_t start, days[CHUNK];
+    /* holidays_of */
+    uint32_t which;
+    sqlite3_int64 year, last_year;
 } Cursor;
 
 /* A function whose answer is a table of one column. */

@@ -42,7 +42,8 @@ int sqlite3_provedcalendar_init(sqlite3 *db, char **message, const sqlite3_api_r
         *message = sqlite3_mprintf("proved_calendar needs SQLite 3.31 or later, and this is %s", sqlite3_libversion());
         return SQLITE_ERROR;
     }
-    int (*const parts[])(sqlite3 *) = {add_dates, add_schedules, add_days_of, add_due_between};
+    int (*const parts[])(sqlite3 *) = {add_dates, add_schedules, add_open_day_functions, add_days_of, add_due_between, add_rule_dates,
+                                      add_holidays_of};
     int code = SQLITE_OK;
     for (size_t i = 0; i < sizeof parts / sizeof *parts && code == SQLITE_OK; i++) {
         code = parts[i](db);

@@ -5,9 +5,14 @@ ends of the calendar.
 
 The last line is `N passed, M failed`.
 """
+import datetime
 import sqlite3
 import sys
 
+# The 1,000 open days from 28 March 2024 on, as holidays.
+FOUR_YEARS = ",".join(
+    str(it) for it in (datetime.date(2024, 3, 28) + datetime.timedelta(number) for number in range(1400)) if it.isoweekday() < 6
+)[:10_999]
 ANSWERS = {
     "is_date('2024-02-29')": 1, "is_date('2023-02-29')": 0, "is_date('')": 0, "is_date(20240229)": 0, "is_date(x'32')": 0,
     "is_date('2024-02-29 12:00:00')": 0, "is_date('2024-02-29' || char(0))": 0, "is_date(1.5)": 0,
@@ -23,6 +28,22 @@ ANSWERS = {
     "add_days('9999-12-31', 1)": "+10000-01-01", "add_days('0000-01-01', -1)": "-0001-12-31", "add_days('+10000-01-01', -1)": "9999-12-31",
     "add_days('-262143-01-01', 191491528)": "+262142-12-31", "weekday('+262142-12-31')": 1, "weekday('-262143-01-01')": 4,
     "days_between('-262143-01-01', '+262142-12-31')": 191491528, "iso_week('-262143-01-01')": 1, "day_of_year('-262143-01-01')": 1,
+    "easter(2024)": "2024-03-31", "easter(1583)": "1583-04-10",
+    # open days
+    "add_open_days('2024-03-28', 2, '2024-03-29,2024-04-01')": "2024-04-03", "add_open_days('2024-03-28', 2, ' 2024-04-01 ,2024-03-29\n2024-03-29')": "2024-04-03",
+    "add_open_days('2024-03-28', 2, '')": "2024-04-01", "add_open_days('2024-03-28', 2, '', '')": "2024-03-30",
+    "add_open_days('2024-03-28', 2, '', '56')": "2024-04-01", "add_open_days('2024-03-30', 0, '2024-03-30')": "2024-04-01",
+    "add_open_days('2024-03-30', -1, '2024-03-29')": "2024-03-28", "add_open_days('2024-03-28', 1, '2024-03-29', '67')": "2024-04-01",
+    "open_days('2024-03-25', '2024-04-08', '2024-03-29,2024-04-01')": 8, "open_days('2024-04-08', '2024-03-25', '')": -10,
+    "open_days('2024-03-25', '2024-04-08', '2024-04-01', '7')": 11, "open_days('2024-03-25', '2024-03-25', '')": 0,
+    "roll('2024-03-31', 'following', '2024-03-29')": "2024-04-01", "roll('2024-03-31', 'Modified-Following', '2024-03-29')": "2024-03-28",
+    "roll('2024-03-31', 'preceding', '')": "2024-03-29", "roll('2024-06-01', 'modified-preceding', '')": "2024-06-03",
+    "roll('2024-03-31', 'unadjusted', '')": "2024-03-31", "roll('2024-04-02', 'nearest-isda', '2024-04-02')": "2024-04-01",
+    "roll('2024-04-02', 'nearest-quantlib', '2024-04-02')": "2024-04-03", "roll('2024-03-31', 'following', '', '17')": "2024-04-02",
+    f"add_open_days('2024-03-28', 1, '{FOUR_YEARS}')": "2028-01-27",
+    "year_fraction('30/360', '2024-01-31', '2024-03-31')": 60 / 360, "year_fraction('30E/360', '2024-02-29', '2024-03-31')": 31 / 360,
+    "year_fraction('Actual/Actual', '2023-07-01', '2024-07-01')": (184 * 366 + 182 * 365) / (365 * 366),
+    "year_fraction('actual/360', '2024-12-31', '2024-01-01')": -365 / 360, "year_fraction('actual/365', '2024-01-01', '2024-12-31')": 1.0,
     # schedules
     "next_due('0 9 * * mon-fri', '2024-03-01')": "2024-03-01 09:00:00", "next_due('0 9 * * mon-fri', '2024-03-01T09:00:00')": "2024-03-04 09:00:00",
     "next_due('@daily', '2024-02-28 23:59:59.999')": "2024-02-29 00:00:00", "next_due('@daily', '9999-12-31')": "+10000-01-01 00:00:00",
@@ -59,6 +80,31 @@ REFUSALS = {
     "add_months('2024-02-29', x'31')": "add_months: a whole number is wanted, and not '1'",
     "days_between('2024-02-29', '2024-02-31')": "days_between: '2024-02-31' is no date: byte 8: the month has 29 days",
     "years_between('2024-02-31', '2024-02-29')": "years_between: '2024-02-31' is no date: byte 8: the month has 29 days",
+    "easter(262143)": "easter: the answer is not from -262143-01-01 to +262142-12-31",
+    "easter(4294969320)": "easter: the answer is not from -262143-01-01 to +262142-12-31", "easter('2024')": "easter: a whole number is wanted, and not '2024'",
+    "add_open_days('2024-03-28', 2, '2024-03-29,2024-04-31')": "add_open_days: '2024-03-29,2024-04-31' is no list of dates: byte 19: the month has 30 days",
+    "add_open_days('2024-03-28', 2, '2024-03-29;2024-04-01')": "add_open_days: '2024-03-29;2024-04-01' is no list of dates: byte 10: not of this form",
+    "add_open_days('2024-03-28', 2, 'x')": "add_open_days: 'x' is no list of dates: byte 0: not of this form",
+    "add_open_days('2024-03-28', 2, 20240329)": "add_open_days: a list of dates is a text, and not a number",
+    "add_open_days('2024-03-28', 2, '', '68')": "add_open_days: '68' is no weekend: byte 1: digits from 1 for Monday to 7 are wanted",
+    "add_open_days('2024-03-28', 2, '', '0')": "add_open_days: '0' is no weekend: byte 0: digits from 1 for Monday to 7 are wanted",
+    "add_open_days('2024-03-28', 2, '', 67)": "add_open_days: a weekend is a text, and not a number",
+    "add_open_days('2024-03-28', 2, '', '1234567')": "add_open_days: the answer is not from -262143-01-01 to +262142-12-31",
+    "add_open_days('2024-03-28', 9223372036854775807, '')": "add_open_days: the answer is not from -262143-01-01 to +262142-12-31",
+    "add_open_days('2024-03-32', 1, '')": "add_open_days: '2024-03-32' is no date: byte 8: the month has 31 days",
+    "add_open_days('2024-03-28', '1', '')": "add_open_days: a whole number is wanted, and not '1'",
+    f"add_open_days('2024-03-28', 1, '{FOUR_YEARS} 2028-01-27')": "add_open_days: a calendar has at most 1000 holidays",
+    "open_days('x', '2024-03-28', '')": "open_days: 'x' is no date: byte 0: not of this form",
+    "open_days('2024-03-28', '2024-03', '')": "open_days: '2024-03' is no date: byte 7: not of this form",
+    "open_days('2024-03-28', '2024-03-28', 'x')": "open_days: 'x' is no list of dates: byte 0: not of this form",
+    "roll('2024-03-31', 'up', '')": "roll: 'up' is no roll, such as following", "roll('2024-03-31', '', '')": "roll: '' is no roll, such as following",
+    "roll('2024-03-31', 'following' || char(0), '')": "roll: 'following' is no roll, such as following",
+    "roll('2024-03-31', 'followin', '')": "roll: 'followin' is no roll, such as following", "roll('2024-03-31', 1, '')": "roll: a roll is a text, and not a number",
+    "roll('2024-03', 'following', '')": "roll: '2024-03' is no date: byte 7: not of this form",
+    "roll('2024-03-31', 'following', '', '1234567')": "roll: the answer is not from -262143-01-01 to +262142-12-31",
+    "year_fraction('act', '2024-01-31', '2024-03-31')": "year_fraction: 'act' is no day count, such as actual/360",
+    "year_fraction('30/360', '2024-01-31', '2024-02-31')": "year_fraction: '2024-02-31' is no date: byte 8: the month has 29 days",
+    "year_fraction('30/360', '2024-02-31', '2024-02-01')": "year_fraction: '2024-02-31' is no date: byte 8: the month has 29 days",
     "next_due('0 25 * * *', '2024-03-01')": "next_due: '0 25 * * *' is no schedule: hour, byte 2: a number that is out of range",
     "next_due('', '2024-03-01')": "next_due: '' is no schedule: byte 0: nothing stands there",
     "next_due(5, '2024-03-01')": "next_due: a schedule is a text, and not a number",
@@ -72,8 +118,10 @@ REFUSALS = {
     "is_due('@daily', '2024-03-32T00:00:00')": "is_due: '2024-03-32T00:00:00' is no date-time: byte 8: the month has 31 days",
     "is_due('@daily', 0)": "is_due: a date-time is a text, and not a number",
 }
-# Functions by the number of their arguments.
+# Functions by the most of their arguments, and the optional ones of some.
+OPTIONAL = {"add_open_days": 1, "open_days": 1, "roll": 1}
 SCALARS = {
+    "easter": 1, "add_open_days": 4, "open_days": 4, "roll": 4, "year_fraction": 3,
     "is_date": 1, "add_days": 2, "add_months": 2, "days_between": 2, "years_between": 2, "weekday": 1, "iso_week": 1, "iso_year": 1,
     "day_of_year": 1, "days_in_month": 1, "next_due": 2, "last_due": 2, "is_due": 2,
 }
@@ -107,7 +155,36 @@ TABLES = {
     "SELECT a.day || b.day FROM days_of('2024-01-01', '2024-01-02') a, days_of(a.day, '2024-01-02') b ORDER BY 1":
         ["2024-01-012024-01-01", "2024-01-012024-01-02", "2024-01-022024-01-02"],
 }
+TABLES |= {
+    "SELECT day FROM rule_dates('FREQ=MONTHLY;BYDAY=-1FR', '2024-01-01', '2024-02-29')": ["2024-01-26", "2024-02-23"],
+    "SELECT day FROM rule_dates('RRULE:FREQ=MONTHLY;COUNT=2', '2024-01-31', '2025-01-01')": ["2024-01-31", "2024-03-31"],
+    "SELECT day FROM rule_dates('FREQ=YEARLY;BYMONTH=2;BYMONTHDAY=29', '2024-02-29', '2028-02-29')": ["2024-02-29", "2028-02-29"],
+    "SELECT day FROM rule_dates('FREQ=MONTHLY;BYMONTH=2;BYMONTHDAY=30', '2024-02-29', '+262142-12-31')": [],
+    "SELECT day FROM rule_dates('FREQ=DAILY', '2024-03-02', '2024-03-01')": [],
+    "SELECT day FROM rule_dates('FREQ=DAILY', '+262142-12-30', '+262142-12-31')": ["+262142-12-30", "+262142-12-31"],
+    "SELECT count(*) || ' ' || count(DISTINCT day) FROM rule_dates('FREQ=DAILY', '2024-01-01', '2024-07-10')": ["192 192"],
+    "SELECT count(*) FROM rule_dates('FREQ=DAILY', '2024-01-01', '2024-03-04')": [64], "SELECT count(*) FROM rule_dates('FREQ=DAILY;COUNT=100', '2024-01-01', '2025-01-01')": [100],
+    "SELECT day FROM rule_dates('FREQ=DAILY', '0000-01-01', '+262142-12-31') LIMIT 1 OFFSET 9999": ["0027-05-18"],
+    "SELECT group_concat(day, ' ') FROM holidays_of('TARGET', 2024, 2024)": ["2024-01-01 2024-03-29 2024-04-01 2024-05-01 2024-12-25 2024-12-26"],
+    "SELECT min(day) || ' ' || max(day) || ' ' || count(*) FROM holidays_of('us_federal', 2020, 2021)": ["2020-01-01 2021-12-31 22"],
+    "SELECT group_concat(day, ' ') FROM holidays_of('england_and_wales', 2022, 2022)":
+        ["2022-01-03 2022-04-15 2022-04-18 2022-05-02 2022-06-02 2022-06-03 2022-08-29 2022-09-19 2022-12-26 2022-12-27"],
+    "SELECT day FROM holidays_of('target', 2024, 2023)": [], "SELECT count(*) FROM holidays_of('target', -262143, 0)": [0],
+    "SELECT count(*) FROM holidays_of('target', 2024, 2423)": [1944],
+}
 TABLE_REFUSALS = {
+    "rule_dates('FREQ=DAYLY', '2024-03-01', '2024-03-02')": "rule_dates: 'FREQ=DAYLY' is no rule: byte 5: FREQ: not DAILY, WEEKLY, MONTHLY or YEARLY",
+    "rule_dates('', '2024-03-01', '2024-03-02')": "rule_dates: '' is no rule: byte 0: empty",
+    "rule_dates(1, '2024-03-01', '2024-03-02')": "rule_dates: a rule is a text, and not a number",
+    "rule_dates('FREQ=DAILY', '2024-03-32', '2024-03-02')": "rule_dates: '2024-03-32' is no date: byte 8: the month has 31 days",
+    "rule_dates('FREQ=DAILY', '2024-03-01', 'x')": "rule_dates: 'x' is no date: byte 0: not of this form",
+    "rule_dates('FREQ=DAILY', '2024-03-01')": "rule_dates: it needs 3 arguments",
+    "holidays_of('quantlib', 2024, 2024)": "holidays_of: 'quantlib' is no calendar, such as target",
+    "holidays_of('target', '2024', 2024)": "holidays_of: a whole number is wanted, and not '2024'",
+    "holidays_of('target', 2024, 2024.5)": "holidays_of: a whole number is wanted, and not '2024.5'",
+    "holidays_of('target', -262144, 2024)": "holidays_of: the years are not from -262143 to 262141",
+    "holidays_of('target', 2024, 262142)": "holidays_of: the years are not from -262143 to 262141",
+    "holidays_of('target', 2024)": "holidays_of: it needs 3 arguments",
     "days_of('2024-03-01', '2024-03-02', 0)": "days_of: a step of 0 days leads nowhere",
     "days_of('2024-03-01', '2024-03-02', 1.5)": "days_of: a whole number is wanted, and not '1.5'",
     "days_of('2024-03-01', '2024-03-32')": "days_of: '2024-03-32' is no date: byte 8: the month has 31 days",
@@ -162,12 +239,15 @@ def test_nulls(db):
         for place in range(places):
             values = ["NULL" if it == place else "'wrong'" for it in range(places)]
             equal(db, f"SELECT {name}({', '.join(values)})", [None])
-        told = asked(db, f"SELECT {name}({', '.join(['NULL'] * (places + 1))})")
-        count(told == f"wrong number of arguments to function {name}()", f"{name} takes {places + 1} arguments: {told}")
+        for wrong in (places + 1, places - OPTIONAL.get(name, 0) - 1):
+            told = asked(db, f"SELECT {name}({', '.join(['NULL'] * wrong)})")
+            count(told == f"wrong number of arguments to function {name}()", f"{name} takes {wrong} arguments: {told}")
     for place in range(3):
         values = ", ".join("NULL" if it == place else "'wrong'" for it in range(3))
         equal(db, f"SELECT * FROM days_of({values})", [])
         equal(db, f"SELECT * FROM due_between({values})", [])
+        equal(db, f"SELECT * FROM rule_dates({values})", [])
+        equal(db, f"SELECT * FROM holidays_of({values})", [])
 
 
 def test_tables(db):
@@ -194,6 +274,13 @@ def test_uses(db, old):
     equal(db, "SELECT count(*) FROM days", [3])
     equal(db, "INSERT INTO visits VALUES ('2001-02-29')", "CHECK constraint failed: is_date(day)")
     equal(db, "INSERT INTO people VALUES ('2001-02-29')", "iso_week: '2001-02-29' is no date: byte 8: the month has 28 days")
+    # (holidays that are constant, and others)
+    db.execute("CREATE TABLE closed(day TEXT, list TEXT)")
+    db.executemany("INSERT INTO closed VALUES ('2024-03-28', ?)", [("2024-03-29",), ("",), ("2024-04-01,2024-03-29",)])
+    equal(db, "SELECT add_open_days(day, 1, list) FROM closed", ["2024-04-01", "2024-03-29", "2024-04-02"])
+    equal(db, "SELECT add_open_days(day, 1, '2024-03-29') FROM closed", ["2024-04-01", "2024-04-01", "2024-04-01"])
+    equal(db, "SELECT roll(day, 'following', '2024-03-28', substr('674', 1, 2 + length(list) / 20)) FROM closed", ["2024-03-29"] * 3)
+    equal(db, "SELECT open_days(day, '2024-04-08', (SELECT group_concat(list) FROM closed)) FROM closed", [5, 5, 5])
     # (the schedule differs from row to row, and is constant in the second query)
     db.execute("CREATE TABLE jobs(s TEXT, m TEXT)")
     db.executemany("INSERT INTO jobs VALUES (?, ?)", [("@daily", "2024-01-01"), ("@yearly", "2024-01-01"), ("@daily", "2024-01-02")])

@@ -1,22 +1,68 @@
 //! `Firings`: the instants at which a schedule fires, in order.
+ghost use Rattle.std.specs.Prelude.{◌≡◌, Some};
+ghost use Rattle.chrono_instant.specs.Instants.{IsEpochSecond};
 ghost use Rattle.zoned_cron.specs.FiringLists.{GivesNext, instants_left};
+ghost use Rattle.zoned_cron.specs.Private.{IsHeld};
 
 use crate::schedule::ZonedSchedule;
+use crate::search::held::Held;
 use chrono_datetime::law::date_times_exist;
 use chrono_instant::Timestamp;
 use chrono_zoned::{DateTime, TimeZone};
 use std::iter::FusedIterator;
+use std::marker::Model;
 
 /// The instants after a start at which a schedule fires, in order, as far as UTC and the clock have dates.
 ///
 /// [`ZonedSchedule::after`] makes it. After its last instant the iterator returns `None` from then on.
-#[derive(Clone, Copy)]
+///
+/// A contract sees it as the schedule in its zone, and the instant after which the iterator goes on: first the start, then the last instant
+/// that it returned, and `None` once no instant is left.
+#[derive(Drop)]
 pub struct Firings<Z: TimeZone> {
-    /// The schedule in its zone.
-    pub schedule: ZonedSchedule<Z>,
-    /// The instant after which the iterator goes on: first the start, then the last instant that it returned.
-    /// It is `None` once no instant is left.
-    pub last: Option<DateTime<Z>>,
+    schedule: ZonedSchedule<Z>,
+    last: Option<DateTime<Z>>,
+    // A stretch of the zone's clock, mostly the one in which the last instant lies. It saves asking the zone for each instant.
+    held: Held,
+}
+
+impl<Z: TimeZone> Model for Firings<Z> {
+    ghost use Rattle.zoned_cron.specs.FiringLists.{FiringsLeft};
+    ghost use Rattle.zoned_cron.specs.Private.{IsHeld};
+
+    ghost Value = { FiringsLeft Z };
+
+    ghost view = { λ it. record { schedule = it.schedule; last = it.last } };
+
+    ghost invariant = { λ it. IsHeld (Z.ahead it.schedule.zone) it.held };
+}
+
+impl<Z: TimeZone> Firings<Z> {
+    // The instants after a start.
+    #[inline]
+    pub(crate) fn begin(schedule: ZonedSchedule<Z>, start: DateTime<Z>) -> Firings<Z>
+        ensures { result ≡ record { schedule = schedule; last = Some start } }
+    {
+        let utc = start.naive_utc();
+        date_times_exist(utc);
+        Firings {
+            schedule,
+            last: Some(start),
+            held: Held::around(schedule.zone, utc.timestamp()),
+        }
+    }
+
+    // The stretch that is kept, if it surrounds a second, or else one around that.
+    #[inline]
+    fn held_near(&self, second: i64) -> Held
+        requires { IsEpochSecond second }
+        ensures { IsHeld (Z.ahead self.now.schedule.zone) result }
+    {
+        if self.held.surrounds(second) {
+            return self.held;
+        }
+        Held::around(self.schedule.zone, second)
+    }
 }
 
 impl<Z: TimeZone> Iterator for Firings<Z> {
@@ -29,8 +75,11 @@ impl<Z: TimeZone> Iterator for Firings<Z> {
     /// Returns the next instant at which the schedule fires. Returns `None` if none is left.
     fn next(&mut self) -> Option<DateTime<Z>> {
         let start = self.last?;
-        date_times_exist(start.naive_utc());
-        self.last = self.schedule.next_after(start);
+        let utc = start.naive_utc();
+        date_times_exist(utc);
+        let held = self.held_near(utc.timestamp());
+        self.held = held;
+        self.last = self.schedule.first_by(utc, &held);
         self.last
     }
 }

@@ -3,16 +3,17 @@ ghost use Rattle.std.specs.Prelude.{◌≡◌, ◌↔◌, ◌<◌, ℤ, pos, ◌
 ghost use Rattle.chrono_datetime.specs.Moment.{IsMoment};
 ghost use Rattle.chrono_instant.specs.Instants.{IsEpochSecond, LiesIn, epoch_second};
 ghost use Rattle.chrono_zoned.specs.Offsets.{IsOffset};
-ghost use Rattle.chrono_zoned.specs.Zones.{AreAll, HoldsUntil, IsAmong, Shows};
+ghost use Rattle.chrono_zoned.specs.Zones.{AreAll, IsAmong, Shows};
 ghost use Rattle.zoned_cron.specs.Fires.{Fires, IsGap};
-ghost use Rattle.zoned_cron.specs.Private.{EndsGap, IfTwo, IsLastIn, IsSettledAt, TakesDated};
+ghost use Rattle.zoned_cron.specs.Private.{EndsGap, IfTwo, IsHeld, IsLastIn, IsSettledAt, TakesDated};
 
 use crate::policy::{Fold, Gap};
 use crate::schedule::ZonedSchedule;
+use crate::search::held::Held;
 use chrono_datetime::law::date_times_exist;
 use chrono_datetime::{NaiveDateTime, Timelike};
 use chrono_instant::{FixedOffset, FromTimestamp, Timestamp};
-use chrono_zoned::{DateTime, MappedLocalTime, Stretch, TimeZone};
+use chrono_zoned::{DateTime, MappedLocalTime, TimeZone};
 
 // The first second of the first date, and the last of the last date, in UTC.
 pub(crate) const FIRST_SECOND: i64 = -8_334_601_228_800;
@@ -122,24 +123,21 @@ fn end_of_gap<Z: TimeZone>(zone: Z, gap: i64) -> MappedLocalTime<i64>
     }
 }
 
-// The instant at which the clock shows a planned local time, if the stretch that holds from the second `from` on has no end near it: neither
-// within two days before the instant, nor within two days behind it. Then the clock shows the local time at no other instant.
+// The instant at which the clock shows a planned local time, if the stretch has no end near it: neither within two days before the instant, nor
+// within two days behind it. Then the clock shows the local time at no other instant.
 #[inline]
 pub(crate) fn settled_instant<Z: TimeZone>(
     zone: Z,
-    from: i64,
-    stretch: Stretch,
+    held: Held,
     planned: NaiveDateTime,
 ) -> Option<DateTime<Z>>
-    requires offset { stretch.offset ≡ Z.ahead zone from }
-    requires holds { HoldsUntil (Z.ahead zone) from stretch.until }
-    requires near { (u : ℤ) → IsOffset (Z.ahead zone u) }
+    requires { IsHeld (Z.ahead zone) held }
     ensures { IfSome result (IsSettledAt Z.ahead zone planned) }
 {
     date_times_exist(planned);
-    let found = before(planned.timestamp(), stretch.offset);
-    if from <= found - 2 * DAY && found + 2 * DAY <= stretch.until {
-        DateTime::from_local_and_offset(planned, stretch.offset, zone)
+    let found = before(planned.timestamp(), held.offset);
+    if held.from <= found - 2 * DAY && found + 2 * DAY <= held.until {
+        DateTime::from_local_and_offset(planned, held.offset, zone)
     } else {
         None
     }

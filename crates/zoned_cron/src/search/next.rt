@@ -3,14 +3,15 @@ ghost use Rattle.std.specs.Prelude.{ℤ, ◌<ℤ◌, IfSome, Some};
 ghost use Rattle.chrono_instant.specs.Instants.{IsEpochSecond};
 ghost use Rattle.zoned_cron.specs.Fires.{Fires};
 ghost use Rattle.zoned_cron.specs.FiringLists.{IsNextFiring};
-ghost use Rattle.zoned_cron.specs.Private.{IsAtLeast, IsInDates, IsPlanned};
+ghost use Rattle.zoned_cron.specs.Private.{IsAtLeast, IsHeld, IsInDates, IsNextIfSettled, IsPlanned};
 
 use crate::schedule::ZonedSchedule;
+use crate::search::held::Held;
 use crate::search::instants::{DAY, LAST_SECOND, settled_instant};
 use chrono_datetime::NaiveDateTime;
 use chrono_datetime::law::{date_times_exist, first_date_time};
 use chrono_instant::{FromTimestamp, Timestamp};
-use chrono_zoned::{AddOffset, DateTime, TimeZone};
+use chrono_zoned::{AddOffset, DateTime, InZone, TimeZone};
 
 impl<Z: TimeZone> ZonedSchedule<Z> {
     // The first instant after `start` at which the schedule fires, as a second from 1 January 1970.
@@ -29,31 +30,63 @@ impl<Z: TimeZone> ZonedSchedule<Z> {
         None
     }
 
-    // The first instant after `start` at which the schedule fires, where no change is near the start, and none near that instant. `None` says
-    // nothing.
+    // The first instant after `start` at which the schedule fires. `held` is any stretch of the zone's clock: one around the start makes it fast.
     #[inline]
-    pub(crate) fn first_settled(&self, start: NaiveDateTime) -> Option<DateTime<Z>>
-        ensures { IfSome result (λ d. IsNextFiring Z.ahead self.now start (Some d)) }
+    pub(crate) fn first_by(&self, start: NaiveDateTime, held: &Held) -> Option<DateTime<Z>>
+        requires { IsHeld (Z.ahead self.now.zone) held.now }
+        ensures { IsNextFiring Z.ahead self.now start result }
+    {
+        if let Some(found) = self.first_settled(start, held) {
+            return Some(found);
+        }
+        self.first_searched(start)
+    }
+
+    // The same, from stretch to stretch.
+    #[inline(never)]
+    fn first_searched(&self, start: NaiveDateTime) -> Option<DateTime<Z>>
+        ensures { IsNextFiring Z.ahead self.now start result }
     {
         date_times_exist(start);
-        let second = start.timestamp();
-        let from = second - 2 * DAY;
-        let stretch = self.zone.stretch_from(from);
-        if stretch.until < second + 2 * DAY {
+        self.zone
+            .timestamp_opt(self.first_after(start.timestamp())?, 0)
+    }
+
+    // The same, where the stretch surrounds the start, and no change is near the instant. `None` says nothing.
+    #[inline]
+    fn first_settled(&self, start: NaiveDateTime, held: &Held) -> Option<DateTime<Z>>
+        requires { IsHeld (Z.ahead self.now.zone) held.now }
+        ensures { IfSome result (λ d. IsNextFiring Z.ahead self.now start (Some d)) }
+    {
+        let Some(planned) = self.planned_around(start, held) else {
+            return None;
+        };
+        date_times_exist(planned);
+        if let Some(found) = settled_instant(self.zone, *held, planned) {
+            return Some(found);
+        }
+        let near = Held::from_second(self.zone, planned.timestamp() - 3 * DAY);
+        settled_instant(self.zone, near, planned)
+    }
+
+    // The first planned local time after `start`, if the stretch surrounds the start.
+    #[inline]
+    fn planned_around(&self, start: NaiveDateTime, held: &Held) -> Option<NaiveDateTime>
+        requires { IsHeld (Z.ahead self.now.zone) held.now }
+        ensures { IfSome result (IsNextIfSettled Z.ahead self.now start) }
+    {
+        date_times_exist(start);
+        if !held.surrounds(start.timestamp()) {
             return None;
         }
-        let Some(local) = start.checked_add_offset(stretch.offset) else {
+        let Some(local) = start.checked_add_offset(held.offset) else {
             return None;
         };
         let Some(planned) = self.schedule.next_after(local) else {
             return None;
         };
         date_times_exist(planned);
-        if let Some(found) = settled_instant(self.zone, from, stretch, planned) {
-            return Some(found);
-        }
-        let from = planned.timestamp() - 3 * DAY;
-        settled_instant(self.zone, from, self.zone.stretch_from(from), planned)
+        Some(planned)
     }
 
     // An instant after the second such that the schedule fires at none between them; `None` if it fires at none after the second.

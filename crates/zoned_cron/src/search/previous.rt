@@ -7,6 +7,7 @@ ghost use Rattle.zoned_cron.specs.Fires.{Fires};
 ghost use Rattle.zoned_cron.specs.Private.{FiresFor, IsAtMost, IsPreviousFiring};
 
 use crate::schedule::ZonedSchedule;
+use crate::search::held::Held;
 use crate::search::instants::{DAY, FIRST_SECOND, begun_by, last_in, settled_instant, shown_at};
 use chrono_datetime::NaiveDateTime;
 use chrono_datetime::law::{date_times_exist, last_date_time};
@@ -43,12 +44,11 @@ impl<Z: TimeZone> ZonedSchedule<Z> {
         ensures { IfSome result (IsPreviousFiring Z.ahead self.now end) }
     {
         let end = begun_by(end);
-        let from = end - 5 * DAY;
-        let stretch = self.zone.stretch_from(from);
-        if stretch.until < end {
+        let held = Held::from_second(self.zone, end - 5 * DAY);
+        if held.until < end {
             return None;
         }
-        let ahead = i64::from(stretch.offset.local_minus_utc());
+        let ahead = i64::from(held.offset.local_minus_utc());
         let Some(local) = NaiveDateTime::from_timestamp(end + ahead, 0) else {
             return None;
         };
@@ -56,11 +56,11 @@ impl<Z: TimeZone> ZonedSchedule<Z> {
             return None;
         };
         date_times_exist(planned);
-        if let Some(found) = settled_instant(self.zone, from, stretch, planned) {
+        if let Some(found) = settled_instant(self.zone, held, planned) {
             return Some(found);
         }
-        let from = planned.timestamp() - 3 * DAY;
-        settled_instant(self.zone, from, self.zone.stretch_from(from), planned)
+        let near = Held::from_second(self.zone, planned.timestamp() - 3 * DAY);
+        settled_instant(self.zone, near, planned)
     }
 
     // The last planned local time that may fire before `end`.

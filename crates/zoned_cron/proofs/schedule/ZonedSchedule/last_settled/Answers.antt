@@ -9,8 +9,8 @@ use Rattle.zoned_cron.proofs.Carried.{days_before}
 use Rattle.zoned_cron.proofs.Settled.{IsLastDue, IsStretch, last_settled_there}
 use Rattle.zoned_cron.proofs.schedule.ZonedSchedule.last_settled.Goals as goal
 
-pub overflow_sub-from : goal.overflow_sub-from
-overflow_sub-from g c =
+pub overflow_sub-end : goal.overflow_sub-end
+overflow_sub-end g c =
     let low = c.begun_by-end.ensures.low in
     let high = c.begun_by-end.ensures.high in
     let stop = to_z w64 (of_z w64 c.begun_by-end.result) in
@@ -26,11 +26,11 @@ overflow_add-end g c =
     let fits : stop ≡ c.begun_by-end.result = to_z-of_z w64 c.begun_by-end.result (record { sfits = c.begun_by-end.type_inv }) in
     let close : IsNearDates (stop -ℤ pos 432_000) = (omega (arith, ints, fits, low), omega (arith, ints, fits, high)) in
     let ahead = g.Z.TimeZone.ahead c.args.self.now.zone in
-    let stretch = c.stretch_from-stretch in
-    let from = to_z w64 (of_z w64 (stop -ℤ pos 432_000)) in
-    let small = near (ahead from) (stretch.ensures.near from) in
+    let stretch = c.from_second-held in
+    let from = stretch.result.from in
+    let small = near (ahead from) (stretch.ensures.held.near from) in
     let o = to_z w64 (of_z w64 c.from-ahead.result) in
-    let is_o : o ≡ ahead from = offset_carried c.from-ahead.result c.local_minus_utc.result stretch.result.offset (ahead from) c.from-ahead.ensures c.local_minus_utc.ensures.value stretch.ensures.offset (stretch.ensures.near from) in
+    let is_o : o ≡ ahead from = offset_carried c.from-ahead.result c.local_minus_utc.result stretch.result.offset (ahead from) c.from-ahead.ensures c.local_minus_utc.ensures.value stretch.ensures.held.offset (stretch.ensures.held.near from) in
     fits_by (stop +ℤ o) (stop +ℤ ahead from) (ap (λ (x : ℤ). stop +ℤ x) is_o) (omega (arith, ints, fits, low, small), omega (arith, ints, fits, high, small))
 
 pub returns-in-Some-settled_instant : goal.returns-in-Some-settled_instant
@@ -41,27 +41,27 @@ returns-in-Some-settled_instant g c =
     let fits : stop ≡ c.begun_by-end.result = to_z-of_z w64 c.begun_by-end.result (record { sfits = c.begun_by-end.type_inv }) in
     let close : IsNearDates (stop -ℤ pos 432_000) = (omega (arith, ints, fits, low), omega (arith, ints, fits, high)) in
     let ahead = g.Z.TimeZone.ahead c.args.self.now.zone in
-    let stretch = c.stretch_from-stretch in
-    let from = to_z w64 (of_z w64 (stop -ℤ pos 432_000)) in
-    let begun : from ≡ (stop -ℤ pos 432_000) = carried (stop -ℤ pos 432_000) (stop -ℤ pos 432_000) refl close in
+    let stretch = c.from_second-held in
+    let from = stretch.result.from in
+    let begun : from ≡ (stop -ℤ pos 432_000) = stretch.ensures.from ∙ carried (stop -ℤ pos 432_000) (stop -ℤ pos 432_000) refl close in
     let until_fits : SFits w64 stretch.result.until = search rules in
     let until : to_z w64 (of_z w64 stretch.result.until) ≡ stretch.result.until = to_z-of_z w64 stretch.result.until until_fits in
-    let reach : stop ≤ℤ stretch.result.until = omega (arith, ints, until, c.if-stretch-end.false) in
-    let small = near (ahead from) (stretch.ensures.near from) in
+    let reach : stop ≤ℤ stretch.result.until = omega (arith, ints, until, c.if-held-end.false) in
+    let small = near (ahead from) (stretch.ensures.held.near from) in
     let o = to_z w64 (of_z w64 c.from-ahead.result) in
-    let is_o : o ≡ ahead from = offset_carried c.from-ahead.result c.local_minus_utc.result stretch.result.offset (ahead from) c.from-ahead.ensures c.local_minus_utc.ensures.value stretch.ensures.offset (stretch.ensures.near from) in
+    let is_o : o ≡ ahead from = offset_carried c.from-ahead.result c.local_minus_utc.result stretch.result.offset (ahead from) c.from-ahead.ensures c.local_minus_utc.ensures.value stretch.ensures.held.offset (stretch.ensures.held.near from) in
     let is : to_z w64 (of_z w64 (stop +ℤ o)) ≡ (stop +ℤ ahead from) = carried (stop +ℤ o) (stop +ℤ ahead from) (ap (λ (x : ℤ). stop +ℤ x) is_o) (omega (arith, ints, fits, low, small), omega (arith, ints, fits, high, small)) in
     let local = c.in-Some.local in
     let lies : LiesIn (stop +ℤ ahead from) 0 local = subst (λ (x : ℤ). LiesIn x 0 local) is c.in-Some.ensures.value in
     let due = c.in-Some-prev_before.ensures in
     let last : IsLastDue c.args.self.now local c.in-Some-prev_before.planned = record { exists = c.date_times_exist.ensures; due = due.member; earlier = due.earlier; greatest = due.greatest } in
-    let held : IsStretch ahead from stretch.result.until = record { holds = stretch.ensures.holds; near = stretch.ensures.near } in
+    let held : IsStretch ahead from stretch.result.until = record { holds = stretch.ensures.held.holds; near = stretch.ensures.held.near } in
     let first : IsFirstFrom stop c.args.end = record { whole = λ e. fits ∙ c.begun_by-end.ensures.whole e; within = λ e. fits ∙ c.begun_by-end.ensures.within e } in
     let exists = c.begun_by-end.ensures.exists in
     last_settled_there g.Z.TimeZone.ahead c.args.self.now from stretch.result.until stop c.args.end local c.in-Some-prev_before.planned c.in-Some-settled_instant.found held (omega (arith, ints, begun)) reach first exists lies last c.in-Some-settled_instant.ensures
 
-pub overflow_sub-from-2 : goal.overflow_sub-from-2
-overflow_sub-from-2 g c =
+pub overflow_sub-timestamp : goal.overflow_sub-timestamp
+overflow_sub-timestamp g c =
     let planned = c.in-Some-prev_before.planned in
     let l = epoch_second planned in
     let at : to_z w64 (of_z w64 c.timestamp.result) ≡ l = to_z-of_z w64 c.timestamp.result (record { sfits = c.timestamp.type_inv }) ∙ c.timestamp.ensures.value in
@@ -75,21 +75,21 @@ returns g c =
     let fits : stop ≡ c.begun_by-end.result = to_z-of_z w64 c.begun_by-end.result (record { sfits = c.begun_by-end.type_inv }) in
     let close : IsNearDates (stop -ℤ pos 432_000) = (omega (arith, ints, fits, low), omega (arith, ints, fits, high)) in
     let ahead = g.Z.TimeZone.ahead c.args.self.now.zone in
-    let stretch = c.stretch_from-stretch in
-    let from = to_z w64 (of_z w64 (stop -ℤ pos 432_000)) in
-    let begun : from ≡ (stop -ℤ pos 432_000) = carried (stop -ℤ pos 432_000) (stop -ℤ pos 432_000) refl close in
+    let stretch = c.from_second-held in
+    let from = stretch.result.from in
+    let begun : from ≡ (stop -ℤ pos 432_000) = stretch.ensures.from ∙ carried (stop -ℤ pos 432_000) (stop -ℤ pos 432_000) refl close in
     let until_fits : SFits w64 stretch.result.until = search rules in
     let until : to_z w64 (of_z w64 stretch.result.until) ≡ stretch.result.until = to_z-of_z w64 stretch.result.until until_fits in
-    let reach : stop ≤ℤ stretch.result.until = omega (arith, ints, until, c.if-stretch-end.false) in
-    let small = near (ahead from) (stretch.ensures.near from) in
+    let reach : stop ≤ℤ stretch.result.until = omega (arith, ints, until, c.if-held-end.false) in
+    let small = near (ahead from) (stretch.ensures.held.near from) in
     let o = to_z w64 (of_z w64 c.from-ahead.result) in
-    let is_o : o ≡ ahead from = offset_carried c.from-ahead.result c.local_minus_utc.result stretch.result.offset (ahead from) c.from-ahead.ensures c.local_minus_utc.ensures.value stretch.ensures.offset (stretch.ensures.near from) in
+    let is_o : o ≡ ahead from = offset_carried c.from-ahead.result c.local_minus_utc.result stretch.result.offset (ahead from) c.from-ahead.ensures c.local_minus_utc.ensures.value stretch.ensures.held.offset (stretch.ensures.held.near from) in
     let is : to_z w64 (of_z w64 (stop +ℤ o)) ≡ (stop +ℤ ahead from) = carried (stop +ℤ o) (stop +ℤ ahead from) (ap (λ (x : ℤ). stop +ℤ x) is_o) (omega (arith, ints, fits, low, small), omega (arith, ints, fits, high, small)) in
     let local = c.in-Some.local in
     let lies : LiesIn (stop +ℤ ahead from) 0 local = subst (λ (x : ℤ). LiesIn x 0 local) is c.in-Some.ensures.value in
     let due = c.in-Some-prev_before.ensures in
     let last : IsLastDue c.args.self.now local c.in-Some-prev_before.planned = record { exists = c.date_times_exist.ensures; due = due.member; earlier = due.earlier; greatest = due.greatest } in
-    let held : IsStretch ahead from stretch.result.until = record { holds = stretch.ensures.holds; near = stretch.ensures.near } in
+    let held : IsStretch ahead from stretch.result.until = record { holds = stretch.ensures.held.holds; near = stretch.ensures.held.near } in
     let first : IsFirstFrom stop c.args.end = record { whole = λ e. fits ∙ c.begun_by-end.ensures.whole e; within = λ e. fits ∙ c.begun_by-end.ensures.within e } in
     let exists = c.begun_by-end.ensures.exists in
     IfSome_then c.settled_instant-2.result c.settled_instant-2.ensures (λ d h.

@@ -1,0 +1,3 @@
+mod ClockParts
+mod TimedReads
+mod InstantLists

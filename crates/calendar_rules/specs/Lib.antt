@@ -1,0 +1,3 @@
+pub mod TimedRuleTexts
+pub mod Recurrences
+pub mod Private

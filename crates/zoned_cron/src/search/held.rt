@@ -1,0 +1,50 @@
+//! `Held`: a stretch of a zone's clock that a search keeps.
+ghost use Rattle.std.specs.Prelude.{◌≡◌, IsTrue};
+ghost use Rattle.chrono_instant.specs.Instants.{IsEpochSecond};
+ghost use Rattle.zoned_cron.specs.Private.{IsHeld, Surrounds};
+
+use crate::search::instants::DAY;
+use chrono_instant::FixedOffset;
+use chrono_zoned::TimeZone;
+
+// An offset, and the seconds from which on and up to which the clock of a zone keeps it.
+#[derive(Clone, Copy)]
+pub(crate) struct Held {
+    pub(crate) offset: FixedOffset,
+    pub(crate) from: i64,
+    pub(crate) until: i64,
+}
+
+impl Held {
+    // The stretch from a second on.
+    #[inline]
+    pub(crate) fn from_second<Z: TimeZone>(zone: Z, from: i64) -> Held
+        ensures held { IsHeld (Z.ahead zone) result }
+        ensures from { result.from ≡ from }
+    {
+        let stretch = zone.stretch_from(from);
+        Held {
+            offset: stretch.offset,
+            from,
+            until: stretch.until,
+        }
+    }
+
+    // A stretch around a second: from two days before it on.
+    #[inline]
+    pub(crate) fn around<Z: TimeZone>(zone: Z, second: i64) -> Held
+        requires { IsEpochSecond second }
+        ensures held { IsHeld (Z.ahead zone) result }
+    {
+        Held::from_second(zone, second - 2 * DAY)
+    }
+
+    // Whether it begins two days before the second or earlier, and ends no sooner than two days behind it.
+    #[inline]
+    pub(crate) fn surrounds(&self, second: i64) -> bool
+        requires { IsEpochSecond second }
+        ensures { IsTrue result → Surrounds self.now second }
+    {
+        self.from <= second - 2 * DAY && second + 2 * DAY <= self.until
+    }
+}

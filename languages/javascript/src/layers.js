@@ -1,0 +1,225 @@
+/**
+ * The functions of the layers, which are proved, as a second module of WebAssembly. It is loaded at the first call.
+ *
+ * They take what lies in memory behind all that the module itself uses: texts, schedules, holidays and date-times.
+ */
+
+import { instantiate } from "./instantiate.js";
+import { MODULE } from "./layers_module.js";
+import { NONE } from "./library.js";
+import { getMoment, MOMENT_SIZE, setMoment } from "./moments.js";
+import { TextError } from "./text_error.js";
+
+/** A page of memory. */
+const PAGE = 65_536;
+
+/** Where things lie in the room: what is wrong, two date-times, an answer, a schedule, date-times, holidays, a text. */
+const [FAULT, FIRST, SECOND, ANSWER, SCHEDULE, DUE, HOLIDAYS, TEXT] = [0, 32, 48, 64, 128, 1_024, 2_048, 8_192];
+
+/** A text has at most so many bytes. */
+const LONGEST = PAGE - TEXT;
+
+/** How many bytes a schedule takes. */
+const SCHEDULE_SIZE = 80;
+
+/** So many times are found at once. */
+export const AT_ONCE = (HOLIDAYS - DUE) / MOMENT_SIZE;
+
+/** A calendar has at most so many holidays. */
+export const MOST_HOLIDAYS = 1_000;
+
+/** The least number of 64 bits, which stands for no number of days. */
+const NO_DAYS = -(2n ** 63n);
+
+/** The module's exports, and the room behind its own memory: where it begins, and two views of it. */
+let opened;
+
+function open() {
+  if (opened === undefined) {
+    const layers = instantiate(MODULE);
+    const start = layers.memory.grow(1) * PAGE;
+    const { buffer } = layers.memory;
+    opened = { layers, start, view: new DataView(buffer, start, PAGE), bytes: new Uint8Array(buffer, start, PAGE) };
+  }
+  return opened;
+}
+
+/** An address as the module takes one. */
+const address = ({ start }, at) => BigInt(start + at);
+
+/** The characters of some bytes of the room. */
+const textAt = ({ bytes }, at, length) => String.fromCharCode(...bytes.subarray(at, at + length));
+
+/** Puts a text into the room: its bytes. A text that is too long is wrong from where the room ends. */
+function putText({ bytes }, text) {
+  const encoded = new TextEncoder().encode(text);
+  if (encoded.length > LONGEST) {
+    throw new TextError(text, placeOf(encoded, LONGEST), text.length, `longer than ${LONGEST.toLocaleString("en")} bytes`);
+  }
+  bytes.set(encoded, TEXT);
+  return encoded;
+}
+
+/** The place in a string of a byte of its encoded text. */
+const placeOf = (encoded, byte) => new TextDecoder().decode(encoded.subarray(0, byte)).length;
+
+/** Throws what is wrong with a text, which lies in the room, in words of the library. */
+function throwFault(room, text, encoded, write) {
+  const { view } = room;
+  const length = write(address(room, FAULT), address(room, TEXT), BigInt(LONGEST));
+  const [byte, end] = [8, 16].map((it) => placeOf(encoded, Number(view.getBigUint64(FAULT + it, true))));
+  throw new TextError(text, byte, end, textAt(room, TEXT, length));
+}
+
+/** The version of the library. */
+export function version() {
+  const room = open();
+  return textAt(room, TEXT, room.layers.calendar_version(address(room, TEXT), BigInt(LONGEST)));
+}
+
+/** The bytes of the schedule that a text has; a TextError if it has none. */
+export function readSchedule(text) {
+  const room = open();
+  const { layers, bytes } = room;
+  const encoded = putText(room, text);
+  const places = [TEXT, SCHEDULE, FAULT].map((it) => address(room, it));
+  if (!layers.calendar_schedule_read(places[0], BigInt(encoded.length), places[1], places[2])) {
+    throwFault(room, text, encoded, layers.calendar_schedule_fault_text);
+  }
+  return bytes.slice(SCHEDULE, SCHEDULE + SCHEDULE_SIZE);
+}
+
+/** Puts a schedule and a date-time into the room, and answers both addresses. */
+function putSchedule(room, schedule, moment) {
+  room.bytes.set(schedule, SCHEDULE);
+  setMoment(room.view, FIRST, moment);
+  return [address(room, SCHEDULE), address(room, FIRST)];
+}
+
+/** The first date-time after another at which a schedule is due; undefined if there is none. */
+export function nextDue(schedule, start) {
+  const room = open();
+  room.layers.calendar_schedule_next(address(room, ANSWER), ...putSchedule(room, schedule, start));
+  return getMoment(room.view, ANSWER);
+}
+
+/** The last date-time before another at which a schedule is due; undefined if there is none. */
+export function previousDue(schedule, start) {
+  const room = open();
+  room.layers.calendar_schedule_prev(address(room, ANSWER), ...putSchedule(room, schedule, start));
+  return getMoment(room.view, ANSWER);
+}
+
+/** Whether a schedule is due at a date-time. */
+export function isDue(schedule, moment) {
+  const room = open();
+  return room.layers.calendar_schedule_is_due(...putSchedule(room, schedule, moment)) !== 0;
+}
+
+/** The first date-times, at most `AT_ONCE`, after one and up to another at which a schedule is due. */
+export function dueBetween(schedule, start, until) {
+  const room = open();
+  const places = putSchedule(room, schedule, start);
+  setMoment(room.view, SECOND, until);
+  const others = [SECOND, DUE].map((it) => address(room, it));
+  const count = Number(room.layers.calendar_schedule_due(...places, ...others, BigInt(AT_ONCE)));
+  return Array.from({ length: count }, (_, index) => getMoment(room.view, DUE + MOMENT_SIZE * index));
+}
+
+/** Puts holidays into the room, and answers what a function takes as a calendar. */
+function putCalendar(room, { weekend, holidays }) {
+  holidays.forEach((it, index) => room.view.setInt32(HOLIDAYS + 4 * index, it, true));
+  return [weekend, address(room, HOLIDAYS), BigInt(holidays.length)];
+}
+
+/** Whether holidays are those of a calendar: they rise strictly, none is on the weekend, and they are not too many. */
+export function areHolidays(calendar) {
+  const room = open();
+  return room.layers.calendar_holidays_check(...putCalendar(room, calendar), address(room, FAULT)) !== 0;
+}
+
+/** The numbers of the holidays of a known calendar in some years; undefined if they are too many, or there is no such year. */
+export function holidaysOf(which, firstYear, lastYear, weekend) {
+  const room = open();
+  const out = [address(room, HOLIDAYS), BigInt(MOST_HOLIDAYS)];
+  const count = room.layers.calendar_holidays_of(which, firstYear, lastYear, weekend, ...out);
+  return count === NONE ? undefined : Int32Array.from({ length: count }, (_, index) => room.view.getInt32(HOLIDAYS + 4 * index, true));
+}
+
+/** The number of Easter Sunday of a year; the number of no date if there is no such year. */
+export const easterOf = (year) => open().layers.calendar_easter(year);
+
+/** Whether a date, by its number, is open in a calendar: a set of weekdays, and the numbers of holidays. */
+export function isOpenDay(calendar, date) {
+  const room = open();
+  return room.layers.calendar_is_open_day(...putCalendar(room, calendar), date) !== 0;
+}
+
+/** The number of the n-th open day after a date, n being a BigInt; the number of no date if there is none. */
+export function addOpenDays(calendar, date, n) {
+  const room = open();
+  return room.layers.calendar_add_open_days(...putCalendar(room, calendar), date, n);
+}
+
+/** How many days are open from one date on and before another; undefined if the calendar is none. */
+export function openDaysBetween(calendar, from, to) {
+  const room = open();
+  const days = room.layers.calendar_open_days_between(...putCalendar(room, calendar), from, to);
+  return days === NO_DAYS ? undefined : Number(days);
+}
+
+/** The number of the date that a date goes to by a roll; the number of no date if there is none. */
+export function rolled(calendar, date, roll) {
+  const room = open();
+  return room.layers.calendar_roll(...putCalendar(room, calendar), date, roll);
+}
+
+/** The part of a year from one date to another by a day count, as two numbers. */
+export function yearPart(kind, from, to) {
+  const room = open();
+  room.layers.calendar_day_count(address(room, ANSWER), kind, from, to);
+  return [0, 8].map((it) => Number(room.view.getBigInt64(ANSWER + it, true)));
+}
+
+/** The bytes of a text that is a recurrence rule; a TextError if it is none. */
+export function checkRule(text) {
+  const room = open();
+  const encoded = putText(room, text);
+  const [at, fault] = [TEXT, FAULT].map((it) => address(room, it));
+  if (!room.layers.calendar_rule_check(at, BigInt(encoded.length), fault)) {
+    throwFault(room, text, encoded, room.layers.calendar_rule_fault_text);
+  }
+  return encoded;
+}
+
+/** Puts a rule into the room, and answers what a function takes as its text. */
+function putRule(room, rule) {
+  room.bytes.set(rule, TEXT);
+  return [address(room, TEXT), BigInt(rule.length)];
+}
+
+/** The number of the first instance after a day of a rule that begins on a start; the number of no date if there is none. */
+export function nextInstance(rule, start, day) {
+  const room = open();
+  return room.layers.calendar_rule_next(...putRule(room, rule), start, day);
+}
+
+/** The number of the last instance before a day; the number of no date if there is none. */
+export function previousInstance(rule, start, day) {
+  const room = open();
+  return room.layers.calendar_rule_prev(...putRule(room, rule), start, day);
+}
+
+/** Whether a day is an instance of a rule that begins on a start. */
+export function isInstance(rule, start, day) {
+  const room = open();
+  return room.layers.calendar_rule_is_instance(...putRule(room, rule), start, day) !== 0;
+}
+
+/** The numbers of the first instances, at most `AT_ONCE`, from one day on and up to another. */
+export function instancesBetween(rule, start, from, until) {
+  const room = open();
+  const out = [address(room, DUE), BigInt(AT_ONCE)];
+  const count = Number(room.layers.calendar_rule_instances(...putRule(room, rule), start, from, until, ...out));
+  return Array.from({ length: count }, (_, index) => room.view.getInt32(DUE + 4 * index, true));
+}

@@ -1,0 +1,172 @@
+//! The functions of `calendar_layers.h`.
+
+use crate::calls::Moment;
+
+/// `calendar_fault`.
+#[repr(C)]
+#[derive(Clone, Copy, Debug, PartialEq, Eq, Hash)]
+pub(crate) struct Fault {
+    pub(crate) code: u32,
+    pub(crate) field: u32,
+    pub(crate) byte: usize,
+    pub(crate) end: usize,
+}
+
+impl Fault {
+    /// Nothing is wrong.
+    pub(crate) const NONE: Fault = Fault {
+        code: 0,
+        field: 0,
+        byte: 0,
+        end: 0,
+    };
+}
+
+/// `calendar_schedule`: its ten sets, in their order.
+#[repr(C)]
+#[derive(Clone, Copy, Debug, PartialEq, Eq, Hash)]
+pub(crate) struct Sets(pub(crate) [u64; 10]);
+
+/// `calendar_fraction`.
+#[repr(C)]
+#[derive(Clone, Copy, Debug, PartialEq, Eq, Hash)]
+pub(crate) struct Quotient {
+    pub(crate) numerator: i64,
+    pub(crate) denominator: i64,
+}
+
+// As in `calls`: a function is safe if it takes no pointer but references. Of one that takes a pointer, so many elements have to
+// lie there as the next argument says.
+unsafe extern "C" {
+    pub(crate) fn calendar_schedule_read(
+        text: *const u8,
+        length: usize,
+        schedule: &mut Sets,
+        fault: &mut Fault,
+    ) -> bool;
+    pub(crate) fn calendar_schedule_fault_text(fault: &Fault, text: *mut u8, room: usize) -> i32;
+    pub(crate) safe fn calendar_schedule_next(schedule: &Sets, start: Moment) -> Moment;
+    pub(crate) safe fn calendar_schedule_prev(schedule: &Sets, start: Moment) -> Moment;
+    pub(crate) safe fn calendar_schedule_is_due(schedule: &Sets, moment: Moment) -> bool;
+    pub(crate) fn calendar_schedule_due(
+        schedule: &Sets,
+        start: Moment,
+        until: Moment,
+        out: *mut Moment,
+        room: usize,
+    ) -> usize;
+    pub(crate) fn calendar_rule_check(text: *const u8, length: usize, fault: &mut Fault) -> bool;
+    pub(crate) fn calendar_rule_fault_text(fault: &Fault, text: *mut u8, room: usize) -> i32;
+    pub(crate) fn calendar_rule_next(text: *const u8, length: usize, start: i32, day: i32) -> i32;
+    pub(crate) fn calendar_rule_prev(text: *const u8, length: usize, start: i32, day: i32) -> i32;
+    pub(crate) fn calendar_rule_is_instance(
+        text: *const u8,
+        length: usize,
+        start: i32,
+        day: i32,
+    ) -> bool;
+    pub(crate) fn calendar_rule_instances(
+        text: *const u8,
+        length: usize,
+        start: i32,
+        from: i32,
+        until: i32,
+        out: *mut i32,
+        room: usize,
+    ) -> usize;
+    pub(crate) fn calendar_is_open_day(
+        weekend: u8,
+        holidays: *const i32,
+        count: usize,
+        date: i32,
+    ) -> bool;
+    pub(crate) fn calendar_add_open_days(
+        weekend: u8,
+        holidays: *const i32,
+        count: usize,
+        date: i32,
+        n: i64,
+    ) -> i32;
+    pub(crate) fn calendar_open_days_between(
+        weekend: u8,
+        holidays: *const i32,
+        count: usize,
+        from: i32,
+        to: i32,
+    ) -> i64;
+    pub(crate) fn calendar_roll(
+        weekend: u8,
+        holidays: *const i32,
+        count: usize,
+        date: i32,
+        roll: u32,
+    ) -> i32;
+    pub(crate) fn calendar_holidays_check(
+        weekend: u8,
+        holidays: *const i32,
+        count: usize,
+        fault: &mut Fault,
+    ) -> bool;
+    pub(crate) fn calendar_holidays_of(
+        which: u32,
+        first_year: i32,
+        last_year: i32,
+        weekend: u8,
+        out: *mut i32,
+        room: usize,
+    ) -> i32;
+    pub(crate) safe fn calendar_easter(year: i32) -> i32;
+    pub(crate) fn calendar_column_is_open_day(
+        weekend: u8,
+        holidays: *const i32,
+        count: usize,
+        dates: *const i32,
+        dates_length: usize,
+        marks: *mut u8,
+        marks_length: usize,
+    ) -> bool;
+    pub(crate) fn calendar_column_add_open_days(
+        weekend: u8,
+        holidays: *const i32,
+        count: usize,
+        dates: *const i32,
+        dates_length: usize,
+        n: i64,
+        moved: *mut i32,
+        moved_length: usize,
+    ) -> bool;
+    pub(crate) fn calendar_column_open_days_between(
+        weekend: u8,
+        holidays: *const i32,
+        count: usize,
+        from: *const i32,
+        from_length: usize,
+        to: *const i32,
+        to_length: usize,
+        days: *mut i64,
+        days_length: usize,
+    ) -> bool;
+    pub(crate) fn calendar_column_roll(
+        weekend: u8,
+        holidays: *const i32,
+        count: usize,
+        dates: *const i32,
+        dates_length: usize,
+        roll: u32,
+        rolled: *mut i32,
+        rolled_length: usize,
+    ) -> bool;
+    pub(crate) fn calendar_column_from_date32(
+        days: *const i32,
+        days_length: usize,
+        dates: *mut i32,
+        dates_length: usize,
+    ) -> bool;
+    pub(crate) fn calendar_column_to_date32(
+        dates: *const i32,
+        dates_length: usize,
+        days: *mut i32,
+        days_length: usize,
+    ) -> bool;
+    pub(crate) safe fn calendar_day_count(kind: u32, from: i32, to: i32) -> Quotient;
+}

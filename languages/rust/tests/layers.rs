@@ -1,0 +1,550 @@
+//! Calls every function of `calendar_layers.h` through this crate, with answers that are known from outside: a test for each
+//! function, named after it, and then what Rust adds.
+
+use proved_calendar::{
+    columns, BusinessCalendar, Date, DateTime, DayCount, KnownCalendar, Roll, Rule, Schedule,
+    Weekday, WeekdaySet,
+};
+use Weekday::{Fri, Sat, Sun};
+
+fn date(text: &str) -> Date {
+    text.parse().unwrap()
+}
+
+fn moment(text: &str) -> DateTime {
+    text.parse().unwrap()
+}
+
+fn schedule(text: &str) -> Schedule {
+    text.parse().unwrap()
+}
+
+fn text(found: Option<impl ToString>) -> String {
+    found.map_or_else(|| String::from("none"), |it| it.to_string())
+}
+
+/// The last second of the calendar.
+const END: &str = "+262142-12-31T23:59:59";
+
+#[test]
+fn schedule_read() {
+    for text in [
+        "30 4 1,15 * fri",
+        "0 0 L-3,15W,LW * 5L,7#2",
+        "@daily",
+        "*/15 9-17 * * mon-fri",
+    ] {
+        assert!(text.parse::<Schedule>().is_ok(), "{text}");
+    }
+    assert_eq!(schedule("30 4 15,1 * 5"), schedule("30 4 1,15 * fri"));
+    assert_ne!(schedule("30 4 1,15 * *"), schedule("30 4 1,15 * fri"));
+    for (text, field, start, end) in [
+        ("0 25,7 * * *", Some(2), 2, 4),
+        ("5,60 * * * *", Some(1), 2, 4),
+        ("* * * *", None, 7, 7),
+        ("* * * foo *", Some(4), 6, 9),
+        ("* * * * */0", Some(5), 10, 11),
+        ("* * * * * *", None, 10, 11),
+        ("", None, 0, 0),
+        ("@reboot", None, 0, 7),
+        ("0 ä,99 * * *", Some(2), 2, 4),
+    ] {
+        let wrong = text.parse::<Schedule>().unwrap_err();
+        assert_eq!(
+            (wrong.field(), wrong.start(), wrong.end()),
+            (field, start, end),
+            "{text}"
+        );
+    }
+}
+
+#[test]
+fn schedule_fault_text() {
+    for (text, sentence) in [
+        ("0 25 * * *", "hour, byte 2: a number that is out of range"),
+        ("* * * *", "byte 7: fewer than five fields"),
+        (
+            "0 0 30-2 * *",
+            "day of the month, byte 7: a range whose end is below its beginning",
+        ),
+    ] {
+        assert_eq!(text.parse::<Schedule>().unwrap_err().to_string(), sentence);
+    }
+    let wrong = "* * * *".parse::<Schedule>().unwrap_err();
+    assert_eq!(format!("{wrong:>32}|"), "  byte 7: fewer than five fields|");
+    let long = "9".repeat(5_000);
+    assert!(long.parse::<Schedule>().unwrap_err().to_string().len() > 20);
+}
+
+#[test]
+fn schedule_next() {
+    // 1 March 2024 is a Friday
+    let office = schedule("0 9 * * mon-fri");
+    for (start, wanted) in [
+        ("2024-03-01T00:00:00", "2024-03-01T09:00:00"),
+        ("2024-03-01T09:00:00", "2024-03-04T09:00:00"),
+        ("2024-03-01T08:59:59.999", "2024-03-01T09:00:00"),
+        (END, "none"),
+    ] {
+        assert_eq!(text(office.next_after(moment(start))), wanted);
+    }
+    assert_eq!(
+        text(schedule("0 0 29 2 *").next_after(moment("2096-02-29T00:00:00"))),
+        "2104-02-29T00:00:00"
+    );
+    assert_eq!(
+        schedule("0 0 30 2 *").next_after(moment("2024-03-01T00:00:00")),
+        None
+    );
+}
+
+#[test]
+fn schedule_prev() {
+    let office = schedule("0 9 * * mon-fri");
+    for (start, wanted) in [
+        ("2024-03-04T00:00:00", "2024-03-01T09:00:00"),
+        ("2024-03-01T09:00:00", "2024-02-29T09:00:00"),
+        ("-262143-01-01T00:00:00", "none"),
+    ] {
+        assert_eq!(text(office.prev_before(moment(start))), wanted);
+    }
+}
+
+#[test]
+fn schedule_is_due() {
+    let office = schedule("0 9 * * mon-fri");
+    for (at, wanted) in [
+        ("2024-03-01T09:00:00", true),
+        ("2024-03-01T09:00:30", false),
+        ("2024-03-01T09:00:00.001", false),
+        ("2024-03-02T09:00:00", false),
+    ] {
+        assert_eq!(office.is_due(moment(at)), wanted, "{at}");
+    }
+}
+
+#[test]
+fn schedule_due() {
+    let office = schedule("0 9 * * mon-fri");
+    let between = |until: &str| {
+        let found = office.between(moment("2024-03-01T00:00:00"), moment(until));
+        found.map(|it| it.to_string()).collect::<Vec<_>>().join(" ")
+    };
+    assert_eq!(
+        between("2024-03-05T00:00:00"),
+        "2024-03-01T09:00:00 2024-03-04T09:00:00"
+    );
+    assert_eq!(between("2024-03-01T09:00:00"), "2024-03-01T09:00:00");
+    assert_eq!(between("2024-03-01T08:59:59"), "");
+    assert_eq!(between("2024-02-01T00:00:00"), "");
+    // as many as are found at once, and some more
+    let minutes = schedule("* * * * *");
+    for count in [1, 2, 5, 6, 20, 21, 85, 86, 1_000] {
+        let start = moment("2024-02-29T23:00:00");
+        let until = Date::from_ymd(2024, 2, 29)
+            .unwrap()
+            .at(23, 0, 0, 0)
+            .unwrap();
+        let until = until
+            .checked_add(proved_calendar::Duration::from_seconds(60 * count).unwrap())
+            .unwrap();
+        let found: Vec<DateTime> = minutes.between(start, until).collect();
+        assert_eq!((found.len(), found.last()), (count as usize, Some(&until)));
+        assert!(found.windows(2).all(|it| it[0] < it[1]));
+    }
+}
+
+#[test]
+fn times_of_schedules() {
+    let rare = schedule("59 23 31 12 *");
+    let mut times = rare.after(moment("+262140-12-31T23:59:00"));
+    let years: Vec<i32> = times.by_ref().map(|it| it.date().year()).collect();
+    assert_eq!(years, [262_141, 262_142]);
+    assert_eq!((times.next(), times.next()), (None, None));
+    let leap_days = schedule("0 0 29 2 *").after(moment("2000-01-01T00:00:00"));
+    assert!(leap_days
+        .clone()
+        .take(200)
+        .zip(leap_days.skip(1))
+        .all(|(one, other)| one < other));
+}
+
+/// Good Friday and Easter Monday of 2024.
+fn easter_days() -> [Date; 2] {
+    [date("2024-03-29"), date("2024-04-01")]
+}
+
+fn weekend() -> WeekdaySet {
+    WeekdaySet::from([Sat, Sun])
+}
+
+#[test]
+fn is_open_day() {
+    let days = easter_days();
+    let calendar = BusinessCalendar::new(weekend(), &days).unwrap();
+    let open = [
+        "2024-03-28",
+        "2024-03-29",
+        "2024-03-30",
+        "2024-03-31",
+        "2024-04-01",
+        "2024-04-02",
+    ]
+    .map(|it| calendar.is_open(date(it)));
+    assert_eq!(open, [true, false, false, false, false, true]);
+    assert!(!BusinessCalendar::new(WeekdaySet::from([Fri]), &[])
+        .unwrap()
+        .is_open(days[0]));
+}
+
+#[test]
+fn add_open_days() {
+    let days = easter_days();
+    let calendar = BusinessCalendar::new(weekend(), &days).unwrap();
+    for (start, n, wanted) in [
+        ("2024-03-28", 1, "2024-04-02"),
+        ("2024-03-28", 2, "2024-04-03"),
+        ("2024-04-02", -1, "2024-03-28"),
+        ("2024-03-29", 0, "2024-04-02"),
+        ("2024-03-30", 1, "2024-04-02"),
+        ("2024-03-30", -1, "2024-03-28"),
+        ("2024-03-30", i64::MAX, "none"),
+        ("2024-03-30", i64::MIN, "none"),
+    ] {
+        assert_eq!(text(calendar.add_open_days(date(start), n)), wanted);
+    }
+    let closed = BusinessCalendar::new(WeekdaySet::from(Weekday::ALL), &[]).unwrap();
+    assert_eq!(closed.add_open_days(days[0], 0), None);
+}
+
+#[test]
+fn open_days_between() {
+    let days = easter_days();
+    let calendar = BusinessCalendar::new(weekend(), &days).unwrap();
+    let [first, last] = [date("2024-03-01"), date("2024-04-01")];
+    assert_eq!(
+        (
+            calendar.open_days(first, last),
+            calendar.open_days(last, first)
+        ),
+        (20, -20)
+    );
+    assert_eq!(
+        BusinessCalendar::new(weekend(), &[])
+            .unwrap()
+            .open_days(first, last),
+        21
+    );
+    assert_eq!(
+        BusinessCalendar::new(WeekdaySet::default(), &[])
+            .unwrap()
+            .open_days(Date::MIN, Date::MAX),
+        191_491_528
+    );
+}
+
+#[test]
+fn roll() {
+    let days = easter_days();
+    let calendar = BusinessCalendar::new(weekend(), &days).unwrap();
+    for (start, roll, wanted) in [
+        ("2024-03-29", Roll::Unadjusted, "2024-03-29"),
+        ("2024-03-29", Roll::Following, "2024-04-02"),
+        ("2024-03-29", Roll::Preceding, "2024-03-28"),
+        ("2024-03-31", Roll::ModifiedFollowing, "2024-03-28"),
+        ("2024-04-01", Roll::ModifiedPreceding, "2024-04-02"),
+        ("2024-03-31", Roll::NearestIsda, "2024-04-02"),
+        ("2024-03-29", Roll::NearestQuantLib, "2024-03-28"),
+        ("2024-03-28", Roll::Following, "2024-03-28"),
+    ] {
+        assert_eq!(text(calendar.roll(date(start), roll)), wanted, "{roll:?}");
+    }
+    let closed = BusinessCalendar::new(WeekdaySet::from(Weekday::ALL), &[]).unwrap();
+    assert_eq!(closed.roll(days[0], Roll::Following), None);
+}
+
+#[test]
+fn day_count() {
+    for (kind, from, to, numerator, denominator) in [
+        (DayCount::Actual360, "2024-01-31", "2024-03-01", 30, 360),
+        (
+            DayCount::Actual365Fixed,
+            "2024-01-31",
+            "2024-03-01",
+            30,
+            365,
+        ),
+        (DayCount::Thirty360, "2024-02-28", "2024-03-31", 33, 360),
+        (DayCount::ThirtyE360, "2024-02-28", "2024-03-31", 32, 360),
+        (DayCount::Actual360, "2024-03-01", "2024-01-31", -30, 360),
+    ] {
+        let found = kind.fraction(date(from), date(to));
+        assert_eq!(
+            found.numerator * denominator,
+            found.denominator * numerator,
+            "{kind:?}"
+        );
+    }
+    let part = DayCount::ActualActualIsda.fraction(date("2023-12-31"), date("2024-01-02"));
+    assert!((part.value() - (1.0 / 365.0 + 1.0 / 366.0)).abs() < 1e-15);
+}
+
+#[test]
+fn holidays_check() {
+    let days = easter_days();
+    let [friday, monday] = days;
+    let saturday = date("2024-03-30");
+    for (holidays, index, sentence) in [
+        (
+            &[monday, friday][..],
+            1,
+            "holiday 1 does not come after the one before",
+        ),
+        (
+            &[friday, friday],
+            1,
+            "holiday 1 does not come after the one before",
+        ),
+        (
+            &[friday, saturday, monday],
+            1,
+            "holiday 1 is on the weekend",
+        ),
+    ] {
+        let wrong = BusinessCalendar::new(weekend(), holidays).unwrap_err();
+        assert_eq!(
+            (wrong.index(), wrong.to_string().as_str()),
+            (index, sentence)
+        );
+    }
+    let most: Vec<Date> = (0..1_001)
+        .map(|it| Date::from_number(738_945 + it).unwrap())
+        .collect();
+    let none = WeekdaySet::default();
+    assert!(BusinessCalendar::new(none, &most[1..]).is_ok());
+    let wrong = BusinessCalendar::new(none, &most).unwrap_err();
+    assert_eq!(
+        (wrong.index(), wrong.to_string().as_str()),
+        (1_000, "holiday 1000 is one too many")
+    );
+    let calendar = BusinessCalendar::new(weekend(), &days).unwrap();
+    assert_eq!(
+        (calendar.weekend(), calendar.holidays()),
+        (weekend(), &days[..])
+    );
+}
+
+#[test]
+fn holidays_of() {
+    let mut out = [Date::MIN; 30];
+    let texts = |days: &[Date]| {
+        days.iter()
+            .map(|it| it.to_string())
+            .collect::<Vec<_>>()
+            .join(" ")
+    };
+    let target = KnownCalendar::Target
+        .holidays(2024..=2024, weekend(), &mut out)
+        .unwrap();
+    assert_eq!(
+        texts(target),
+        "2024-01-01 2024-03-29 2024-04-01 2024-05-01 2024-12-25 2024-12-26"
+    );
+    // (Independence Day of 2026 is a Saturday, and kept on Friday)
+    let federal = KnownCalendar::UsFederal
+        .holidays(2026..=2026, weekend(), &mut out)
+        .unwrap();
+    assert!(federal.contains(&date("2026-07-03")) && federal.len() == 11);
+    let england = KnownCalendar::EnglandAndWales
+        .holidays(2024..=2025, weekend(), &mut out)
+        .unwrap();
+    assert!(
+        england.contains(&date("2024-08-26"))
+            && england.contains(&date("2025-04-21"))
+            && england.len() == 16
+    );
+    assert_eq!(
+        KnownCalendar::Target.holidays(2024..=2024, weekend(), &mut out[..5]),
+        None
+    );
+    assert_eq!(
+        KnownCalendar::Target.holidays(300_000..=300_000, weekend(), &mut out),
+        None
+    );
+}
+
+#[test]
+fn easter() {
+    for (year, wanted) in [
+        (2024, "2024-03-31"),
+        (2025, "2025-04-20"),
+        (1961, "1961-04-02"),
+        (2038, "2038-04-25"),
+        (300_000, "none"),
+    ] {
+        assert_eq!(text(proved_calendar::easter(year)), wanted);
+    }
+}
+
+/// Days around Easter of 2024, and none.
+fn column() -> [i32; 5] {
+    ["2024-03-28", "2024-03-29", "2024-03-31", "2024-04-02"]
+        .map(|it| date(it).number())
+        .into_iter()
+        .chain([columns::NO_DATE])
+        .collect::<Vec<_>>()
+        .try_into()
+        .unwrap()
+}
+
+#[test]
+fn column_is_open_day() {
+    let days = easter_days();
+    let calendar = BusinessCalendar::new(weekend(), &days).unwrap();
+    let mut marks = [true; 5];
+    columns::is_open_day(&calendar, &column(), &mut marks);
+    assert_eq!(marks, [true, false, false, true, false]);
+}
+
+#[test]
+fn column_add_open_days() {
+    let days = easter_days();
+    let calendar = BusinessCalendar::new(weekend(), &days).unwrap();
+    let mut moved = [0; 5];
+    columns::add_open_days(&calendar, &column(), 1, &mut moved);
+    let [second, third] = [date("2024-04-02").number(), date("2024-04-03").number()];
+    assert_eq!(moved, [second, second, second, third, columns::NO_DATE]);
+}
+
+#[test]
+fn column_open_days_between() {
+    let days = easter_days();
+    let calendar = BusinessCalendar::new(weekend(), &days).unwrap();
+    let (mut counts, until) = ([0; 5], [date("2024-04-05").number(); 5]);
+    columns::open_days_between(&calendar, &column(), &until, &mut counts);
+    assert_eq!(counts, [4, 3, 3, 3, i64::MIN]);
+}
+
+#[test]
+fn column_roll() {
+    let days = easter_days();
+    let calendar = BusinessCalendar::new(weekend(), &days).unwrap();
+    let mut rolled = [0; 5];
+    columns::roll(&calendar, &column(), Roll::ModifiedFollowing, &mut rolled);
+    let [before, after] = [date("2024-03-28").number(), date("2024-04-02").number()];
+    assert_eq!(rolled, [before, before, before, after, columns::NO_DATE]);
+}
+
+#[test]
+fn column_from_date32() {
+    let mut dates = [0; 4];
+    columns::from_date32(&[0, -719_162, i32::MAX, i32::MIN], &mut dates);
+    assert_eq!(dates, [719_163, 1, columns::NO_DATE, columns::NO_DATE]);
+}
+
+#[test]
+fn column_to_date32() {
+    let mut days = [0; 3];
+    columns::to_date32(&[719_163, 1, columns::NO_DATE], &mut days);
+    assert_eq!(days, [0, -719_162, columns::NO_DATE]);
+}
+
+#[test]
+#[should_panic(expected = "different lengths")]
+fn columns_of_different_lengths() {
+    let calendar = BusinessCalendar::new(weekend(), &[]).unwrap();
+    columns::is_open_day(&calendar, &column(), &mut [false; 4]);
+}
+
+fn rule(text: &str) -> Rule {
+    text.parse().unwrap()
+}
+
+#[test]
+fn rule_check() {
+    for text in [
+        "FREQ=MONTHLY;BYDAY=-1FR",
+        "freq=daily;count=3",
+        "FREQ=YEARLY;BYWEEKNO=20;BYDAY=MO",
+    ] {
+        assert_eq!(rule(text).to_string(), text);
+    }
+    for (text, start, end) in [
+        ("FREQ=YEARLY;BYMONTH=13", 20, 22),
+        ("FREQ=DAILY;BYMONTH=1,13,2", 21, 23),
+        ("", 0, 0),
+    ] {
+        let wrong = text.parse::<Rule>().unwrap_err();
+        assert_eq!((wrong.start(), wrong.end()), (start, end), "{text}");
+    }
+}
+
+#[test]
+fn rule_fault_text() {
+    let wrong = "FREQ=YEARLY;BYMONTH=13".parse::<Rule>().unwrap_err();
+    assert_eq!(wrong.to_string(), "BYMONTH: number out of range");
+    assert_eq!(wrong.field(), Some(5));
+}
+
+#[test]
+fn rule_next() {
+    let fridays = rule("FREQ=MONTHLY;BYDAY=-1FR");
+    let start = date("2024-01-01");
+    for (day, wanted) in [
+        ("2024-01-01", "2024-01-26"),
+        ("2024-01-26", "2024-02-23"),
+        ("2023-01-01", "2024-01-26"),
+        ("+262142-12-31", "none"),
+    ] {
+        assert_eq!(text(fridays.next_after(start, date(day))), wanted);
+    }
+    assert_eq!(
+        rule("FREQ=DAILY;COUNT=3").next_after(start, date("2024-01-03")),
+        None
+    );
+}
+
+#[test]
+fn rule_prev() {
+    let fridays = rule("FREQ=MONTHLY;BYDAY=-1FR");
+    let start = date("2024-01-01");
+    for (day, wanted) in [
+        ("2024-03-01", "2024-02-23"),
+        ("2024-02-23", "2024-01-26"),
+        ("2024-01-26", "none"),
+    ] {
+        assert_eq!(text(fridays.prev_before(start, date(day))), wanted);
+    }
+}
+
+#[test]
+fn rule_is_instance() {
+    let thirty_first = rule("FREQ=MONTHLY;BYMONTHDAY=31");
+    let days = ["2024-01-31", "2024-02-29", "2024-03-31", "2023-12-31"]
+        .map(|it| thirty_first.is_instance(date("2024-01-01"), date(it)));
+    assert_eq!(days, [true, false, true, false]);
+}
+
+#[test]
+fn rule_instances() {
+    let daily = rule("FREQ=DAILY");
+    let start = date("2024-02-01");
+    for count in [1, 2, 5, 6, 20, 21, 85, 86, 1_000] {
+        let until = start.checked_add_days(count - 1).unwrap();
+        let found: Vec<Date> = daily.instances_between(start, start, until).collect();
+        assert_eq!((found.len(), found.last()), (count as usize, Some(&until)));
+        assert!(found.windows(2).all(|it| it[1] - it[0] == 1));
+    }
+    let shown = daily.instances_between(start, date("2024-02-28"), date("2024-03-01"));
+    assert_eq!(shown.map(|it| it.day()).collect::<Vec<_>>(), [28, 29, 1]);
+    assert_eq!(
+        rule("FREQ=WEEKLY;COUNT=3")
+            .instances(start)
+            .map(|it| it.day())
+            .collect::<Vec<_>>(),
+        [1, 8, 15]
+    );
+    assert_eq!(daily.instances(Date::MAX).collect::<Vec<_>>(), [Date::MAX]);
+    let mut none = daily.instances_between(start, date("2024-01-01"), date("2024-01-31"));
+    assert_eq!((none.next(), none.next()), (None, None));
+}
