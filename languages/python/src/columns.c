@@ -51,7 +51,7 @@ INLINE void dates_of(int64_t day, const int64_t *times, size_t count, int32_t *d
 /* A time of a date; none if there is no date, or 64 bits cannot hold it. */
 static int64_t held(wide time, int32_t date)
 {
-    bool is_held = date != CALENDAR_NONE && NONE < time && time <= INT64_MAX;
+    bool is_held = date != CALENDAR_NONE && NONE <= time && time <= INT64_MAX;
     return is_held ? (int64_t)time : NONE;
 }
 
@@ -86,8 +86,9 @@ static calendar_date_time moment_of_time(int64_t time, int64_t day)
 {
     calendar_date_time moment = {0, CALENDAR_NO_NANOS};
     if (day < DAY_OF_SECONDS) {
+        /* (none is the least number, which is far too) */
         bool is_far = __builtin_mul_overflow(time, DAY_OF_SECONDS / day, &moment.seconds);
-        moment.nanos = is_far || time == NONE ? CALENDAR_NO_NANOS : 0;
+        moment.nanos = is_far ? CALENDAR_NO_NANOS : 0;
     } else if (time != NONE) {
         int64_t units = day / DAY_OF_SECONDS;
         moment.seconds = floored(time, units);

@@ -163,7 +163,7 @@ class Names(Columns):
             self.assertEqual(columns.from_texts(found, numpy.int32).tolist(), [NONE if it is None else it for it in back])
 
     def test_wrong_texts(self):
-        wrong = ["", "2024-02-30", "2024-02-2", "2024-02-291", "2024/02/29", "٢٠٢٤-02-29", "2024-02-29 ", "20240229", " 2024-02-29", "\0" + "2024-02-29"]
+        wrong = ["", "2024-02-30", "2024-02-2", "2024-02-291", "2024/02/29", "٢٠٢٤-02-29", "\u0132\u0130\u0132\u0134-02-29", "2024-02-29 ", "20240229", " 2024-02-29", "\0" + "2024-02-29"]
         for texts in (numpy.array(wrong), numpy.array([it.encode() for it in wrong])):
             self.assertEqual(columns.from_texts(texts).astype(str).tolist(), ["NaT"] * len(wrong))
         mixed = numpy.array(["2024-02-29", "2024-02-291", "2024-02-2"])
@@ -416,7 +416,7 @@ class Times(Columns):
 
     def test_wrong_texts(self):
         wrong = ["", "2024-02-29", "2024-02-30T00:00:00", "2016-12-31T23:59:60", "1600-01-01T00:00:00", "2024-02-29T24:00:00", "x",
-                 "2024-02-29T00:00:00Z", "٢٠٢٤-02-29T00:00:00", " 2024-02-29T00:00:00", "2024-02-29T00:00:00 "]
+                 "2024-02-29T00:00:00Z", "٢٠٢٤-02-29T00:00:00", "\u0132\u0130\u0132\u0134-02-29T00:00:00", " 2024-02-29T00:00:00", "2024-02-29T00:00:00 "]
         for texts in (numpy.array(wrong), numpy.array([it.encode() for it in wrong])):
             self.assertTrue(numpy.isnat(columns.from_time_texts(texts)).all())
         self.assertEqual(columns.from_time_texts(numpy.array(["2024-02-29 00:00:00.5"])).astype(str).tolist(), ["2024-02-29T00:00:00.500000000"])
@@ -511,6 +511,15 @@ class Arrays(Columns):
                 self.assertTrue(numpy.isnat(CALLS[name](nothing)).all(), (name, unit))
             self.assertEqual(columns.texts(nothing).tolist(), [b""] * 3)
             self.assertEqual(columns.fields(nothing).years.tolist(), [NONE] * 3)
+
+    def test_beyond_the_calendar(self):
+        """Times before the first date and after the last one are none, and the first and the last time of the calendar are dates."""
+        for unit, day in UNITS.items():
+            ends = [(FIRST - EPOCH) * day, (LAST + 1 - EPOCH) * day - 1]
+            if ends[1] < 2**63:
+                far = [ends[0] - 1, ends[1] + 1, NAT + 1, 2**63 - 1, 2**32 * day, -(2**32) * day]
+                array = numpy.array([it for it in far if NAT < it < 2**63] + ends).view(f"M8[{unit}]")
+                self.assertEqual(columns.is_date(array).tolist(), [False] * (array.size - 2) + [True] * 2)
 
     def test_wrong_types(self):
         wrong = [
