@@ -43,7 +43,7 @@ CHRONO, PROMISES, ARCHITECTURE, PROVING = "docs/chrono.md", "docs/promises.md", 
 LEFT_OUT = (".git", "out", "dist", "target", "__pycache__")
 # The comments of each kind of source.
 COMMENTS = {".rt": r"//[^\n]*", ".rs": r"//[^\n]*", ".antt": r"--[^\n]*", ".c": r"//[^\n]*|/\*.*?\*/", ".h": r"//[^\n]*|/\*.*?\*/",
-            ".py": r'""".*?"""|#[^\n]*', ".pyi": r"#[^\n]*", ".toml": r"#[^\n]*", ".js": r"//[^\n]*|/\*.*?\*/", ".ts": r"//[^\n]*|/\*.*?\*/"}
+            ".py": r'""".*?"""|#[^\n]*', ".pyi": r"#[^\n]*", ".toml": r"#[^\n]*", ".js": r"//[^\n]*|/\*.*?\*/", ".ts": r"//[^\n]*|/\*.*?\*/", ".sql": r"--[^\n]*"}
 # Names that no source declares, by the reason.
 ABSENT = {
     "of Rust and its std": """From Display DoubleEndedIterator String Drop Eq const std FromIterator FromPrimitive FromStr Hash
@@ -53,7 +53,8 @@ ABSENT = {
     "of pandas and Dask": "NA OutOfBoundsDatetime Client compute",
     "of Python": "OverflowError TypeError ValueError datetime timedelta __slots__ __getstate__",
     "of JavaScript": "BigInt calendarName PlainTime ZonedDateTime iso8601 RangeError Temporal overflow wasm-opt",
-    "of earlier versions": "check_rule check_schedule Nearest Roll::Nearest",
+    "of earlier versions": "check_rule check_schedule Roll::Nearest",
+    "of SQL, and of texts that it is given": "timestamptz STRICT IMMUTABLE STABLE nearest-isda nearest-quantlib",
     "of C": "int32_t memcpy",
     "of Rust's compiler and of the kit's options": "ConversionError serde",
     "read from the environment": "CALENDAR_FOLDER CMAKE_PREFIX_PATH PKG_CONFIG_PATH TZ TZDIR",
@@ -71,7 +72,8 @@ ABSENT = {
 }
 # Files and folders that are rightly not there, by the reason.
 NO_FILES = {
-    "left by a build": "dist crates/caltool/out/caltool crates/dates/out/dates out out/libcalendar_c.a",
+    "left by a build": "dist dist/postgresql crates/caltool/out/caltool crates/dates/out/dates out out/libcalendar_c.a",
+    "a day count": "actual/actual actual/360 actual/365 30/360 30e/360",
     "where a package is installed": """
         include/calendar.h include/calendar_layers.h lib/libcalendar-v3.a lib/libcalendar.a lib/libcalendar.so
         lib/libcalendar_layers.a lib/libcalendar_layers.so libcalendar-v3.a lib/pkgconfig lib/cmake/calendar /usr/local/lib""",
@@ -100,6 +102,7 @@ DECLARED = {
     ".pyi": re.compile(r"^ *(?:def|class) (\w+)", re.M),
     ".ts": re.compile(r"\b(?:function|class|const|readonly|get|static) (\w+)|^ +(\w+)\(", re.M),
     ".toml": re.compile(r'^name = "([\w-]+)"', re.M),
+    ".sql": re.compile(r"^CREATE (?:FUNCTION|TABLE) (\w+)", re.M),
     ".js": re.compile(r"^(?:export )?(?:class|function|const) (\w+)|^  (?:static )?(?:get )?(\w+)\(|^  \"(\w+)\",$", re.M),
 }
 # The blocks of types and of traits.
