@@ -4,6 +4,8 @@ complete -c dates -n '__fish_seen_subcommand_from add' -l calendar -r -a 'us-fed
 complete -c dates -n '__fish_seen_subcommand_from add' -l holidays -r -a ''
 complete -c dates -n '__fish_seen_subcommand_from add' -l zone -r -a ''
 complete -c dates -n '__fish_seen_subcommand_from add' -l unix
+complete -c dates -n '__fish_seen_subcommand_from add' -l parse -r -a ''
+complete -c dates -n '__fish_seen_subcommand_from add' -l format -r -a ''
 complete -c dates -n '__fish_seen_subcommand_from add' -l json
 complete -c dates -n '__fish_seen_subcommand_from add' -l help
 complete -c dates -n __fish_use_subcommand -a diff -d 'print the days or whole units between two days'
@@ -12,18 +14,23 @@ complete -c dates -n '__fish_seen_subcommand_from diff' -l calendar -r -a 'us-fe
 complete -c dates -n '__fish_seen_subcommand_from diff' -l holidays -r -a ''
 complete -c dates -n '__fish_seen_subcommand_from diff' -l zone -r -a ''
 complete -c dates -n '__fish_seen_subcommand_from diff' -l unix
+complete -c dates -n '__fish_seen_subcommand_from diff' -l parse -r -a ''
 complete -c dates -n '__fish_seen_subcommand_from diff' -l json
 complete -c dates -n '__fish_seen_subcommand_from diff' -l help
 complete -c dates -n __fish_use_subcommand -a seq -d 'print the days from one to another'
+complete -c dates -n '__fish_seen_subcommand_from seq' -l parse -r -a ''
+complete -c dates -n '__fish_seen_subcommand_from seq' -l format -r -a ''
 complete -c dates -n '__fish_seen_subcommand_from seq' -l json
 complete -c dates -n '__fish_seen_subcommand_from seq' -l help
 complete -c dates -n __fish_use_subcommand -a week -d 'print the first and the last day of a week'
 complete -c dates -n '__fish_seen_subcommand_from week' -l json
 complete -c dates -n '__fish_seen_subcommand_from week' -l help
 complete -c dates -n __fish_use_subcommand -a weekday -d 'print the weekday of a day'
+complete -c dates -n '__fish_seen_subcommand_from weekday' -l parse -r -a ''
 complete -c dates -n '__fish_seen_subcommand_from weekday' -l json
 complete -c dates -n '__fish_seen_subcommand_from weekday' -l help
 complete -c dates -n __fish_use_subcommand -a easter -d 'print Easter Sunday of a year'
+complete -c dates -n '__fish_seen_subcommand_from easter' -l format -r -a ''
 complete -c dates -n '__fish_seen_subcommand_from easter' -l json
 complete -c dates -n '__fish_seen_subcommand_from easter' -l help
 complete -c dates -n __fish_use_subcommand -a leap -d 'print whether a year is a leap year'
@@ -33,15 +40,19 @@ complete -c dates -n __fish_use_subcommand -a open -d 'print whether a day is op
 complete -c dates -n '__fish_seen_subcommand_from open' -l weekend -r -a 'mon tue wed thu fri sat sun none '
 complete -c dates -n '__fish_seen_subcommand_from open' -l calendar -r -a 'us-federal target england '
 complete -c dates -n '__fish_seen_subcommand_from open' -l holidays -r -a ''
+complete -c dates -n '__fish_seen_subcommand_from open' -l parse -r -a ''
 complete -c dates -n '__fish_seen_subcommand_from open' -l json
 complete -c dates -n '__fish_seen_subcommand_from open' -l help
 complete -c dates -n __fish_use_subcommand -a roll -d 'print where a closed day goes'
 complete -c dates -n '__fish_seen_subcommand_from roll' -l weekend -r -a 'mon tue wed thu fri sat sun none '
 complete -c dates -n '__fish_seen_subcommand_from roll' -l calendar -r -a 'us-federal target england '
 complete -c dates -n '__fish_seen_subcommand_from roll' -l holidays -r -a ''
+complete -c dates -n '__fish_seen_subcommand_from roll' -l parse -r -a ''
+complete -c dates -n '__fish_seen_subcommand_from roll' -l format -r -a ''
 complete -c dates -n '__fish_seen_subcommand_from roll' -l json
 complete -c dates -n '__fish_seen_subcommand_from roll' -l help
 complete -c dates -n __fish_use_subcommand -a check -d 'print the lines that are no days, and why'
+complete -c dates -n '__fish_seen_subcommand_from check' -l parse -r -a ''
 complete -c dates -n '__fish_seen_subcommand_from check' -l json
 complete -c dates -n '__fish_seen_subcommand_from check' -l help
 complete -c dates -n __fish_use_subcommand -a next -d 'print when a schedule is due next'
@@ -49,6 +60,8 @@ complete -c dates -n '__fish_seen_subcommand_from next' -l from -r -a ''
 complete -c dates -n '__fish_seen_subcommand_from next' -l count -r -a ''
 complete -c dates -n '__fish_seen_subcommand_from next' -l zone -r -a ''
 complete -c dates -n '__fish_seen_subcommand_from next' -l unix
+complete -c dates -n '__fish_seen_subcommand_from next' -l parse -r -a ''
+complete -c dates -n '__fish_seen_subcommand_from next' -l format -r -a ''
 complete -c dates -n '__fish_seen_subcommand_from next' -l json
 complete -c dates -n '__fish_seen_subcommand_from next' -l help
 complete -c dates -n __fish_use_subcommand -a prev -d 'print when a schedule was due before'
@@ -56,12 +69,16 @@ complete -c dates -n '__fish_seen_subcommand_from prev' -l from -r -a ''
 complete -c dates -n '__fish_seen_subcommand_from prev' -l count -r -a ''
 complete -c dates -n '__fish_seen_subcommand_from prev' -l zone -r -a ''
 complete -c dates -n '__fish_seen_subcommand_from prev' -l unix
+complete -c dates -n '__fish_seen_subcommand_from prev' -l parse -r -a ''
+complete -c dates -n '__fish_seen_subcommand_from prev' -l format -r -a ''
 complete -c dates -n '__fish_seen_subcommand_from prev' -l json
 complete -c dates -n '__fish_seen_subcommand_from prev' -l help
 complete -c dates -n __fish_use_subcommand -a rule -d 'print the instances of a recurrence rule'
 complete -c dates -n '__fish_seen_subcommand_from rule' -l start -r -a ''
 complete -c dates -n '__fish_seen_subcommand_from rule' -l from -r -a ''
 complete -c dates -n '__fish_seen_subcommand_from rule' -l count -r -a ''
+complete -c dates -n '__fish_seen_subcommand_from rule' -l parse -r -a ''
+complete -c dates -n '__fish_seen_subcommand_from rule' -l format -r -a ''
 complete -c dates -n '__fish_seen_subcommand_from rule' -l json
 complete -c dates -n '__fish_seen_subcommand_from rule' -l help
 complete -c dates -n __fish_use_subcommand -a cal -d 'print a month or a year as a sheet'
@@ -74,18 +91,33 @@ complete -c dates -n '__fish_seen_subcommand_from cal' -l help
 complete -c dates -n __fish_use_subcommand -a now -d 'print what time it is, to the second'
 complete -c dates -n '__fish_seen_subcommand_from now' -l zone -r -a ''
 complete -c dates -n '__fish_seen_subcommand_from now' -l unix
+complete -c dates -n '__fish_seen_subcommand_from now' -l format -r -a ''
 complete -c dates -n '__fish_seen_subcommand_from now' -l json
 complete -c dates -n '__fish_seen_subcommand_from now' -l help
 complete -c dates -n __fish_use_subcommand -a today -d 'print what day it is'
 complete -c dates -n '__fish_seen_subcommand_from today' -l zone -r -a ''
+complete -c dates -n '__fish_seen_subcommand_from today' -l format -r -a ''
 complete -c dates -n '__fish_seen_subcommand_from today' -l json
 complete -c dates -n '__fish_seen_subcommand_from today' -l help
+complete -c dates -n __fish_use_subcommand -a format -d 'print a day or a date-time by a pattern'
+complete -c dates -n '__fish_seen_subcommand_from format' -l zone -r -a ''
+complete -c dates -n '__fish_seen_subcommand_from format' -l unix
+complete -c dates -n '__fish_seen_subcommand_from format' -l parse -r -a ''
+complete -c dates -n '__fish_seen_subcommand_from format' -l json
+complete -c dates -n '__fish_seen_subcommand_from format' -l help
+complete -c dates -n __fish_use_subcommand -a parse -d 'read a day or a date-time by a pattern'
+complete -c dates -n '__fish_seen_subcommand_from parse' -l format -r -a ''
+complete -c dates -n '__fish_seen_subcommand_from parse' -l json
+complete -c dates -n '__fish_seen_subcommand_from parse' -l help
 complete -c dates -n __fish_use_subcommand -a in -d 'print what a time zone's clock shows'
 complete -c dates -n '__fish_seen_subcommand_from in' -l from-zone -r -a ''
 complete -c dates -n '__fish_seen_subcommand_from in' -l unix
+complete -c dates -n '__fish_seen_subcommand_from in' -l parse -r -a ''
+complete -c dates -n '__fish_seen_subcommand_from in' -l format -r -a ''
 complete -c dates -n '__fish_seen_subcommand_from in' -l json
 complete -c dates -n '__fish_seen_subcommand_from in' -l help
 complete -c dates -n __fish_use_subcommand -a zone -d 'print when a time zone's clock is set'
 complete -c dates -n '__fish_seen_subcommand_from zone' -l year -r -a ''
+complete -c dates -n '__fish_seen_subcommand_from zone' -l format -r -a ''
 complete -c dates -n '__fish_seen_subcommand_from zone' -l json
 complete -c dates -n '__fish_seen_subcommand_from zone' -l help
