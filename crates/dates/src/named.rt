@@ -80,14 +80,14 @@ fn asks_clock(command: &CommandRow, words: &Arguments<'_>) -> bool {
         .operands
         .as_slice()
         .iter()
-        .any(|word| is_named(word.text))
+        .any(|word| is_named(word.text.as_bytes()))
     {
         return true;
     }
     for option in command.options {
         if option.value == "TIME" || option.value == "DAY" {
             if let Some(word) = words.value(command.options, option.name) {
-                if is_named(word.text) {
+                if is_named(word.text.as_bytes()) {
                     return true;
                 }
             }
@@ -96,12 +96,18 @@ fn asks_clock(command: &CommandRow, words: &Arguments<'_>) -> bool {
     false
 }
 
-// Whether a text names a day by the clock.
-fn is_named(text: &str) -> bool {
+// Whether a text names a day, or the time, by the clock.
+pub(crate) fn is_named(text: &[u8]) -> bool {
     match text {
-        "now" | "today" | "tomorrow" | "yesterday" => true,
-        _ => read_weekday(weekday_in(text.as_bytes()).0).is_ok(),
+        b"now" | b"today" | b"tomorrow" | b"yesterday" => true,
+        _ => read_weekday(weekday_in(text).0).is_ok(),
     }
+}
+
+// The day, or the time, that a text names by the clock, if there is one.
+pub(crate) fn read_named(now: Now, text: &[u8]) -> Result<Start, ReadError> {
+    let cause = ReadCause::DateOutOfRange;
+    named_by(now, text).ok_or(ReadError { cause, byte: 0 })
 }
 
 // The name of a weekday in a text, and whether `last` stands in front of it.
@@ -112,8 +118,8 @@ fn weekday_in(text: &[u8]) -> (&[u8], bool) {
     }
 }
 
-// The day, or the time, that a text names by the clock.
-pub(crate) fn named_by(now: Now, text: &[u8]) -> Option<Start> {
+// The day, or the time, that a text names.
+fn named_by(now: Now, text: &[u8]) -> Option<Start> {
     let stamp = now.stamp()?;
     let moment = stamp.naive_local();
     let today = moment.date();

@@ -62,14 +62,12 @@ impl<'a> InstantForm<'a> {
     // The day, the date-time or the instant that a text names; by seconds an instant alone.
     pub(crate) fn read(self, text: &[u8]) -> Result<Start, Unreadable> {
         match self {
-            InstantForm::Text(now) => match named(now, text) {
-                Some(start) => Ok(start),
-                None => Ok(read_start(text)?),
-            },
-            InstantForm::Seconds(now) => match named_instant(now, text) {
-                Some(start) => Ok(start),
-                None => Ok(read_instant(text)?),
-            },
+            InstantForm::Text(Some(now)) if is_named(text) => Ok(read_named(now, text)?),
+            InstantForm::Text(_) => Ok(read_start(text)?),
+            InstantForm::Seconds(Some(now)) if text == b"now".as_slice() => {
+                Ok(read_named(now, text)?)
+            }
+            InstantForm::Seconds(_) => Ok(read_instant(text)?),
             InstantForm::Pattern(pattern) => Ok(read_by(pattern, text)?),
         }
     }
@@ -122,19 +120,6 @@ impl<'a> InstantForm<'a> {
             _ => Reply::Nothing(Key::Moment),
         }
     }
-}
-
-// The instant of `now`, if that is the text.
-fn named_instant(now: Option<Now>, text: &[u8]) -> Option<Start> {
-    if text == b"now".as_slice() {
-        return Some(Start::Stamp(now?.stamp()?));
-    }
-    None
-}
-
-// The day, or the time, that a text names by what the clock shows, if that is known.
-fn named(now: Option<Now>, text: &[u8]) -> Option<Start> {
-    named_by(now?, text)
 }
 
 // What is wrong with a word that cannot be read: that something else was expected, or that there is no such day or time.
