@@ -6,7 +6,7 @@ use dates_answer::moved;
 pub(crate) fn command() -> CommandRow {
     row!(
         "add", &[DAY_OR_LINES, operand!("SPAN"; many: true)], 
-        &[WEEKEND, CALENDAR, HOLIDAYS, ZONED, UNIX, PARSE, FORMAT, JSON, HELP];
+        &[WEEKEND, CALENDAR, HOLIDAYS, ZONED, NOW, UNIX, PARSE, FORMAT, JSON, HELP];
         help: "move a day or a date-time by each span in turn",
         more: "A SPAN is a whole number of days, weeks, months or years, as 3d, -2w, 1mo and\n\
             4y, or of open days, as 5b. Of a day, 1m is 1mo too.\n\

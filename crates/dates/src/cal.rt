@@ -7,7 +7,7 @@ use chrono_text::read_year;
 use dates_answer::{DayObject, MonthSheet};
 
 const FIRST: Opt = option!(
-    "--first", "DAY"; "on which weekday weeks begin (default: mon)",
+    "--first", "WEEKDAY"; "on which weekday weeks begin (default: mon)",
     values: WEEKDAYS, default: "mon"
 );
 

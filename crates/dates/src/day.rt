@@ -16,7 +16,7 @@ const COMPLETION: Opt = option!(
 
 /// The options that stand without the name of a command.
 pub(crate) const OPTIONS: &[Opt] = &[
-    PARSE, FORMAT, JSON, HELP, VERSION, MAN, REFERENCE, COMPLETION,
+    NOW, PARSE, FORMAT, JSON, HELP, VERSION, MAN, REFERENCE, COMPLETION,
 ];
 
 // What the program does without the name of a command.

@@ -10,7 +10,7 @@ const UNIT: Operand = operand!("UNIT"; keyword: "in", values: UNITS, required: f
 pub(crate) fn command() -> CommandRow {
     row!(
         "diff", &[DAY, DAY_OR_LINES, UNIT],
-        &[WEEKEND, CALENDAR, HOLIDAYS, ZONED, UNIX, PARSE, JSON, HELP];
+        &[WEEKEND, CALENDAR, HOLIDAYS, ZONED, NOW, UNIX, PARSE, JSON, HELP];
         help: "print the days or whole units between two days",
         more: "A UNIT is d, w, m or mo, y, b or ymd: days, weeks, months, years, open days, or\n\
             years, months and days. It goes back where the second day is the earlier.\n\
@@ -175,7 +175,12 @@ fn check_options<'a>(words: &Arguments<'a>, measure: Measure) -> Result<(), Faul
         let name = given.option.name;
         match measure {
             Measure::OpenDays => {}
-            _ if name == "--json" || name == "--unix" || name == "--zone" || name == "--parse" => {}
+            _
+                if name == "--json"
+                    || name == "--unix"
+                    || name == "--zone"
+                    || name == "--parse"
+                    || name == "--now" => {}
             _ => return Err(Fault::expected(given.value, "no such option without 'in b'")),
         }
     }

@@ -4,10 +4,10 @@ use crate::prelude::*;
 use zoned_cron::{Policy, Schedule, ZonedSchedule, read_schedule};
 
 const AFTER: Opt =
-    option!("--from", "TIME"; "after which date-time, as 2024-02-29T04:30", required: true);
+    option!("--from", "TIME"; "after which date-time, as 2024-02-29T04:30\n(default: now)", default: "now");
 
 const BEFORE: Opt =
-    option!("--from", "TIME"; "before which date-time, as 2024-02-29T04:30", required: true);
+    option!("--from", "TIME"; "before which date-time, as 2024-02-29T04:30\n(default: now)", default: "now");
 
 const HOW_MANY: Opt =
     option!("--count", "N"; "how many are printed, a line each (default: 1)", default: "1");
@@ -33,7 +33,7 @@ const PREV: &str = "prev";
 
 pub(crate) fn next() -> CommandRow {
     row!(
-        "next", &[operand!("CRON")], &[AFTER, HOW_MANY, BY_CLOCK, UNIX, PARSE, FORMAT, JSON, HELP];
+        "next", &[operand!("CRON")], &[AFTER, HOW_MANY, BY_CLOCK, NOW, UNIX, PARSE, FORMAT, JSON, HELP];
         help: "print when a schedule is due next",
         more: MORE,
         example: "$ dates next '0 9 * * 5#3' --from 2024-03-01T00:00\n2024-03-15T09:00:00"
@@ -43,7 +43,9 @@ pub(crate) fn next() -> CommandRow {
 pub(crate) fn prev() -> CommandRow {
     CommandRow {
         name: PREV,
-        options: &[BEFORE, HOW_MANY, BY_CLOCK, UNIX, PARSE, FORMAT, JSON, HELP],
+        options: &[
+            BEFORE, HOW_MANY, BY_CLOCK, NOW, UNIX, PARSE, FORMAT, JSON, HELP,
+        ],
         help: "print when a schedule was due before",
         example: "$ dates prev '0 0 L * *' --from 2024-03-15T00:00\n2024-02-29T00:00:00",
         ..next()
@@ -54,7 +56,7 @@ pub(crate) fn prev() -> CommandRow {
 pub(crate) fn answer<'a>(rt: &HostRuntime, asked: &Asked<'a>, none: &mut Reply) -> Answered<'a> {
     let form = asked.reading;
     *none = match form {
-        InstantForm::Seconds => form.no_moment(),
+        InstantForm::Seconds(_) => form.no_moment(),
         _ if asked.words.has("--zone") => Reply::NoClock,
         _ => form.no_moment(),
     };
@@ -86,7 +88,7 @@ fn print_due(
     due: &Start,
 ) -> io::Result<u8> {
     match (instants.form, &instants.zone, *due) {
-        (InstantForm::Seconds, _, _) => print_reply(rt, form, instants.form.reply(*due)),
+        (InstantForm::Seconds(_), _, _) => print_reply(rt, form, instants.form.reply(*due)),
         (_, Some(zone), Start::Stamp(stamp)) => print_in(rt, form, zone, stamp),
         (reading, _, _) => print_reply(rt, form, reading.reply(*due)),
     }

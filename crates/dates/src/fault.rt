@@ -293,6 +293,9 @@ fn near_name(
             for command in &commands() {
                 names.push(command.name)?;
             }
+            for name in ["tomorrow", "yesterday"] {
+                names.push(name)?;
+            }
         }
         Cause::NoOption => {
             for option in command.options {

@@ -15,7 +15,7 @@ const PATTERNS: &str =
 
 pub(crate) fn format() -> CommandRow {
     row!(
-        "format", &[PATTERN, DAY_OR_LINES], &[ZONED, UNIX, PARSE, JSON, HELP];
+        "format", &[PATTERN, DAY_OR_LINES], &[ZONED, NOW, UNIX, PARSE, JSON, HELP];
         help: "print a day or a date-time by a pattern",
         more: PATTERNS,
         example: "$ dates format '%A, %-d %B %Y' 2024-02-29\nThursday, 29 February 2024"

@@ -67,6 +67,7 @@ mod holidays;
 mod in_zone;
 mod leap;
 mod lines;
+mod named;
 mod now;
 mod open;
 mod options;

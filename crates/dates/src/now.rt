@@ -1,14 +1,13 @@
 //! What time it is.
 
 use crate::prelude::*;
-use std::time::SystemTime;
 
 // The command that prints the day alone.
 const TODAY: &str = "today";
 
 pub(crate) fn now() -> CommandRow {
     row!(
-        "now", &[], &[IN_ZONE, UNIX, FORMAT, JSON, HELP];
+        "now", &[], &[IN_ZONE, NOW, UNIX, FORMAT, JSON, HELP];
         help: "print what time it is, to the second",
         more: ZONES,
         example: "$ dates now --zone UTC | cut -c 20-\n+00:00"
@@ -18,7 +17,7 @@ pub(crate) fn now() -> CommandRow {
 pub(crate) fn today() -> CommandRow {
     CommandRow {
         name: TODAY,
-        options: &[IN_ZONE, FORMAT, JSON, HELP],
+        options: &[IN_ZONE, NOW, FORMAT, JSON, HELP],
         help: "print what day it is",
         example: "$ dates today --zone Asia/Tokyo | wc -c\n11",
         ..now()
@@ -31,7 +30,7 @@ pub(crate) fn answer<'a>(rt: &HostRuntime, asked: &Asked<'a>, none: &mut Reply) 
         *none = asked.reading.no_moment();
     }
     let zone = value!(zone_of(rt, asked.option("--zone")));
-    let shown = shown_in(&zone, second_of(SystemTime::now(rt)?));
+    let shown = value!(shown_now(rt, &zone, asked.value("--now")));
     let instants = asked.reading;
     match shown {
         Some(stamp) if asked.command.name == TODAY => {
@@ -40,9 +39,4 @@ pub(crate) fn answer<'a>(rt: &HostRuntime, asked: &Asked<'a>, none: &mut Reply) 
         Some(stamp) => asked.print(rt, instants.reply(Start::Stamp(stamp))),
         None => asked.print(rt, *none),
     }
-}
-
-// The second of a reading of the clock.
-fn second_of(time: SystemTime) -> Option<DateTime<FixedOffset>> {
-    instant_at(DateTime::from_system_time(time)?.timestamp())
 }

@@ -5,6 +5,7 @@ pub(crate) use crate::closed::*;
 pub(crate) use crate::fault::*;
 pub(crate) use crate::holidays::*;
 pub(crate) use crate::lines::*;
+pub(crate) use crate::named::*;
 pub(crate) use crate::options::*;
 pub(crate) use crate::patterned::*;
 pub(crate) use crate::table::*;

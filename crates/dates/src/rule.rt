@@ -14,7 +14,7 @@ const HOW_MANY: Opt = option!(
 
 pub(crate) fn command() -> CommandRow {
     row!(
-        "rule", &[operand!("RRULE")], &[START, FROM, HOW_MANY, PARSE, FORMAT, JSON, HELP];
+        "rule", &[operand!("RRULE")], &[START, FROM, HOW_MANY, NOW, PARSE, FORMAT, JSON, HELP];
         help: "print the instances of a recurrence rule",
         more: "An RRULE is written as RFC 5545 writes it, in parts with ; between them:\n\
             FREQ=WEEKLY;INTERVAL=2;BYDAY=TU;COUNT=5        every other Tuesday, five times\n\

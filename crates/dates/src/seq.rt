@@ -5,7 +5,7 @@ use dates_answer::sequence_day;
 
 pub(crate) fn command() -> CommandRow {
     row!(
-        "seq", &[DAY, DAY, operand!("SPAN"; required: false)], &[PARSE, FORMAT, JSON, HELP];
+        "seq", &[DAY, DAY, operand!("SPAN"; required: false)], &[NOW, PARSE, FORMAT, JSON, HELP];
         help: "print the days from one to another",
         more: "Each is the first day moved by no span, by one, by two and so on, as long as\n\
             that is not past the second day. With no SPAN it goes day by day, also back.\n\

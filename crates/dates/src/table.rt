@@ -89,7 +89,8 @@ const MORE: &str = "A DAY is a calendar date, an ordinal date or a week date, as
     \n\
     Where DAY is - or left out, dates, add, diff, open and roll answer each line of\n\
     standard input. A line that is no day is answered by none; check says why.\n\
-    Only now and today ask what time it is.\n\
+    today, tomorrow, yesterday, friday and 'last friday' are days by the clock, and now\n\
+    is a time. Without such a word only now and today ask what time it is.\n\
     \n\
     An option may stand anywhere, and its value behind = too. Behind -- all words\n\
     are operands. 'dates COMMAND --help' says more of a command.\n\
@@ -152,11 +153,22 @@ fn answer_words(rt: &HostRuntime, command: CommandRow, words: Arguments<'_>) -> 
     } else {
         OutputForm::Text
     };
-    match patterns_of(&command, &words) {
-        Ok((format, parse)) => {
-            answer_by(rt, command, form, words, format.as_ref(), parse.as_ref())
-        }
-        Err(fault) => refuse(rt, &command, form, Reply::Nothing(Key::Date), fault),
+    let none = Reply::Nothing(Key::Date);
+    let (format, parse) = match patterns_of(&command, &words) {
+        Ok(patterns) => patterns,
+        Err(fault) => return refuse(rt, &command, form, none, fault),
+    };
+    match clock_of(rt, &command, &words) {
+        Ok(now) => answer_by(
+            rt,
+            command,
+            form,
+            words,
+            format.as_ref(),
+            parse.as_ref(),
+            now,
+        ),
+        Err(fault) => refuse(rt, &command, form, none, fault),
     }
 }
 
@@ -168,9 +180,10 @@ fn answer_by<'a>(
     words: Arguments<'a>,
     pattern: Option<&'a Pattern<'a>>,
     parse: Option<&'a Pattern<'a>>,
+    now: Option<Now>,
 ) -> io::Result<u8> {
     let mut none = Reply::Nothing(Key::Date);
-    let reading = InstantForm::of(&words, parse);
+    let reading = InstantForm::of(&words, parse, now);
     let asked = Asked {
         command,
         form: AnswerForm { form, pattern },
@@ -208,7 +221,7 @@ fn wrong_first<'a>(command: &CommandRow, first: Option<Word<'a>>) -> Option<Faul
     if !command.name.is_empty() || first.text.starts_with("--") {
         return None;
     }
-    match crate::day::first_of(InstantForm::Text, first) {
+    match crate::day::first_of(InstantForm::Text(None), first) {
         Ok(_) => None,
         Err(fault) => Some(fault),
     }

@@ -16,10 +16,10 @@ pub(crate) const STAMPS: &str = "a date-time with its offset as 2024-02-29T04:30
 /// How instants are read and written.
 #[derive(Clone, Copy)]
 pub(crate) enum InstantForm<'a> {
-    /// As date-times with their offset.
-    Text,
-    /// As seconds since 1970 in UTC.
-    Seconds,
+    /// As date-times with their offset, and by what the clock shows.
+    Text(Option<Now>),
+    /// As seconds since 1970 in UTC, and by what the clock shows.
+    Seconds(Option<Now>),
     /// Read by a pattern, and written as date-times.
     Pattern(&'a Pattern<'a>),
 }
@@ -47,19 +47,27 @@ impl From<PatternReadError> for Unreadable {
 
 impl<'a> InstantForm<'a> {
     // The form by the options of a command, and by the pattern of one of them.
-    pub(crate) fn of(words: &Arguments<'_>, pattern: Option<&'a Pattern<'a>>) -> Self {
+    pub(crate) fn of(
+        words: &Arguments<'_>,
+        pattern: Option<&'a Pattern<'a>>,
+        now: Option<Now>,
+    ) -> Self {
         match pattern {
             Some(pattern) => InstantForm::Pattern(pattern),
-            None if words.has("--unix") => InstantForm::Seconds,
-            None => InstantForm::Text,
+            None if words.has("--unix") => InstantForm::Seconds(now),
+            None => InstantForm::Text(now),
         }
     }
 
     // The day, the date-time or the instant that a text names; by seconds an instant alone.
     pub(crate) fn read(self, text: &[u8]) -> Result<Start, Unreadable> {
         match self {
-            InstantForm::Text => Ok(read_start(text)?),
-            InstantForm::Seconds => Ok(read_instant(text)?),
+            InstantForm::Text(Some(now)) if is_named(text) => Ok(read_named(now, text)?),
+            InstantForm::Text(_) => Ok(read_start(text)?),
+            InstantForm::Seconds(Some(now)) if text == b"now".as_slice() => {
+                Ok(read_named(now, text)?)
+            }
+            InstantForm::Seconds(_) => Ok(read_instant(text)?),
             InstantForm::Pattern(pattern) => Ok(read_by(pattern, text)?),
         }
     }
@@ -78,7 +86,7 @@ impl<'a> InstantForm<'a> {
             Start::Day(date) => Reply::Date(date),
             Start::DateTime(moment) => Reply::Moment(moment),
             Start::Stamp(stamp) => match self {
-                InstantForm::Seconds => Reply::Number(Key::Unix, stamp.timestamp()),
+                InstantForm::Seconds(_) => Reply::Number(Key::Unix, stamp.timestamp()),
                 _ => Reply::Stamp(stamp),
             },
         }
@@ -95,7 +103,7 @@ impl<'a> InstantForm<'a> {
     // That there is no such day, or no such date-time where the text has a `T` or a colon.
     pub(crate) fn none_of_text(self, text: &[u8]) -> Reply {
         match self {
-            InstantForm::Text if !text.contains(&b'T') && !text.contains(&b':') => {
+            InstantForm::Text(_) if !text.contains(&b'T') && !text.contains(&b':') => {
                 Reply::Nothing(Key::Date)
             }
             InstantForm::Pattern(pattern) if !pattern.names_date_time() => {
@@ -108,7 +116,7 @@ impl<'a> InstantForm<'a> {
     // That there is no date-time.
     pub(crate) fn no_moment(self) -> Reply {
         match self {
-            InstantForm::Seconds => Reply::Nothing(Key::Unix),
+            InstantForm::Seconds(_) => Reply::Nothing(Key::Unix),
             _ => Reply::Nothing(Key::Moment),
         }
     }
@@ -140,7 +148,8 @@ pub(crate) fn start_as<'a>(
 // The day, the date-time or the instant that a word names.
 pub(crate) fn start_of<'a>(form: InstantForm<'_>, word: Word<'a>) -> Result<Start, Fault<'a>> {
     let what = match form {
-        InstantForm::Seconds => "seconds since 1970 as 1709204400, or a date-time with its offset",
+        InstantForm::Seconds(_) =>
+            "seconds since 1970 as 1709204400, or a date-time with its offset",
         _ => "a day as 2024-02-29 or a date-time as 2024-02-29T04:30",
     };
     start_as(form, word, what)

@@ -4,7 +4,7 @@ use crate::prelude::*;
 
 pub(crate) fn command() -> CommandRow {
     row!(
-        "weekday", &[DAY], &[PARSE, JSON, HELP];
+        "weekday", &[DAY], &[NOW, PARSE, JSON, HELP];
         help: "print the weekday of a day",
         more: "",
         example: "$ dates weekday 2024-02-29\nThursday"

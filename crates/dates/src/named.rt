@@ -1,0 +1,142 @@
+//! Days that the clock names: `today`, `tomorrow`, `yesterday`, a weekday, `last` and a weekday, and `now`.
+
+use crate::prelude::*;
+use chrono_reading::read_weekday;
+use std::time::SystemTime;
+
+/// `--now`.
+pub(crate) const NOW: Opt = option!(
+    "--now", "TIME"; "what time it is, in place of what the clock shows, for such\ndays as today, tomorrow, friday and 'last friday'"
+);
+
+/// What a clock shows.
+#[derive(Clone, Copy)]
+pub(crate) struct Now {
+    /// The second, since 1970 in UTC.
+    pub second: i64,
+    /// How many seconds it is ahead of UTC.
+    pub ahead: i32,
+    /// Whether `now` is this instant, and else the local time alone.
+    pub is_instant: bool,
+}
+
+impl Now {
+    // The instant.
+    pub(crate) fn stamp(&self) -> Option<DateTime<FixedOffset>> {
+        FixedOffset::east_opt(self.ahead)?.timestamp_opt(self.second, 0)
+    }
+}
+
+// What the clock shows, if a word of a command names a day by it; nothing without such a word.
+pub(crate) fn clock_of<'a>(
+    rt: &HostRuntime,
+    command: &CommandRow,
+    words: &Arguments<'a>,
+) -> Result<Option<Now>, Fault<'a>> {
+    if !asks_clock(command, words) {
+        return Ok(None);
+    }
+    let zone_word = words.value(command.options, "--zone");
+    let zone = match zone_word {
+        Some(word) => value!(zone_of(rt, word)),
+        None => value!(machine_zone(rt)),
+    };
+    let shown = value!(shown_now(rt, &zone, words.value(command.options, "--now")));
+    // (a schedule without a zone is due by local times)
+    let is_instant = zone_word.is_some() || command.name != "next" && command.name != "prev";
+    match shown {
+        Some(stamp) => Ok(Some(Now {
+            second: stamp.timestamp(),
+            ahead: stamp.timezone().local_minus_utc(),
+            is_instant,
+        })),
+        None => Ok(None),
+    }
+}
+
+// What a zone's clock shows now, or at the time that a word names.
+pub(crate) fn shown_now<'a>(
+    rt: &HostRuntime,
+    zone: &OwnedZone,
+    word: Option<Word<'a>>,
+) -> Result<Option<DateTime<FixedOffset>>, Fault<'a>> {
+    let Some(word) = word else {
+        return Ok(shown_in(zone, second_of(SystemTime::now(rt)?)));
+    };
+    match instants_of(zone, value!(moment_of(InstantForm::Text(None), word))) {
+        MappedLocalTime::Single(stamp) => Ok(shown_in(zone, Some(stamp))),
+        _ => Err(Fault::NoSuch(word, Cause::NotOnce)),
+    }
+}
+
+// The second of a reading of the clock.
+fn second_of(time: SystemTime) -> Option<DateTime<FixedOffset>> {
+    instant_at(DateTime::from_system_time(time)?.timestamp())
+}
+
+// Whether an operand, or the value of an option, names a day by the clock.
+fn asks_clock(command: &CommandRow, words: &Arguments<'_>) -> bool {
+    if words
+        .operands
+        .as_slice()
+        .iter()
+        .any(|word| is_named(word.text.as_bytes()))
+    {
+        return true;
+    }
+    for option in command.options {
+        if option.value == "TIME" || option.value == "DAY" {
+            if let Some(word) = words.value(command.options, option.name) {
+                if is_named(word.text.as_bytes()) {
+                    return true;
+                }
+            }
+        }
+    }
+    false
+}
+
+// Whether a text names a day, or the time, by the clock.
+pub(crate) fn is_named(text: &[u8]) -> bool {
+    match text {
+        b"now" | b"today" | b"tomorrow" | b"yesterday" => true,
+        _ => read_weekday(weekday_in(text).0).is_ok(),
+    }
+}
+
+// The day, or the time, that a text names by the clock, if there is one.
+pub(crate) fn read_named(now: Now, text: &[u8]) -> Result<Start, ReadError> {
+    let cause = ReadCause::DateOutOfRange;
+    named_by(now, text).ok_or(ReadError { cause, byte: 0 })
+}
+
+// The name of a weekday in a text, and whether `last` stands in front of it.
+fn weekday_in(text: &[u8]) -> (&[u8], bool) {
+    match text.strip_prefix(b"last ") {
+        Some(name) => (name, true),
+        None => (text, false),
+    }
+}
+
+// The day, or the time, that a text names.
+fn named_by(now: Now, text: &[u8]) -> Option<Start> {
+    let stamp = now.stamp()?;
+    let moment = stamp.naive_local();
+    let today = moment.date();
+    match text {
+        b"now" if now.is_instant => Some(Start::Stamp(stamp)),
+        b"now" => Some(Start::DateTime(moment)),
+        b"today" => Some(Start::Day(today)),
+        b"tomorrow" => Some(Start::Day(today.succ_opt()?)),
+        b"yesterday" => Some(Start::Day(today.pred_opt()?)),
+        _ => Some(Start::Day(weekday_near(today, text)?)),
+    }
+}
+
+// The day of a weekday: the first from a day on, or behind `last` the last before it.
+fn weekday_near(today: NaiveDate, text: &[u8]) -> Option<NaiveDate> {
+    let (name, is_last) = weekday_in(text);
+    let weekday = read_weekday(name).ok()?;
+    let ahead = i64::from(weekday.days_since(today.weekday()));
+    today.moved_by_days(if is_last { ahead - 7 } else { ahead })
+}
