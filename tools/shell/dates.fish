@@ -3,6 +3,7 @@ complete -c dates -n '__fish_seen_subcommand_from add' -l weekend -r -a 'mon tue
 complete -c dates -n '__fish_seen_subcommand_from add' -l calendar -r -a 'us-federal target england '
 complete -c dates -n '__fish_seen_subcommand_from add' -l holidays -r -a ''
 complete -c dates -n '__fish_seen_subcommand_from add' -l zone -r -a ''
+complete -c dates -n '__fish_seen_subcommand_from add' -l now -r -a ''
 complete -c dates -n '__fish_seen_subcommand_from add' -l unix
 complete -c dates -n '__fish_seen_subcommand_from add' -l parse -r -a ''
 complete -c dates -n '__fish_seen_subcommand_from add' -l format -r -a ''
@@ -13,11 +14,13 @@ complete -c dates -n '__fish_seen_subcommand_from diff' -l weekend -r -a 'mon tu
 complete -c dates -n '__fish_seen_subcommand_from diff' -l calendar -r -a 'us-federal target england '
 complete -c dates -n '__fish_seen_subcommand_from diff' -l holidays -r -a ''
 complete -c dates -n '__fish_seen_subcommand_from diff' -l zone -r -a ''
+complete -c dates -n '__fish_seen_subcommand_from diff' -l now -r -a ''
 complete -c dates -n '__fish_seen_subcommand_from diff' -l unix
 complete -c dates -n '__fish_seen_subcommand_from diff' -l parse -r -a ''
 complete -c dates -n '__fish_seen_subcommand_from diff' -l json
 complete -c dates -n '__fish_seen_subcommand_from diff' -l help
 complete -c dates -n __fish_use_subcommand -a seq -d 'print the days from one to another'
+complete -c dates -n '__fish_seen_subcommand_from seq' -l now -r -a ''
 complete -c dates -n '__fish_seen_subcommand_from seq' -l parse -r -a ''
 complete -c dates -n '__fish_seen_subcommand_from seq' -l format -r -a ''
 complete -c dates -n '__fish_seen_subcommand_from seq' -l json
@@ -26,6 +29,7 @@ complete -c dates -n __fish_use_subcommand -a week -d 'print the first and the l
 complete -c dates -n '__fish_seen_subcommand_from week' -l json
 complete -c dates -n '__fish_seen_subcommand_from week' -l help
 complete -c dates -n __fish_use_subcommand -a weekday -d 'print the weekday of a day'
+complete -c dates -n '__fish_seen_subcommand_from weekday' -l now -r -a ''
 complete -c dates -n '__fish_seen_subcommand_from weekday' -l parse -r -a ''
 complete -c dates -n '__fish_seen_subcommand_from weekday' -l json
 complete -c dates -n '__fish_seen_subcommand_from weekday' -l help
@@ -40,6 +44,7 @@ complete -c dates -n __fish_use_subcommand -a open -d 'print whether a day is op
 complete -c dates -n '__fish_seen_subcommand_from open' -l weekend -r -a 'mon tue wed thu fri sat sun none '
 complete -c dates -n '__fish_seen_subcommand_from open' -l calendar -r -a 'us-federal target england '
 complete -c dates -n '__fish_seen_subcommand_from open' -l holidays -r -a ''
+complete -c dates -n '__fish_seen_subcommand_from open' -l now -r -a ''
 complete -c dates -n '__fish_seen_subcommand_from open' -l parse -r -a ''
 complete -c dates -n '__fish_seen_subcommand_from open' -l json
 complete -c dates -n '__fish_seen_subcommand_from open' -l help
@@ -47,6 +52,7 @@ complete -c dates -n __fish_use_subcommand -a roll -d 'print where a closed day 
 complete -c dates -n '__fish_seen_subcommand_from roll' -l weekend -r -a 'mon tue wed thu fri sat sun none '
 complete -c dates -n '__fish_seen_subcommand_from roll' -l calendar -r -a 'us-federal target england '
 complete -c dates -n '__fish_seen_subcommand_from roll' -l holidays -r -a ''
+complete -c dates -n '__fish_seen_subcommand_from roll' -l now -r -a ''
 complete -c dates -n '__fish_seen_subcommand_from roll' -l parse -r -a ''
 complete -c dates -n '__fish_seen_subcommand_from roll' -l format -r -a ''
 complete -c dates -n '__fish_seen_subcommand_from roll' -l json
@@ -59,6 +65,7 @@ complete -c dates -n __fish_use_subcommand -a next -d 'print when a schedule is 
 complete -c dates -n '__fish_seen_subcommand_from next' -l from -r -a ''
 complete -c dates -n '__fish_seen_subcommand_from next' -l count -r -a ''
 complete -c dates -n '__fish_seen_subcommand_from next' -l zone -r -a ''
+complete -c dates -n '__fish_seen_subcommand_from next' -l now -r -a ''
 complete -c dates -n '__fish_seen_subcommand_from next' -l unix
 complete -c dates -n '__fish_seen_subcommand_from next' -l parse -r -a ''
 complete -c dates -n '__fish_seen_subcommand_from next' -l format -r -a ''
@@ -68,6 +75,7 @@ complete -c dates -n __fish_use_subcommand -a prev -d 'print when a schedule was
 complete -c dates -n '__fish_seen_subcommand_from prev' -l from -r -a ''
 complete -c dates -n '__fish_seen_subcommand_from prev' -l count -r -a ''
 complete -c dates -n '__fish_seen_subcommand_from prev' -l zone -r -a ''
+complete -c dates -n '__fish_seen_subcommand_from prev' -l now -r -a ''
 complete -c dates -n '__fish_seen_subcommand_from prev' -l unix
 complete -c dates -n '__fish_seen_subcommand_from prev' -l parse -r -a ''
 complete -c dates -n '__fish_seen_subcommand_from prev' -l format -r -a ''
@@ -77,6 +85,7 @@ complete -c dates -n __fish_use_subcommand -a rule -d 'print the instances of a 
 complete -c dates -n '__fish_seen_subcommand_from rule' -l start -r -a ''
 complete -c dates -n '__fish_seen_subcommand_from rule' -l from -r -a ''
 complete -c dates -n '__fish_seen_subcommand_from rule' -l count -r -a ''
+complete -c dates -n '__fish_seen_subcommand_from rule' -l now -r -a ''
 complete -c dates -n '__fish_seen_subcommand_from rule' -l parse -r -a ''
 complete -c dates -n '__fish_seen_subcommand_from rule' -l format -r -a ''
 complete -c dates -n '__fish_seen_subcommand_from rule' -l json
@@ -90,17 +99,20 @@ complete -c dates -n '__fish_seen_subcommand_from cal' -l json
 complete -c dates -n '__fish_seen_subcommand_from cal' -l help
 complete -c dates -n __fish_use_subcommand -a now -d 'print what time it is, to the second'
 complete -c dates -n '__fish_seen_subcommand_from now' -l zone -r -a ''
+complete -c dates -n '__fish_seen_subcommand_from now' -l now -r -a ''
 complete -c dates -n '__fish_seen_subcommand_from now' -l unix
 complete -c dates -n '__fish_seen_subcommand_from now' -l format -r -a ''
 complete -c dates -n '__fish_seen_subcommand_from now' -l json
 complete -c dates -n '__fish_seen_subcommand_from now' -l help
 complete -c dates -n __fish_use_subcommand -a today -d 'print what day it is'
 complete -c dates -n '__fish_seen_subcommand_from today' -l zone -r -a ''
+complete -c dates -n '__fish_seen_subcommand_from today' -l now -r -a ''
 complete -c dates -n '__fish_seen_subcommand_from today' -l format -r -a ''
 complete -c dates -n '__fish_seen_subcommand_from today' -l json
 complete -c dates -n '__fish_seen_subcommand_from today' -l help
 complete -c dates -n __fish_use_subcommand -a format -d 'print a day or a date-time by a pattern'
 complete -c dates -n '__fish_seen_subcommand_from format' -l zone -r -a ''
+complete -c dates -n '__fish_seen_subcommand_from format' -l now -r -a ''
 complete -c dates -n '__fish_seen_subcommand_from format' -l unix
 complete -c dates -n '__fish_seen_subcommand_from format' -l parse -r -a ''
 complete -c dates -n '__fish_seen_subcommand_from format' -l json
@@ -111,6 +123,7 @@ complete -c dates -n '__fish_seen_subcommand_from parse' -l json
 complete -c dates -n '__fish_seen_subcommand_from parse' -l help
 complete -c dates -n __fish_use_subcommand -a in -d 'print what a time zone's clock shows'
 complete -c dates -n '__fish_seen_subcommand_from in' -l from-zone -r -a ''
+complete -c dates -n '__fish_seen_subcommand_from in' -l now -r -a ''
 complete -c dates -n '__fish_seen_subcommand_from in' -l unix
 complete -c dates -n '__fish_seen_subcommand_from in' -l parse -r -a ''
 complete -c dates -n '__fish_seen_subcommand_from in' -l format -r -a ''
