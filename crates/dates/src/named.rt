@@ -6,7 +6,7 @@ use std::time::SystemTime;
 
 /// `--now`.
 pub(crate) const NOW: Opt = option!(
-    "--now", "TIME"; "what time it is, in place of what the clock shows, for such\ndays as today, tomorrow, friday and 'last friday'"
+    "--now", "TIME"; "what time it is, in place of what the clock shows,\nfor such days as today, friday and 'last friday'"
 );
 
 /// What a clock shows.
@@ -43,7 +43,8 @@ pub(crate) fn clock_of<'a>(
     };
     let shown = value!(shown_now(rt, &zone, words.value(command.options, "--now")));
     // (a schedule without a zone is due by local times)
-    let is_instant = zone_word.is_some() || command.name != "next" && command.name != "prev";
+    let is_schedule = command.name == "next" || command.name == "prev";
+    let is_instant = zone_word.is_some() || words.has("--unix") || !is_schedule;
     match shown {
         Some(stamp) => Ok(Some(Now {
             second: stamp.timestamp(),

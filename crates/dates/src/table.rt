@@ -89,8 +89,8 @@ const MORE: &str = "A DAY is a calendar date, an ordinal date or a week date, as
     \n\
     Where DAY is - or left out, dates, add, diff, open and roll answer each line of\n\
     standard input. A line that is no day is answered by none; check says why.\n\
-    today, tomorrow, yesterday, friday and 'last friday' are days by the clock, and now\n\
-    is a time. Without such a word only now and today ask what time it is.\n\
+    today, tomorrow, yesterday, friday and 'last friday' are days by the clock, and\n\
+    now is a time. Without such a word only now and today ask what time it is.\n\
     \n\
     An option may stand anywhere, and its value behind = too. Behind -- all words\n\
     are operands. 'dates COMMAND --help' says more of a command.\n\
@@ -218,7 +218,8 @@ type Patterns<'a> = (Option<Pattern<'a>>, Option<Pattern<'a>>);
 // What is wrong with the first word, where it names no command and is neither an option nor a day.
 fn wrong_first<'a>(command: &CommandRow, first: Option<Word<'a>>) -> Option<Fault<'a>> {
     let first = first?;
-    if !command.name.is_empty() || first.text.starts_with("--") {
+    let is_right = first.text.starts_with("--") || is_named(first.text.as_bytes());
+    if !command.name.is_empty() || is_right {
         return None;
     }
     match crate::day::first_of(InstantForm::Text(None), first) {
