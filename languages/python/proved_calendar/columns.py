@@ -25,6 +25,7 @@ array(['2024-02-05',        'NaT'], dtype='datetime64[D]')
 from __future__ import annotations
 
 import ctypes
+import datetime as _datetime
 import functools
 from collections.abc import Callable, Iterable
 from typing import Any, NamedTuple, SupportsIndex
@@ -38,7 +39,7 @@ from ._arrays import (
 __all__ = [
     "Fields", "Fractions", "IsoWeeks", "add_days", "add_months", "add_open_days", "count_dates", "day_counts", "days_between", "fields",
     "first_on", "from_fields", "from_texts", "from_time_texts", "from_unix_days", "is_date", "is_open", "iso_weeks", "next_due", "numbers",
-    "open_days_between", "ordinals", "roll", "texts", "time_texts", "unix_days", "weekdays", "year_fractions", "years",
+    "offsets", "open_days_between", "ordinals", "roll", "texts", "time_texts", "unix_days", "weekdays", "year_fractions", "years",
 ]
 
 # The rolls and the day counts, in the order of calendar_layers.h.
@@ -46,6 +47,8 @@ _ROLLS = (
     "unadjusted", "following", "preceding", "modified_following", "modified_preceding", "nearest_isda", "nearest_quantlib",
 )
 _DAY_COUNTS = ("actual_actual_isda", "actual_360", "actual_365_fixed", "thirty_360", "thirty_e_360")
+# Where times are counted from.
+_EPOCH = _datetime.datetime(1970, 1, 1, tzinfo=_datetime.timezone.utc)
 # The bytes of a date-time's text in a column.
 _TIME_TEXT = 32
 
@@ -157,6 +160,26 @@ def _moved_by(column: Dates, move: Callable[[slice, Any, Any], None]) -> Any:
             move(piece, starts, moved)
             column.layout.move(moved, column.values[piece], starts, out[piece])
     return out.reshape(column.shape)
+
+
+def _by_day(column: Dates, move: Callable[[Any, Any], None]) -> Callable[[slice, Any, Any], None]:
+    """A move by one answer for each day from the least to the greatest of a column, if these are fewer than half of its dates."""
+    least, last = 2**31 - 1, NONE
+    for piece in column.pieces():
+        numbers = column.numbers(piece)
+        least = min(least, int(numbers.min(where=numbers != NONE, initial=least)))
+        last = max(last, int(numbers.max()))
+    if not 0 <= last - least < column.size // 2:
+        return lambda _, starts, moved: move(starts, moved)
+    days = _np.arange(least, last + 1, dtype=_np.int32)
+    answers = _np.empty_like(days)
+    move(days, answers)
+
+    def move_piece(_: slice, starts: Any, moved: Any) -> None:
+        _np.take(answers, starts - _np.int32(least), mode="clip", out=moved)
+        moved[starts == NONE] = NONE
+
+    return move_piece
 
 
 def _moved(name: str, column: Dates, by: Callable[[slice], Any]) -> Any:
@@ -360,7 +383,7 @@ def add_open_days(dates: Any, days: Any, calendar: Any) -> Any:
     column, (weekend, holidays) = Dates(dates), _closed(calendar)
     if not _np.ndim(days):
         number = ctypes.c_int64(whole("days", days))
-        return _moved_by(column, lambda _, starts, moved: _call("add_open_days", weekend, holidays, starts, number, moved))
+        return _moved_by(column, _by_day(column, lambda starts, moved: _call("add_open_days", weekend, holidays, starts, number, moved)))
     steps = small_of("days", days, _np.int64, column.shape)
     closed = weekend, holidays, holidays.size
     return _moved_by(column, lambda piece, starts, moved: _loop("add_open", *closed, starts, steps(piece), starts.size, moved))
@@ -373,7 +396,7 @@ def roll(dates: Any, how: str, calendar: Any) -> Any:
     'nearest_quantlib' or 'unadjusted'. A time of day stays the same.
     """
     column, closed, number = Dates(dates), _closed(calendar), _number_of("roll", how, _ROLLS)
-    return _moved_by(column, lambda _, starts, moved: _call("roll", *closed, starts, number, moved))
+    return _moved_by(column, _by_day(column, lambda starts, moved: _call("roll", *closed, starts, number, moved)))
 
 
 def open_days_between(dates: Any, ends: Any, calendar: Any) -> Any:
@@ -448,6 +471,34 @@ def next_due(times: Any, schedule: Any) -> Any:
         part = flat64(column.values[piece])
         _loop("next_due", text, part, part.size, day, max(day, UNITS["m"]), out[piece].view(_np.int64))
     return out.reshape(column.shape)
+
+
+def offsets(times: Any, zone: _datetime.tzinfo) -> Any:
+    """Returns how far the clock of a time zone is ahead of UTC at each time of UTC, as timedelta64[s].
+
+    zone is a tzinfo, such as ZoneInfo('Europe/Berlin'). It is asked once for each different second of 32,768 times. Where its clock
+    shows no year from 1 to 9999, the offset is NaT.
+    """
+    column = _times_of(times)
+    if not isinstance(zone, _datetime.tzinfo):
+        raise TypeError(f"a time zone is a tzinfo, not {type(zone).__name__}")
+    out, unit = _np.empty(column.size, "M8[s]").view("m8[s]"), column.layout.day
+    for piece in column.pieces():
+        part = flat64(column.values[piece])
+        # (an hour further away is of no year of four digits)
+        seconds = part // (unit // 86_400) if unit >= 86_400 else _np.clip(part, -(2**40), 2**40) * (86_400 // unit)
+        different, places = _np.unique(_np.where(part == NAT, NAT, seconds), return_inverse=True)
+        out[piece] = _np.array([_offset_at(zone, int(it)) for it in different], "m8[s]")[places]
+    return out.reshape(column.shape)
+
+
+def _offset_at(zone: _datetime.tzinfo, second: int) -> int:
+    """The seconds by which a clock is ahead at a second since 1970, or NAT."""
+    try:
+        ahead = (_EPOCH + _datetime.timedelta(seconds=second)).astimezone(zone).utcoffset()
+    except OverflowError:
+        return NAT
+    return NAT if ahead is None else round(ahead.total_seconds())
 
 
 def time_texts(times: Any) -> Any:

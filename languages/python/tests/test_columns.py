@@ -8,7 +8,8 @@ import random
 import threading
 import tracemalloc
 import unittest
-from datetime import date, timedelta
+from datetime import date, datetime, timedelta, timezone
+from zoneinfo import ZoneInfo
 
 try:
     import numpy
@@ -307,6 +308,16 @@ class OpenDays(Columns):
                 wanted = [it if it is not None and abs(it - EPOCH) < 106_751 else None for it in wanted]
             self.assertEqual(self.number_array(columns.add_open_days(array, steps, CALENDAR))[0], wanted)
 
+    def test_columns_of_few_days(self):
+        days = numpy.arange(738_700, 739_100, dtype="int32").repeat(3)
+        days[[0, 5, -1]] = NONE
+        for of in (CALENDAR, ALL_CLOSED):
+            for call, single in ((lambda it: columns.add_open_days(it, 2, of), lambda it: of.add(it, 2)),
+                                 (lambda it: columns.roll(it, "preceding", of), lambda it: of.roll(it, "preceding"))):
+                wanted = [NONE if it == NONE else number_of(outcome(single, Date.from_number(int(it)))) for it in days]
+                self.assertEqual(call(days).tolist(), [NONE if it is None else it for it in wanted])
+                self.assertEqual(call(days[[0, 5]]).tolist(), [NONE, NONE])
+
     def test_roll(self):
         for how in ROLLS:
             self.moved(lambda array: columns.roll(array, how, CALENDAR), lambda it: CALENDAR.roll(it, how), self.near())
@@ -385,6 +396,28 @@ class Times(Columns):
             return NAT
         time, rest = divmod((moment - DateTime(1970, 1, 1)).nanoseconds * UNITS[unit], 86_400 * 10**9)
         return time if rest == 0 and NAT < time < 2**63 else NAT
+
+    def test_offsets(self):
+        berlin, utc = ZoneInfo("Europe/Berlin"), timezone.utc
+        for unit in UNITS:
+            if unit != "D":
+                times, moments = self.times(unit)
+                wanted = []
+                for it in moments:
+                    try:
+                        moment = it and datetime(it.year, it.month, it.day, it.hour, it.minute, it.second, tzinfo=utc)
+                        wanted.append(moment and int(moment.astimezone(berlin).utcoffset().total_seconds()))
+                    except (OverflowError, ValueError):
+                        wanted.append(None)
+                found = columns.offsets(times, berlin)
+                self.assertEqual(found.dtype, numpy.dtype("m8[s]"))
+                self.assertEqual(found.tolist(), [it if it is None else timedelta(seconds=it) for it in wanted])
+        change = numpy.array([["2024-03-31T00:59:59.999", "2024-03-31T01:00"], ["NaT", "1880-01-01T00:00"]], "M8[ms]")
+        self.assertEqual(columns.offsets(change, berlin).astype("i8").tolist(), [[3_600, 7_200], [NAT, 3_208]])
+        self.assertEqual(columns.offsets(change[:, ::-1], timezone(timedelta(hours=-3))).astype("i8")[0].tolist(), [-10_800, -10_800])
+        self.assertEqual(columns.offsets(change[:0], utc).shape, (0, 2))
+        self.assertRaises(TypeError, columns.offsets, change, "Europe/Berlin")
+        self.assertRaises(TypeError, columns.offsets, change.astype("M8[D]"), utc)
 
     def test_next_due(self):
         for unit in UNITS:
