@@ -229,8 +229,6 @@ fn open_days_between() {
         ),
         (20, -20)
     );
-    // (both holidays are before 2 April)
-    assert_eq!(calendar.open_days(first, date("2024-04-02")), 20);
     assert_eq!(
         BusinessCalendar::new(weekend(), &[])
             .unwrap()
