@@ -168,5 +168,38 @@ unsafe extern "C" {
         days: *mut i32,
         days_length: usize,
     ) -> bool;
+    pub(crate) fn calendar_pattern_check(
+        pattern: *const u8,
+        length: usize,
+        fault: &mut Fault,
+    ) -> bool;
+    pub(crate) fn calendar_format_date(
+        pattern: *const u8,
+        length: usize,
+        date: i32,
+        text: *mut u8,
+        room: usize,
+    ) -> i32;
+    pub(crate) fn calendar_format_date_time(
+        pattern: *const u8,
+        length: usize,
+        moment: Moment,
+        text: *mut u8,
+        room: usize,
+    ) -> i32;
+    pub(crate) fn calendar_parse_date(
+        pattern: *const u8,
+        length: usize,
+        text: *const u8,
+        text_length: usize,
+        fault: &mut Fault,
+    ) -> i32;
+    pub(crate) fn calendar_parse_date_time(
+        pattern: *const u8,
+        length: usize,
+        text: *const u8,
+        text_length: usize,
+        fault: &mut Fault,
+    ) -> Moment;
     pub(crate) safe fn calendar_day_count(kind: u32, from: i32, to: i32) -> Quotient;
 }

@@ -18,6 +18,8 @@ mod duration;
 mod layer_calls;
 mod parse_error;
 #[cfg(feature = "alloc")]
+mod pattern;
+#[cfg(feature = "alloc")]
 mod rule;
 mod schedule;
 mod text_error;
@@ -43,6 +45,8 @@ pub use date_range::DateRange;
 pub use date_time::DateTime;
 pub use duration::Duration;
 pub use parse_error::ParseError;
+#[cfg(feature = "alloc")]
+pub use pattern::Pattern;
 #[cfg(feature = "alloc")]
 pub use rule::{Rule, RuleDays};
 pub use schedule::{Schedule, ScheduleTimes};

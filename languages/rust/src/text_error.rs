@@ -5,6 +5,8 @@ use core::fmt;
 use core::str::from_utf8;
 
 use crate::layer_calls::*;
+#[cfg(feature = "alloc")]
+use crate::pattern::sentence;
 
 /// The number of bytes of the longest sentence on what is wrong with a text.
 const SENTENCE_ROOM: usize = 99;
@@ -29,6 +31,9 @@ pub(crate) enum Kind {
     Schedule,
     /// A rule.
     Rule,
+    /// A pattern, or a text that a pattern reads.
+    #[cfg(feature = "alloc")]
+    Pattern,
 }
 
 impl TextError {
@@ -79,6 +84,8 @@ impl fmt::Display for TextError {
             match self.kind {
                 Kind::Schedule => calendar_schedule_fault_text(&self.fault, room, count),
                 Kind::Rule => calendar_rule_fault_text(&self.fault, room, count),
+                #[cfg(feature = "alloc")]
+                Kind::Pattern => return f.pad(&sentence(&self.fault)),
             }
         };
         let sentence = text.get(..length as usize).unwrap_or_default();

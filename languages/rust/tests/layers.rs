@@ -2,8 +2,8 @@
 //! function, named after it, and then what Rust adds.
 
 use proved_calendar::{
-    columns, BusinessCalendar, Date, DateTime, DayCount, KnownCalendar, Roll, Rule, Schedule,
-    Weekday, WeekdaySet,
+    columns, BusinessCalendar, Date, DateTime, DayCount, KnownCalendar, Pattern, Roll, Rule,
+    Schedule, Weekday, WeekdaySet,
 };
 use Weekday::{Fri, Sat, Sun};
 
@@ -261,6 +261,169 @@ fn roll() {
     }
     let closed = BusinessCalendar::new(WeekdaySet::from(Weekday::ALL), &[]).unwrap();
     assert_eq!(closed.roll(days[0], Roll::Following), None);
+}
+
+fn pattern(text: &str) -> Pattern {
+    text.parse().unwrap()
+}
+
+#[test]
+fn pattern_check() {
+    for text in ["%d.%m.%Y", "100%%", "", "Montag %e. März", "%s %z"] {
+        assert_eq!(pattern(text).to_string(), text);
+        assert_eq!(pattern(text).as_str(), text);
+    }
+    for (text, start, sentence) in [
+        ("%Y-%Q", 3, "byte 3: an unknown specifier"),
+        ("ä%Y-%Q", 5, "byte 5: an unknown specifier"),
+        ("100%", 3, "byte 3: a specifier that is cut off"),
+    ] {
+        let wrong = text.parse::<Pattern>().unwrap_err();
+        let place = (wrong.field(), wrong.start(), wrong.end());
+        assert_eq!(place, (None, start, text.len()), "{text}");
+        assert_eq!(wrong.to_string(), sentence);
+    }
+    let wrong = "%Q".parse::<Pattern>().unwrap_err();
+    assert_eq!(format!("{wrong:>30}|"), "  byte 0: an unknown specifier|");
+}
+
+#[test]
+fn format_date() {
+    let leap_day = date("2024-02-29");
+    for (by, wanted) in [
+        ("%d.%m.%Y", "29.02.2024"),
+        (
+            "%A %-e %B, week %V of %G, day %j",
+            "Thursday 29 February, week 09 of 2024, day 060",
+        ),
+        ("%-e. März", "29. März"),
+        ("", ""),
+        ("%H", "none"),
+        ("%z", "none"),
+    ] {
+        assert_eq!(text(pattern(by).format_date(leap_day)), wanted);
+    }
+    assert_eq!(text(pattern("%F").format_date(Date::MIN)), "-262143-01-01");
+    // the longest text
+    let years = |count| "%Y".repeat(count);
+    let longest = pattern(&years(250)).format_date(leap_day).unwrap();
+    assert_eq!(longest, "2024".repeat(250));
+    assert_eq!(pattern(&(years(250) + "x")).format_date(leap_day), None);
+}
+
+#[test]
+fn format_date_time() {
+    for (at, by, wanted) in [
+        (
+            "2024-03-01T13:00:00",
+            "%I:%M %p, %s",
+            "01:00 PM, 1709298000",
+        ),
+        ("2024-02-29T23:59:60.5", "%T%.f", "23:59:60.500"),
+        ("2024-02-29T23:59:59", "%F %R", "2024-02-29 23:59"),
+        ("2024-02-29T23:59:59", "%z", "none"),
+    ] {
+        assert_eq!(text(pattern(by).format_date_time(moment(at))), wanted);
+    }
+    let longest = pattern(&"%H".repeat(500)).format_date_time(moment(END));
+    assert_eq!(longest.unwrap(), "23".repeat(500));
+}
+
+/// Texts with what is wrong with them as dates: the pattern, the text, where, and the sentence.
+const NO_DATES: [(&str, &str, usize, &str); 6] = [
+    (
+        "%d.%m.%Y",
+        "29.2.2023",
+        9,
+        "no date or time has these parts",
+    ),
+    (
+        "%d.%m.%Y",
+        "29-2",
+        2,
+        "something other than the pattern wants",
+    ),
+    ("%d.%m.%Y", "29.13", 3, "a number that is out of range"),
+    ("%d.%m.%Y", "29.", 3, "the text ends too early"),
+    (
+        "%d",
+        "29x",
+        2,
+        "the text goes on after the end of the pattern",
+    ),
+    ("%d.%m.", "29.2.", 5, "too few parts for a date or time"),
+];
+
+#[test]
+fn parse_date() {
+    for (by, of, wanted) in [
+        ("%d %b %Y", "29 feb 2024", "2024-02-29"),
+        ("%d.%m.%Y", "29.2.2024", "2024-02-29"),
+        (
+            "%A, week %V of %G",
+            "Thursday, week 09 of 2024",
+            "2024-02-29",
+        ),
+        ("%Y-%j", "2024-060", "2024-02-29"),
+    ] {
+        assert_eq!(pattern(by).parse_date(of), Ok(date(wanted)), "{by}");
+    }
+    for (by, of, start, sentence) in NO_DATES {
+        let wrong = pattern(by).parse_date(of).unwrap_err();
+        let place = (wrong.field(), wrong.start(), wrong.end());
+        assert_eq!(place, (None, start, of.len()), "{by}");
+        assert_eq!(wrong.to_string(), format!("byte {start}: {sentence}"));
+    }
+}
+
+#[test]
+fn parse_date_time() {
+    for (by, of, wanted) in [
+        ("%F %R", "2024-03-01 13:00", "2024-03-01T13:00:00"),
+        (
+            "%FT%T%.f",
+            "2024-02-29T23:59:60.5",
+            "2024-02-29T23:59:60.500",
+        ),
+        (
+            "%I:%M %p, %d %b %Y",
+            "1:00 pm, 1 Mar 2024",
+            "2024-03-01T13:00:00",
+        ),
+        ("%s", "1709298000", "2024-03-01T13:00:00"),
+    ] {
+        assert_eq!(pattern(by).parse_date_time(of), Ok(moment(wanted)), "{by}");
+    }
+    for (by, of, start, sentence) in [
+        ("%F", "2024-02-29", 10, "too few parts for a date or time"),
+        (
+            "%F %R",
+            "2023-02-29 13:00",
+            16,
+            "no date or time has these parts",
+        ),
+        (
+            "%F %R",
+            "2024-02-29 25:00",
+            11,
+            "a number that is out of range",
+        ),
+        ("%F %R", "2024-02-29 ", 11, "the text ends too early"),
+        (
+            "%F %R",
+            "2024-02-29T13:00",
+            10,
+            "something other than the pattern wants",
+        ),
+    ] {
+        let wrong = pattern(by).parse_date_time(of).unwrap_err();
+        assert_eq!(
+            wrong.to_string(),
+            format!("byte {start}: {sentence}"),
+            "{by}"
+        );
+        assert_eq!((wrong.start(), wrong.end()), (start, of.len()), "{by}");
+    }
 }
 
 #[test]
