@@ -277,7 +277,7 @@ CALLS = {
     "year_fractions": lambda it: columns.year_fractions(it, it, "actual_360"),
 }
 # Those of times alone.
-TIME_CALLS = {"next_due": lambda it: columns.next_due(it, SCHEDULE), "time_texts": columns.time_texts}
+TIME_CALLS = {"next_due": lambda it: columns.next_due(it, SCHEDULE), "time_texts": columns.time_texts, "offsets": lambda it: columns.offsets(it, timezone.utc)}
 
 
 class OpenDays(Columns):
