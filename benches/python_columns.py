@@ -85,7 +85,10 @@ def open_days(columns, data):
 
     closed = [Date(year, month, day) for year in range(1980, 2030) for month, day in ((1, 1), (5, 1), (12, 25), (12, 26))]
     calendar, theirs = BusinessCalendar(closed), np.busdaycalendar(holidays=[str(it) for it in closed])
-    days, dates = data.days, (data.numbers, data.days, data.times)
+    # (of the years of the holidays, as dates of bills are)
+    days = np.random.default_rng(8).integers(3_652, 21_915, len(data.days)).astype("M8[D]")
+    numbers = (days.view("int64") + EPOCH).astype("int32")
+    dates = numbers, days, days.astype("M8[ns]")
 
     def ours(function, *rest):
         return [lambda it=it: function(it, *rest) for it in dates]
@@ -97,10 +100,8 @@ def open_days(columns, data):
                           lambda: np.busday_offset(days, OPEN_DAYS, "preceding", busdaycal=theirs), None),
         "roll": (*ours(columns.roll, "modified_following", calendar), lambda: np.busday_offset(days, 0, "modifiedfollowing", busdaycal=theirs), None),
         "open_days_between": (
-            lambda: columns.open_days_between(data.numbers, data.numbers[::-1], calendar),
-            lambda: columns.open_days_between(days, data.others, calendar),
-            lambda: columns.open_days_between(data.times, data.other_times, calendar),
-            lambda: np.busday_count(days, data.others, busdaycal=theirs), None,
+            *(lambda it=it: columns.open_days_between(it, it[::-1], calendar) for it in dates),
+            lambda: np.busday_count(days, days[::-1], busdaycal=theirs), None,
         ),
     }
 

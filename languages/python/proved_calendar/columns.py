@@ -159,6 +159,26 @@ def _moved_by(column: Dates, move: Callable[[slice, Any, Any], None]) -> Any:
     return out.reshape(column.shape)
 
 
+def _by_day(column: Dates, move: Callable[[Any, Any], None]) -> Callable[[slice, Any, Any], None]:
+    """A move by one answer for each day from the least to the greatest of a column, if these are fewer than half of its dates."""
+    least, last = 2**31 - 1, NONE
+    for piece in column.pieces():
+        numbers = column.numbers(piece)
+        least = min(least, int(numbers.min(where=numbers != NONE, initial=least)))
+        last = max(last, int(numbers.max()))
+    if not 0 <= last - least < column.size // 2:
+        return lambda _, starts, moved: move(starts, moved)
+    days = _np.arange(least, last + 1, dtype=_np.int32)
+    answers = _np.empty_like(days)
+    move(days, answers)
+
+    def move_piece(_: slice, starts: Any, moved: Any) -> None:
+        _np.take(answers, starts - _np.int32(least), mode="clip", out=moved)
+        moved[starts == NONE] = NONE
+
+    return move_piece
+
+
 def _moved(name: str, column: Dates, by: Callable[[slice], Any]) -> Any:
     """Each date after a move by what stands in a piece: one number, or one for each date."""
     return _moved_by(column, lambda piece, starts, moved: _call(name, starts, by(piece), moved))
@@ -360,7 +380,7 @@ def add_open_days(dates: Any, days: Any, calendar: Any) -> Any:
     column, (weekend, holidays) = Dates(dates), _closed(calendar)
     if not _np.ndim(days):
         number = ctypes.c_int64(whole("days", days))
-        return _moved_by(column, lambda _, starts, moved: _call("add_open_days", weekend, holidays, starts, number, moved))
+        return _moved_by(column, _by_day(column, lambda starts, moved: _call("add_open_days", weekend, holidays, starts, number, moved)))
     steps = small_of("days", days, _np.int64, column.shape)
     closed = weekend, holidays, holidays.size
     return _moved_by(column, lambda piece, starts, moved: _loop("add_open", *closed, starts, steps(piece), starts.size, moved))
@@ -373,7 +393,7 @@ def roll(dates: Any, how: str, calendar: Any) -> Any:
     'nearest_quantlib' or 'unadjusted'. A time of day stays the same.
     """
     column, closed, number = Dates(dates), _closed(calendar), _number_of("roll", how, _ROLLS)
-    return _moved_by(column, lambda _, starts, moved: _call("roll", *closed, starts, number, moved))
+    return _moved_by(column, _by_day(column, lambda starts, moved: _call("roll", *closed, starts, number, moved)))
 
 
 def open_days_between(dates: Any, ends: Any, calendar: Any) -> Any:

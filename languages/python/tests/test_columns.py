@@ -307,6 +307,16 @@ class OpenDays(Columns):
                 wanted = [it if it is not None and abs(it - EPOCH) < 106_751 else None for it in wanted]
             self.assertEqual(self.number_array(columns.add_open_days(array, steps, CALENDAR))[0], wanted)
 
+    def test_columns_of_few_days(self):
+        days = numpy.arange(738_700, 739_100, dtype="int32").repeat(3)
+        days[[0, 5, -1]] = NONE
+        for of in (CALENDAR, ALL_CLOSED):
+            for call, single in ((lambda it: columns.add_open_days(it, 2, of), lambda it: of.add(it, 2)),
+                                 (lambda it: columns.roll(it, "preceding", of), lambda it: of.roll(it, "preceding"))):
+                wanted = [NONE if it == NONE else number_of(outcome(single, Date.from_number(int(it)))) for it in days]
+                self.assertEqual(call(days).tolist(), [NONE if it is None else it for it in wanted])
+                self.assertEqual(call(days[[0, 5]]).tolist(), [NONE, NONE])
+
     def test_roll(self):
         for how in ROLLS:
             self.moved(lambda array: columns.roll(array, how, CALENDAR), lambda it: CALENDAR.roll(it, how), self.near())
