@@ -359,6 +359,20 @@ export class Rule implements Iterable<PlainDate> {
   readonly [Symbol.toStringTag]: "Rule";
 }
 
+/** A pattern, such as `%d.%m.%Y`, by the specifiers of chrono's `format`, with English names. */
+export class Pattern {
+  /** Throws a TextError if the text is no pattern. */
+  constructor(text: string);
+  /** RangeError if the pattern asks for what the value lacks, or the text has more than 1,000 bytes. */
+  format(value: PlainDate | PlainDateTime): string;
+  /** Throws a TextError if the text has no date by the pattern. */
+  parseDate(text: string): PlainDate;
+  /** Throws a TextError if the text has no date-time by the pattern. */
+  parseDateTime(text: string): PlainDateTime;
+  toString(): string;
+  readonly [Symbol.toStringTag]: "Pattern";
+}
+
 /** Where a closed date goes (ISDA 2006, section 4.12). */
 export type Roll =
   | "unadjusted"

@@ -6,6 +6,7 @@ export { BusinessCalendar, dayCount, easter } from "./business_calendar.js";
 export { Duration } from "./duration.js";
 export { Instant } from "./instant.js";
 export { version } from "./layers.js";
+export { Pattern } from "./pattern.js";
 export { daysUntil, isLeapYear, PlainDate } from "./plain_date.js";
 export { PlainDateTime } from "./plain_date_time.js";
 export { Rule } from "./rule.js";

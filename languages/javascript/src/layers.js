@@ -1,7 +1,7 @@
 /**
  * The functions of the layers, which are proved, as a second module of WebAssembly. It is loaded at the first call.
  *
- * They take what lies in memory behind all that the module itself uses: texts, schedules, holidays and date-times.
+ * They take what lies in memory behind all that the module itself uses: texts, patterns, schedules, holidays and date-times.
  */
 
 import { instantiate } from "./instantiate.js";
@@ -13,10 +13,13 @@ import { TextError } from "./text_error.js";
 /** A page of memory. */
 const PAGE = 65_536;
 
-/** Where things lie in the room: what is wrong, two date-times, an answer, a schedule, date-times, holidays, a text. */
-const [FAULT, FIRST, SECOND, ANSWER, SCHEDULE, DUE, HOLIDAYS, TEXT] = [0, 32, 48, 64, 128, 1_024, 2_048, 8_192];
+/** Where things lie in the room: what is wrong, two date-times, an answer, a schedule, date-times, holidays, a text, a pattern. */
+const [FAULT, FIRST, SECOND, ANSWER, SCHEDULE, DUE, HOLIDAYS, TEXT, PATTERN] = [0, 32, 48, 64, 128, 1_024, 2_048, 8_192, PAGE];
 
-/** A text has at most so many bytes. */
+/** How many bytes the room has. */
+const ROOM = 2 * PAGE;
+
+/** A text, or a pattern, has at most so many bytes. */
 const LONGEST = PAGE - TEXT;
 
 /** How many bytes a schedule takes. */
@@ -28,6 +31,18 @@ export const AT_ONCE = (HOLIDAYS - DUE) / MOMENT_SIZE;
 /** A calendar has at most so many holidays. */
 export const MOST_HOLIDAYS = 1_000;
 
+/** What is wrong with a pattern, or with a text that a pattern reads, by the library's numbers from 1 on. */
+const PATTERN_FAULTS = [
+  "no such specifier",
+  "the pattern ends within a specifier",
+  "the text ends before its pattern",
+  "the text goes on behind its pattern",
+  "not of the pattern",
+  "a number that is out of range",
+  "no such day or time",
+  "too few fields for a day or a time",
+];
+
 /** The least number of 64 bits, which stands for no number of days. */
 const NO_DAYS = -(2n ** 63n);
 
@@ -37,9 +52,9 @@ let opened;
 function open() {
   if (opened === undefined) {
     const layers = instantiate(MODULE);
-    const start = layers.memory.grow(1) * PAGE;
+    const start = layers.memory.grow(ROOM / PAGE) * PAGE;
     const { buffer } = layers.memory;
-    opened = { layers, start, view: new DataView(buffer, start, PAGE), bytes: new Uint8Array(buffer, start, PAGE) };
+    opened = { layers, start, view: new DataView(buffer, start, ROOM), bytes: new Uint8Array(buffer, start, ROOM) };
   }
   return opened;
 }
@@ -47,28 +62,43 @@ function open() {
 /** An address as the module takes one. */
 const address = ({ start }, at) => BigInt(start + at);
 
-/** The characters of some bytes of the room. */
-const textAt = ({ bytes }, at, length) => String.fromCharCode(...bytes.subarray(at, at + length));
+/** Decodes texts, and keeps a byte order mark in front. */
+const decoder = new TextDecoder("utf-8", { ignoreBOM: true });
 
-/** Puts a text into the room: its bytes. A text that is too long is wrong from where the room ends. */
-function putText({ bytes }, text) {
+/** The text of some bytes of the room. */
+const textAt = ({ bytes }, at, length) => decoder.decode(bytes.subarray(at, at + length));
+
+/** Puts a text into the room: its bytes. A text that is too long is wrong from where its part of the room ends. */
+function putText({ bytes }, text, at = TEXT) {
   const encoded = new TextEncoder().encode(text);
   if (encoded.length > LONGEST) {
     throw new TextError(text, placeOf(encoded, LONGEST), text.length, `longer than ${LONGEST.toLocaleString("en")} bytes`);
   }
-  bytes.set(encoded, TEXT);
+  bytes.set(encoded, at);
   return encoded;
 }
 
-/** The place in a string of a byte of its encoded text. */
-const placeOf = (encoded, byte) => new TextDecoder().decode(encoded.subarray(0, byte)).length;
+/** The place in a string of a byte of its encoded text: that of the character which has the byte. */
+function placeOf(encoded, byte) {
+  let first = byte;
+  while ((encoded[first] & 0xc0) === 0x80) {
+    first -= 1;
+  }
+  return decoder.decode(encoded.subarray(0, first)).length;
+}
+
+/** Where the part of a text begins and ends that the library found wrong. */
+const wrongPart = ({ view }, encoded) => [8, 16].map((it) => placeOf(encoded, Number(view.getBigUint64(FAULT + it, true))));
 
 /** Throws what is wrong with a text, which lies in the room, in words of the library. */
 function throwFault(room, text, encoded, write) {
-  const { view } = room;
   const length = write(address(room, FAULT), address(room, TEXT), BigInt(LONGEST));
-  const [byte, end] = [8, 16].map((it) => placeOf(encoded, Number(view.getBigUint64(FAULT + it, true))));
-  throw new TextError(text, byte, end, textAt(room, TEXT, length));
+  throw new TextError(text, ...wrongPart(room, encoded), textAt(room, TEXT, length));
+}
+
+/** Throws what is wrong with a pattern, or with a text that a pattern reads. */
+function throwPatternFault(room, text, encoded) {
+  throw new TextError(text, ...wrongPart(room, encoded), PATTERN_FAULTS[room.view.getUint32(FAULT, true) - 1]);
 }
 
 /** The version of the library. */
@@ -222,4 +252,64 @@ export function instancesBetween(rule, start, from, until) {
   const out = [address(room, DUE), BigInt(AT_ONCE)];
   const count = Number(room.layers.calendar_rule_instances(...putRule(room, rule), start, from, until, ...out));
   return Array.from({ length: count }, (_, index) => room.view.getInt32(DUE + 4 * index, true));
+}
+
+/** The bytes of a text that is a pattern; a TextError if it is none. */
+export function checkPattern(text) {
+  const room = open();
+  const encoded = putText(room, text, PATTERN);
+  const [at, fault] = [PATTERN, FAULT].map((it) => address(room, it));
+  if (!room.layers.calendar_pattern_check(at, BigInt(encoded.length), fault)) {
+    throwPatternFault(room, text, encoded);
+  }
+  return encoded;
+}
+
+/** Puts a pattern into the room, and answers what a function takes as its text. */
+function putPattern(room, pattern) {
+  room.bytes.set(pattern, PATTERN);
+  return [address(room, PATTERN), BigInt(pattern.length)];
+}
+
+/** The text that a function wrote into the room; undefined if it wrote none. */
+const writtenText = (room, length) => (length === NONE ? undefined : textAt(room, TEXT, length));
+
+/** The text of a date, by its number; undefined if the pattern asks for a time or an offset, or the text is too long. */
+export function formatDate(pattern, date) {
+  const room = open();
+  const out = [address(room, TEXT), BigInt(LONGEST)];
+  return writtenText(room, room.layers.calendar_format_date(...putPattern(room, pattern), date, ...out));
+}
+
+/** The text of a date-time; undefined if the pattern asks for an offset, or the text is too long. */
+export function formatDateTime(pattern, moment) {
+  const room = open();
+  setMoment(room.view, FIRST, moment);
+  const places = [address(room, FIRST), address(room, TEXT), BigInt(LONGEST)];
+  return writtenText(room, room.layers.calendar_format_date_time(...putPattern(room, pattern), ...places));
+}
+
+/** The number of the date that a text has by a pattern; a TextError if there is none. */
+export function parseDate(pattern, text) {
+  const room = open();
+  const encoded = putText(room, text);
+  const places = [address(room, TEXT), BigInt(encoded.length), address(room, FAULT)];
+  const date = room.layers.calendar_parse_date(...putPattern(room, pattern), ...places);
+  if (date === NONE) {
+    throwPatternFault(room, text, encoded);
+  }
+  return date;
+}
+
+/** The date-time that a text has by a pattern; a TextError if there is none. */
+export function parseDateTime(pattern, text) {
+  const room = open();
+  const encoded = putText(room, text);
+  const places = [address(room, TEXT), BigInt(encoded.length), address(room, FAULT)];
+  room.layers.calendar_parse_date_time(address(room, ANSWER), ...putPattern(room, pattern), ...places);
+  const moment = getMoment(room.view, ANSWER);
+  if (moment === undefined) {
+    throwPatternFault(room, text, encoded);
+  }
+  return moment;
 }

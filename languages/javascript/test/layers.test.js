@@ -7,7 +7,7 @@ import { strict as assert } from "node:assert";
 import { inspect } from "node:util";
 import { test } from "node:test";
 
-import { BusinessCalendar, dayCount, easter, PlainDate, PlainDateTime, Rule, Schedule, TextError, version } from "proved-calendar";
+import { BusinessCalendar, dayCount, easter, Pattern, PlainDate, PlainDateTime, Rule, Schedule, TextError, version } from "proved-calendar";
 
 const refused = (call) => assert.throws(call, RangeError);
 const texts = (moments) => Array.from(moments, String);
@@ -259,4 +259,69 @@ test("rule_instances", () => {
   assert.deepEqual(texts(new Rule("FREQ=WEEKLY;COUNT=3", "2024-02-01")), ["2024-02-01", "2024-02-08", "2024-02-15"]);
   assert.deepEqual(texts(new Rule("FREQ=DAILY", "+262142-12-31")), ["+262142-12-31"]);
   refused(() => daily.iterate({ from: "2024-02-30" }));
+});
+
+/** What a text that is wrong throws: where, and why. */
+const wrongFrom = (start, end, reason) => ({ name: "TextError", start, end, reason });
+
+test("pattern_check", () => {
+  const pattern = new Pattern("%d.%m.%Y");
+  assert.equal(`${pattern} ${inspect(pattern)} ${Object.prototype.toString.call(pattern)}`, "%d.%m.%Y Pattern %d.%m.%Y [object Pattern]");
+  assert.throws(() => new Pattern("%Y-%Q"), wrongFrom(3, 5, "no such specifier"));
+  assert.throws(() => new Pattern("100%"), wrongFrom(3, 4, "the pattern ends within a specifier"));
+  assert.throws(() => new Pattern("\u{1f600}\ufeff%\u00e9"), { ...wrongFrom(3, 5, "no such specifier"), text: "\u{1f600}\ufeff%\u00e9" });
+  assert.throws(() => new Pattern("\ufeff%Q"), wrongFrom(1, 3, "no such specifier"));
+  // (the euro sign, of three bytes, lies across the end)
+  const long = "x".repeat(57_343);
+  assert.throws(() => new Pattern(`${long}\u20ac`), wrongFrom(57_343, 57_344, "longer than 57,344 bytes"));
+  assert.equal(`${new Pattern(long)}`, long);
+});
+
+test("format_date", () => {
+  const date = new PlainDate(2024, 2, 29);
+  for (const [pattern, wanted] of [
+    ["%d.%m.%Y", "29.02.2024"], ["%A %-e %B, week %V of %G, day %j", "Thursday 29 February, week 09 of 2024, day 060"], ["", ""],
+    ["\ufeff%-d. M\u00e4rz \u{1f600} 100%%", "\ufeff29. M\u00e4rz \u{1f600} 100%"], ["x".repeat(1_000), "x".repeat(1_000)],
+  ]) {
+    assert.equal(new Pattern(pattern).format(date), wanted);
+  }
+  assert.equal(new Pattern("%Y %m").format(new PlainDate(-1, 3, 1)), "-0001 03");
+  assert.throws(() => new Pattern("%F %H").format(date), { name: "RangeError", message: /^"%F %H": it asks for what 2024-02-29 lacks/ });
+  refused(() => new Pattern("%z").format(date));
+  refused(() => new Pattern("x".repeat(1_001)).format(date));
+  for (const value of ["2024-02-29", undefined, { year: 2024, month: 2, day: 29 }]) {
+    assert.throws(() => new Pattern("%F").format(value), TypeError);
+  }
+});
+
+test("format_date_time", () => {
+  assert.equal(new Pattern("%I:%M %p, %s").format(new PlainDateTime(2024, 3, 1, 13)), "01:00 PM, 1709298000");
+  assert.equal(new Pattern("%T%.f").format(PlainDateTime.from("2024-02-29T23:59:60.5")), "23:59:60.500");
+  assert.equal(new Pattern("%F").format(new PlainDateTime(2024, 3, 1, 13)), "2024-03-01");
+  refused(() => new Pattern("%T %z").format(new PlainDateTime(2024, 3, 1, 13)));
+});
+
+test("parse_date", () => {
+  assert.equal(`${new Pattern("%d %b %Y").parseDate("29 feb 2024")}`, "2024-02-29");
+  assert.equal(`${new Pattern("%Y%m%d").parseDate(20240229)} ${new Pattern("\ufeff%G-W%V-%u").parseDate("\ufeff2024-W09-4")}`, "2024-02-29 2024-02-29");
+  assert.ok(new Pattern("%F").parseDate("2024-02-29") instanceof PlainDate);
+  const pattern = new Pattern("%d.%m.%Y");
+  for (const [text, start, reason] of [
+    ["29.", 3, "the text ends before its pattern"], ["29.2.2024x", 9, "the text goes on behind its pattern"], ["29-2", 2, "not of the pattern"],
+    ["29.13", 3, "a number that is out of range"], ["29.2.2023", 9, "no such day or time"],
+  ]) {
+    assert.throws(() => pattern.parseDate(text), { ...wrongFrom(start, text.length, reason), text, message: `${JSON.stringify(text)}: ${reason}` });
+  }
+  assert.throws(() => new Pattern("%d.%m.").parseDate("29.2."), wrongFrom(5, 5, "too few fields for a day or a time"));
+  // (a place is one of the string, and never within a character: the first bytes of both letters are the same)
+  assert.throws(() => new Pattern("\u{1f600}\u00e9%F").parseDate("\u{1f600}\u00e82024-02-29"), wrongFrom(2, 13, "not of the pattern"));
+  assert.throws(() => pattern.parseDate("1".repeat(57_345)), wrongFrom(57_344, 57_345, "longer than 57,344 bytes"));
+});
+
+test("parse_date_time", () => {
+  assert.equal(`${new Pattern("%F %R").parseDateTime("2024-03-01 13:00")}`, "2024-03-01T13:00:00");
+  assert.equal(`${new Pattern("%FT%T%.f").parseDateTime("2024-02-29T23:59:60.5")}`, "2024-02-29T23:59:60.5");
+  assert.equal(`${new Pattern("%s").parseDateTime("0")}`, "1970-01-01T00:00:00");
+  assert.throws(() => new Pattern("%F %R").parseDateTime("2024-03-01 25:00"), wrongFrom(11, 16, "a number that is out of range"));
+  assert.throws(() => new Pattern("%F").parseDateTime("2024-03-01"), wrongFrom(10, 10, "too few fields for a day or a time"));
 });

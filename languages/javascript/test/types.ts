@@ -1,4 +1,4 @@
-import { BusinessCalendar, dayCount, daysUntil, Duration, easter, Instant, isLeapYear, PlainDate, PlainDateTime, Rule, Schedule, TextError } from "proved-calendar";
+import { BusinessCalendar, dayCount, daysUntil, Duration, easter, Instant, isLeapYear, Pattern, PlainDate, PlainDateTime, Rule, Schedule, TextError } from "proved-calendar";
 
 const due: PlainDate = new PlainDate(2024, 2, 29).add({ years: 1 }, { overflow: "constrain" });
 const weeks: number = due.until("2026-01-01", { largestUnit: "weeks" }).weeks;
@@ -17,4 +17,5 @@ const known: PlainDate[] = [easter(2024), ...BusinessCalendar.of("target", 2024,
 const place = (wrong: TextError): [number, number, string] => [wrong.start, wrong.end, wrong.reason];
 const seconds: Duration = Instant.from("2024-02-29T12:00Z").until(new Instant(0n), { largestUnit: "hours" });
 const ruleDays: PlainDate[] = [...new Rule("FREQ=DAILY;COUNT=3", due)];
-export const more = [ruleDays, known, next, third, seconds, part, place, calendar.add(due, 2).dayNumber];
+const patterns: [string, PlainDate, PlainDateTime] = [new Pattern("%F").format(due), new Pattern("%F").parseDate("2024-02-29"), new Pattern("%s").parseDateTime("0")];
+export const more = [patterns, ruleDays, known, next, third, seconds, part, place, calendar.add(due, 2).dayNumber];
