@@ -298,6 +298,14 @@ class Machine(Cases):
                     found, wanted = DateTime.fromtimestamp(stamp), datetime.datetime.fromtimestamp(stamp)
                     self.assertEqual((found, found.fold, found.tzinfo), (wanted, wanted.fold, None))
 
+    def test_skipped(self):
+        self.set("Europe/Berlin")
+        for fold in (0, 1):
+            theirs = datetime.datetime(2024, 3, 31, 2, 30, fold=fold)
+            ours = DateTime.from_datetime(theirs)
+            self.assertEqual(ours.timestamp(), theirs.timestamp())
+            self.assertEqual(ours.astimezone(timezone.utc), theirs.astimezone(timezone.utc))
+
 
 if __name__ == "__main__":
     unittest.main()
