@@ -110,7 +110,9 @@ def utc_of(moment: Any) -> Any:
     offset = length_asked(moment, "utcoffset")
     if offset is not None:
         return moment.replace(tzinfo=None, fold=0) - offset
-    return type(moment).from_seconds(timestamp_of_local(moment), moment.nanosecond)
+    at = timestamp_of_local(moment)
+    # (as datetime has it, which moves a time that the clock skips by the offset at its timestamp)
+    return type(moment).from_seconds(moment.seconds - (_local_seconds(at) - at), moment.nanosecond)
 
 
 def local_zone(utc: Any) -> datetime.timezone:
