@@ -54,7 +54,7 @@ ABSENT = {
     "of Python": "OverflowError TypeError ValueError datetime timedelta __slots__ __getstate__",
     "of JavaScript": "BigInt calendarName PlainTime ZonedDateTime iso8601 RangeError Temporal overflow wasm-opt",
     "of earlier versions": "check_rule check_schedule Roll::Nearest",
-    "of SQL, and of texts that it is given": "timestamptz STRICT IMMUTABLE STABLE nearest-isda nearest-quantlib",
+    "of SQL, and of texts that it is given": "timestamptz STRICT IMMUTABLE STABLE nearest-isda nearest-quantlib nearest_quantlib",
     "of C": "int32_t memcpy",
     "of Rust's compiler and of the kit's options": "ConversionError serde",
     "read from the environment": "CALENDAR_FOLDER CMAKE_PREFIX_PATH PKG_CONFIG_PATH TZ TZDIR",
