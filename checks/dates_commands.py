@@ -806,11 +806,10 @@ def with_words_missing(chance, asked):
         return None
     if "option" in asked.kinds[place - 1]:
         return refused(asked, cut, f"dates: argument {place}, {cut[-1]}: its value is missing")
-    missing = "[A-Z|]+"
-    if kind in ("due_option", "rule_option"):
-        missing = "--from TIME" if kind == "due_option" else "--start DAY"
-        if missing.split()[0] in cut:
-            return None
+    # (a schedule goes from now where nothing else is said)
+    if kind == "due_option" or kind == "rule_option" and "--start" in cut:
+        return None
+    missing = "--start DAY" if kind == "rule_option" else "[A-Z|]+"
     return refused(asked, cut, re.compile(f"dates: {missing} is missing; usage: dates {cut[0]} .*"))
 
 
