@@ -168,7 +168,9 @@ def layout_of(dtype: Any) -> Layout:
 
 
 def array_of(it: Any) -> Any:
-    """An array of native byte order."""
+    """An array of native byte order, and none with a mask, which would be lost."""
+    if isinstance(it, np.ma.MaskedArray):
+        raise TypeError("a masked array is no column: fill it, with NaT for what is no date")
     found = np.asarray(it)
     return found if found.dtype.isnative else found.astype(found.dtype.newbyteorder("="))
 

@@ -670,6 +670,11 @@ class Arrays(Columns):
         for name in columns.__all__:
             self.assertTrue(getattr(columns, name).__doc__)
 
+    def test_masked(self):
+        for name, call in (CALLS | TIME_CALLS).items():
+            with self.subTest(name):
+                self.assertRaises(TypeError, call, numpy.ma.array(numpy.array(["2024-02-29", "2024-03-01"], "M8[s]"), mask=[0, 1]))
+
     def test_examples(self):
         failed, tried = doctest.testmod(columns, verbose=False)
         self.assertEqual((failed, tried > 2), (0, True))

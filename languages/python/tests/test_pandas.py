@@ -39,7 +39,7 @@ def some_times(count=500, name="due", seed=1):
     """A Series of times of the years 1900 to 2100, of which some are NaT, with an index of its own."""
     chance = random.Random(seed)
     times = [chance.randint(-25_567, 47_481) * DAY + chance.choice((0, chance.randrange(DAY))) for _ in range(count)]
-    series = pandas.Series(numpy.array(times).view("M8[ns]"), [f"row {it}" for it in range(count)], name=name)
+    series = pandas.Series(numpy.array(times).view("M8[ns]"), [f"label {it}" for it in range(count)], name=name)
     series.iloc[::7] = pandas.NaT
     return series
 
@@ -116,8 +116,8 @@ class Accessor(unittest.TestCase):
         moved = self.series.proved.add_open_days(steps, CALENDAR)
         wanted = [None if at is None or missing(by) else CALENDAR.add(at.date, int(by)) for at, by in zip(self.at, steps)]
         self.assertEqual([None if missing(it) else Date.from_date(it.date()) for it in moved], wanted)
-        few = self.series.proved.add_days(pandas.Series([1], ["row 1"]))
-        self.assertEqual((len(few), few.notna().sum(), few["row 1"]), (500, 1, self.series["row 1"] + pandas.Timedelta(1, "D")))
+        few = self.series.proved.add_days(pandas.Series([1], ["label 1"]))
+        self.assertEqual((len(few), few.notna().sum(), few["label 1"]), (500, 1, self.series["label 1"] + pandas.Timedelta(1, "D")))
         for wrong, error in ((steps.astype(object).fillna("x"), TypeError), (steps.astype("float64") + 0.5, ValueError), ("x", TypeError), (None, TypeError)):
             self.assertRaises(error, self.series.proved.add_days, wrong)
             self.assertRaises(error, self.series.proved.add_open_days, wrong, CALENDAR)
@@ -134,7 +134,7 @@ class Accessor(unittest.TestCase):
         for one in ("2024-02-29", pandas.Timestamp("2024-02-29 12:00"), datetime.date(2024, 2, 29), numpy.datetime64("2024-02-29")):
             self.same(of.days_between(one), [it and it.date - Date(2024, 2, 29) for it in self.at], "Int64")
         self.assertTrue(of.days_between(pandas.NaT).isna().all())
-        other = of.days_between(pandas.Series([pandas.Timestamp("2024-02-29")], ["row 1"]))
+        other = of.days_between(pandas.Series([pandas.Timestamp("2024-02-29")], ["label 1"]))
         self.assertEqual((len(other), other.notna().sum()), (500, 1))
         self.assertRaises(TypeError, of.days_between, pandas.Series([1]))
 
