@@ -1,20 +1,21 @@
 -- What a separable pattern loses it loses for good: a value that is read back writes the same text.
-use Rattle.std.proofs.Common.{◌≡◌, ℕ, ◌+◌, ◌/◌, ◌%◌, ◌<◌, ◌≤◌, ◌==◌, Bool, true, false, if◌then◌else◌, nat_lt, List, [], ◌∷◌, ◌++◌, codes, length, take, Option, Some, None, Ok, ℤ, pos, ◌-ℤ◌, refl, ap, sym, subst, ◌∙◌, arith}
+use Rattle.std.proofs.Common.{◌≡◌, ℕ, ◌+◌, ◌/◌, ◌%◌, ◌<◌, ◌≤◌, ◌==◌, Bool, true, false, ◌||◌, if◌then◌else◌, nat_lt, List, [], ◌∷◌, ◌++◌, codes, length, take, Option, Some, None, Ok, ℤ, pos, negsuc, ◌+ℤ◌, ◌-ℤ◌, ◌*ℤ◌, refl, ap, sym, subst, ◌∙◌, arith}
 use Rattle.std.proofs.lemmas.Bool.{and_parts, false≢true}
 use Rattle.std.proofs.lemmas.Bool.Decides.{Decides-int_eq, nat_tests}
 use Rattle.std.proofs.lemmas.Option.{same_Some}
 use Rattle.std.specs.Int.{int_div_euclid, int_rem_euclid}
 use Rattle.std.specs.Int.RustNames.{int_lt}
+use Rattle.std.specs.Ordering.{int_eq}
 use Rattle.std.specs.Prelude.{unsigned_abs}
 use Rattle.chrono_calendar.proofs.Signed.{signed}
 use Rattle.chrono_text.proofs.AnswerLemmas.{same_Ok}
 use Rattle.chrono_datetime.specs.Days.{day_of, month_of, ordinal_of, year_of}
 use Rattle.chrono_datetime.specs.Duration.{nanos_per_second}
-use Rattle.chrono_datetime.specs.Fields.{quarter_of_month}
+use Rattle.chrono_datetime.specs.Fields.{quarter_of_month, unix_epoch_day}
 use Rattle.chrono_datetime.specs.Moment.{Moment, moment}
 use Rattle.chrono_datetime.specs.Month.{month_from_number, month_name}
 use Rattle.chrono_datetime.specs.Names.{weekday_name}
-use Rattle.chrono_datetime.specs.Time.{TimeOfDay, hour_of, minute_of, second_of}
+use Rattle.chrono_datetime.specs.Time.{IsTime, TimeOfDay, hour_of, is_leap, minute_of, second_of}
 use Rattle.chrono_datetime.specs.Weekday.{days_from_sunday, number_from_monday}
 use Rattle.chrono_datetime.specs.WeekdayText.{weekday_text}
 use Rattle.chrono_datetime.specs.Weeks.{iso_week_of, iso_year_of, weekday_of}
@@ -34,11 +35,11 @@ use Rattle.chrono_pattern.specs.ReadBack.{if_named, parts_of}
 use Rattle.chrono_pattern.specs.Reads.{text_read}
 use Rattle.chrono_pattern.specs.Separable.{bar_behind, is_separable, is_separable_from, takes_item}
 use Rattle.chrono_pattern.specs.Subseconds.{digit_count, fraction_with, subsecond_of}
-use Rattle.chrono_pattern.specs.TimeParts.{clock_fits, counts, second_fits, time_fits}
+use Rattle.chrono_pattern.specs.TimeParts.{IsClockTime, clock_fits, counts, second_fits, time_fits}
 use Rattle.chrono_pattern.specs.Words.{word_text}
 use Rattle.chrono_pattern.specs.YearWeeks.{week_from_monday, week_from_sunday}
-use Rattle.chrono_pattern.specs.ZonedParts.{fits_by, moment_fits, zoned_fits}
-use Rattle.chrono_pattern.specs.ZonedPieces.{iso_piece, offset_piece}
+use Rattle.chrono_pattern.specs.ZonedParts.{fits_by, is_next_to, is_stamp_of, moment_fits, shows_second, stamped_time_fits, zoned_fits}
+use Rattle.chrono_pattern.specs.ZonedPieces.{iso_piece, offset_piece, stamp_piece}
 use Rattle.chrono_pattern.specs.declared.item.Bar.{Bar}
 use Rattle.chrono_pattern.specs.declared.item.Bar.TheVariants.{Free}
 use Rattle.chrono_pattern.specs.declared.item.GroupField.{GroupField}
@@ -62,14 +63,14 @@ use Rattle.chrono_pattern.proofs.BackPatterns.{parts_back}
 use Rattle.chrono_pattern.proofs.BackSubseconds.{fraction_of}
 use Rattle.chrono_pattern.proofs.BackValues.{given_all, kept_like, kept_parts}
 use Rattle.chrono_pattern.proofs.DatePartLemmas.{numbered}
-use Rattle.chrono_pattern.proofs.FieldLemmas.{named_from-more, named_from-none, named_from-nothing}
+use Rattle.chrono_pattern.proofs.FieldLemmas.{named_from-more, named_from-nothing}
 use Rattle.chrono_pattern.proofs.PatternLemmas.{text_from-more, text_from-nothing}
 use Rattle.chrono_pattern.proofs.SeparableLemmas.{separable-more, separable-none}
 use Rattle.chrono_pattern.proofs.ShapeLemmas.{Like, mark}
 
 -- ---- two date-times with the same named parts
 
-abbrev Same : Parsed → Moment → ℤ → Moment → ℤ → Type 0
+abbrev pub Same : Parsed → Moment → ℤ → Moment → ℤ → Type 0
 Same q m x w y = parts_of q m x ≡ parts_of q w y
 
 -- the value of a part that is given, if the part is named
@@ -209,12 +210,18 @@ fewer_group DateAndTime q m x w y e =
     fewer_part DayOfWeek q m x w y (fewer_part MonthOfYear (with_named DayOfWeek q) m x w y
     (fewer_number SpacedDay month m x w y (fewer_clock Hour day m x w y (fewer_number Year (with_clock Hour day) m x w y e))))
 
-abbrev stamp_free : Item → Bool
-stamp_free (Zoned Stamp) = false
-stamp_free (Zoned ZoneName) = false
-stamp_free _ = true
+-- nothing reads the name of a zone
+abbrev zone_free : Item → Bool
+zone_free (Zoned ZoneName) = false
+zone_free _ = true
 
-fewer_item : (item : Item) (q : Parsed) (m : Moment) (x : ℤ) (w : Moment) (y : ℤ) → stamp_free item ≡ true → Same (with_item item q) m x w y → Same q m x w y
+fewer_stamp : (q : Parsed) (m : Moment) (x : ℤ) (w : Moment) (y : ℤ) → Same (with_item (Zoned Stamp) q) m x w y → Same q m x w y
+fewer_stamp q m x w y e =
+    ap (λ (o : Option ℤ). record (parts_of q m x) { timestamp = o }) (sym (keep_is q.timestamp (epoch_second m -ℤ x)))
+    ∙ ap (λ (p : Parsed). record p { timestamp = keep q.timestamp p.timestamp }) e
+    ∙ ap (λ (o : Option ℤ). record (parts_of q w y) { timestamp = o }) (keep_is q.timestamp (epoch_second w -ℤ y))
+
+fewer_item : (item : Item) (q : Parsed) (m : Moment) (x : ℤ) (w : Moment) (y : ℤ) → zone_free item ≡ true → Same (with_item item q) m x w y → Same q m x w y
 fewer_item Empty q m x w y free e = e
 fewer_item (Byte c) q m x w y free e = e
 fewer_item (Number field padding) q m x w y free e = fewer_number field q m x w y e
@@ -223,7 +230,7 @@ fewer_item (Group g) q m x w y free e = fewer_group g q m x w y e
 fewer_item (Subsecond point count) q m x w y free e = fewer_part NanosecondOfSecond q m x w y e
 fewer_item (Zoned (Offset form)) q m x w y free e = fewer_part OffsetFromUtc q m x w y e
 fewer_item (Zoned ZoneName) q m x w y free e = e
-fewer_item (Zoned Stamp) q m x w y free e = absurd (false≢true free)
+fewer_item (Zoned Stamp) q m x w y free e = fewer_stamp q m x w y e
 fewer_item (Zoned Iso8601) q m x w y free e =
     let date = with_group YearMonthDay q in
     let clock = with_group HourMinuteSecond date in
@@ -257,7 +264,7 @@ abbrev century_text : Padding → Bool → ℕ → List ℕ
 century_text padding before n =
     padded (padding_of Century padding) (least_digits Century (length (if before then codes "-" else []))) (if before then codes "-" else []) n
 
-number_same : (field : NumberField) (padding : Padding) (q : Parsed) (m : Moment) (x : ℤ) (w : Moment) (y : ℤ) → Same (with_number_field field q) m x w y
+pub number_same : (field : NumberField) (padding : Padding) (q : Parsed) (m : Moment) (x : ℤ) (w : Moment) (y : ℤ) → Same (with_number_field field q) m x w y
     → field_text field padding m ≡ field_text field padding w
 unfolding field_text
 number_same Year padding q m x w y e =
@@ -323,7 +330,7 @@ halves_same t u e = by_tests (nat_lt (hour_of t) 12) (nat_lt (hour_of u) 12) ref
     by_tests false true h k =
         let many : 12 ≤ hour_of t = grind (arith, nat_tests, h) in let few : hour_of u < 12 = grind (arith, nat_tests, k) in absurd (omega (arith, few, many, e))
 
-word_same : (word : WordField) (q : Parsed) (m : Moment) (x : ℤ) (w : Moment) (y : ℤ) → Same (with_named (word_part word) q) m x w y → word_text word m ≡ word_text word w
+pub word_same : (word : WordField) (q : Parsed) (m : Moment) (x : ℤ) (w : Moment) (y : ℤ) → Same (with_named (word_part word) q) m x w y → word_text word m ≡ word_text word w
 unfolding word_text
 word_same MonthName q m x w y e = ap (λ (k : ℕ). month_name (month_from_number k)) (same_size _ _ (ap (λ (p : Parsed). p.month) e))
 word_same MonthLetters q m x w y e = ap (λ (k : ℕ). take 3 (month_name (month_from_number k))) (same_size _ _ (ap (λ (p : Parsed). p.month) e))
@@ -349,7 +356,7 @@ clock_same hour q m x w y e =
     two_same _ _ _ _ 58 (two_same _ _ _ _ 58 (number_same hour Usual q m x w y (fewer_number Minute first m x w y minutes)) (number_same Minute Usual first m x w y minutes))
     (number_same Second Usual second m x w y e)
 
-group_same : (g : GroupField) (q : Parsed) (m : Moment) (x : ℤ) (w : Moment) (y : ℤ) → Same (with_group g q) m x w y → group_text g m ≡ group_text g w
+pub group_same : (g : GroupField) (q : Parsed) (m : Moment) (x : ℤ) (w : Moment) (y : ℤ) → Same (with_group g q) m x w y → group_text g m ≡ group_text g w
 unfolding group_text with_group
 group_same YearMonthDay q m x w y e =
     let first = with_number_field Year q in
@@ -400,7 +407,7 @@ subsecond_same point count q m x w y e =
 offset_same : (q : Parsed) (m : Moment) (x : ℤ) (w : Moment) (y : ℤ) → Same (with_named OffsetFromUtc q) m x w y → x ≡ y
 offset_same q m x w y e = same_Some _ _ (ap (λ (p : Parsed). p.offset) e)
 
-item_same : (item : Item) (q : Parsed) (m : Moment) (x : ℤ) (w : Moment) (y : ℤ) → stamp_free item ≡ true → Same (with_item item q) m x w y
+item_same : (item : Item) (q : Parsed) (m : Moment) (x : ℤ) (w : Moment) (y : ℤ) → zone_free item ≡ true → Same (with_item item q) m x w y
     → text_of_item item m x ≡ text_of_item item w y
 unfolding iso_piece
 item_same Empty q m x w y free e = refl
@@ -411,7 +418,7 @@ item_same (Group g) q m x w y free e = group_same g q m x w y e
 item_same (Subsecond point count) q m x w y free e = subsecond_same point count q m x w y e
 item_same (Zoned (Offset form)) q m x w y free e = ap (λ (z : ℤ). offset_piece form z) (offset_same q m x w y e)
 item_same (Zoned ZoneName) q m x w y free e = absurd (false≢true free)
-item_same (Zoned Stamp) q m x w y free e = absurd (false≢true free)
+item_same (Zoned Stamp) q m x w y free e = ap (λ (s : ℤ). stamp_piece s) (same_Some _ _ (ap (λ (p : Parsed). p.timestamp) e))
 item_same (Zoned Iso8601) q m x w y free e =
     let date = with_group YearMonthDay q in
     let clock = with_group HourMinuteSecond date in
@@ -426,104 +433,32 @@ item_same (Zoned Iso8601) q m x w y free e =
 
 -- ---- the bytes of a pattern
 
-number_stamp : (field : NumberField) (q : Parsed) → (with_number_field field q).timestamp ≡ q.timestamp
-number_stamp Year q = refl
-number_stamp Century q = refl
-number_stamp YearOfCentury q = refl
-number_stamp Quarter q = refl
-number_stamp Month q = refl
-number_stamp Day q = refl
-number_stamp SpacedDay q = refl
-number_stamp DayOfYear q = refl
-number_stamp FromMonday q = refl
-number_stamp FromSunday q = refl
-number_stamp IsoYear q = refl
-number_stamp IsoYearOfCentury q = refl
-number_stamp IsoWeek q = refl
-number_stamp WeekFromSunday q = refl
-number_stamp WeekFromMonday q = refl
-number_stamp Hour q = refl
-number_stamp SpacedHour q = refl
-number_stamp HalfHour q = refl
-number_stamp SpacedHalfHour q = refl
-number_stamp Minute q = refl
-number_stamp Second q = refl
-number_stamp Nanosecond q = refl
-
-word_stamp : (word : WordField) (q : Parsed) → (with_named (word_part word) q).timestamp ≡ q.timestamp
-word_stamp MonthName q = refl
-word_stamp MonthLetters q = refl
-word_stamp WeekdayName q = refl
-word_stamp WeekdayLetters q = refl
-word_stamp Half q = refl
-word_stamp SmallHalf q = refl
-
-group_stamp : (g : GroupField) (q : Parsed) → (with_group g q).timestamp ≡ q.timestamp
-unfolding with_group
-group_stamp YearMonthDay q = refl
-group_stamp MonthDayYear q = refl
-group_stamp HourMinute q = refl
-group_stamp HourMinuteSecond q = refl
-group_stamp HalfClock q = refl
-group_stamp DayMonthYear q = refl
-group_stamp DateAndTime q = refl
-
--- seconds from 1970 that are named stay named
-item_stamp : (item : Item) (q : Parsed) → is_present q.timestamp ≡ true → is_present (with_item item q).timestamp ≡ true
-unfolding with_group
-item_stamp Empty q h = h
-item_stamp (Byte c) q h = h
-item_stamp (Number field padding) q h = ap (λ (o : Option ℤ). is_present o) (number_stamp field q) ∙ h
-item_stamp (Word word) q h = ap (λ (o : Option ℤ). is_present o) (word_stamp word q) ∙ h
-item_stamp (Group g) q h = ap (λ (o : Option ℤ). is_present o) (group_stamp g q) ∙ h
-item_stamp (Subsecond point count) q h = h
-item_stamp (Zoned (Offset form)) q h = h
-item_stamp (Zoned ZoneName) q h = h
-item_stamp (Zoned Stamp) q h = refl
-item_stamp (Zoned Iso8601) q h = h
-
-abbrev Stamped : List ℕ → Type 0
-Stamped bytes = (s : State) (q : Parsed) → is_present q.timestamp ≡ true → is_present (named_from s bytes q).timestamp ≡ true
-
-step_stamped : (c : ℕ) (bytes : List ℕ) → Stamped bytes → (s : State) (q : Parsed) (o : Option (State × Item)) → pattern_step s c ≡ o
-    → is_present q.timestamp ≡ true → is_present (named_from s (c ∷ bytes) q).timestamp ≡ true
-step_stamped c bytes rest s q None e h = ap (λ (p : Parsed). is_present p.timestamp) (named_from-none s c bytes q e) ∙ h
-step_stamped c bytes rest s q (Some next) e h =
-    ap (λ (p : Parsed). is_present p.timestamp) (named_from-more s c bytes q next e) ∙ rest next.0 (with_item next.1 q) (item_stamp next.1 q h)
-
-stamped : (bytes : List ℕ) → Stamped bytes
-stamped [] s q h = ap (λ (p : Parsed). is_present p.timestamp) (named_from-nothing s q) ∙ h
-stamped (c ∷ bytes) s q h = step_stamped c bytes (stamped bytes) s q (pattern_step s c) refl h
-
--- an item of a separable pattern that names no seconds from 1970
-free_item : (wide : Bool) (bar : Bar) (item : Item) (s : State) (bytes : List ℕ) (q : Parsed) → takes_item wide bar item ≡ true
-    → is_present (named_from s bytes (with_item item q)).timestamp ≡ false → stamp_free item ≡ true
-free_item wide bar Empty s bytes q takes none = refl
-free_item wide bar (Byte c) s bytes q takes none = refl
-free_item wide bar (Number field padding) s bytes q takes none = refl
-free_item wide bar (Word word) s bytes q takes none = refl
-free_item wide bar (Group g) s bytes q takes none = refl
-free_item wide bar (Subsecond point count) s bytes q takes none = refl
-free_item wide bar (Zoned (Offset form)) s bytes q takes none = refl
-free_item wide bar (Zoned ZoneName) s bytes q takes none = takes
-free_item wide bar (Zoned Stamp) s bytes q takes none = absurd (false≢true (sym none ∙ stamped bytes s (with_item (Zoned Stamp) q) refl))
-free_item wide bar (Zoned Iso8601) s bytes q takes none = refl
+taken_free : (wide : Bool) (bar : Bar) (item : Item) → takes_item wide bar item ≡ true → zone_free item ≡ true
+taken_free wide bar Empty takes = refl
+taken_free wide bar (Byte c) takes = refl
+taken_free wide bar (Number field padding) takes = refl
+taken_free wide bar (Word word) takes = refl
+taken_free wide bar (Group g) takes = refl
+taken_free wide bar (Subsecond point count) takes = refl
+taken_free wide bar (Zoned (Offset form)) takes = refl
+taken_free wide bar (Zoned ZoneName) takes = takes
+taken_free wide bar (Zoned Stamp) takes = refl
+taken_free wide bar (Zoned Iso8601) takes = refl
 
 -- the bytes write the same of both
 abbrev Again : Bool → List ℕ → Moment → ℤ → Moment → ℤ → Type 0
-Again wide bytes m x w y = (s : State) (bar : Bar) (q : Parsed) → is_separable_from wide s bar bytes ≡ true → is_present (named_from s bytes q).timestamp ≡ false
+Again wide bytes m x w y = (s : State) (bar : Bar) (q : Parsed) → is_separable_from wide s bar bytes ≡ true
     → Same (named_from s bytes q) m x w y → (text_from s bytes m x ≡ text_from s bytes w y) × Same q m x w y
 
 step_again : (wide : Bool) (c : ℕ) (bytes : List ℕ) (m : Moment) (x : ℤ) (w : Moment) (y : ℤ) → Again wide bytes m x w y → (s : State) (bar : Bar) (q : Parsed)
-    → (o : Option (State × Item)) → pattern_step s c ≡ o → is_separable_from wide s bar (c ∷ bytes) ≡ true → is_present (named_from s (c ∷ bytes) q).timestamp ≡ false
+    → (o : Option (State × Item)) → pattern_step s c ≡ o → is_separable_from wide s bar (c ∷ bytes) ≡ true
     → Same (named_from s (c ∷ bytes) q) m x w y → (text_from s (c ∷ bytes) m x ≡ text_from s (c ∷ bytes) w y) × Same q m x w y
-step_again wide c bytes m x w y rest s bar q None e h none same = absurd (false≢true (sym (separable-none wide s bar c bytes e) ∙ h))
-step_again wide c bytes m x w y rest s bar q (Some next) e h none same =
+step_again wide c bytes m x w y rest s bar q None e h same = absurd (false≢true (sym (separable-none wide s bar c bytes e) ∙ h))
+step_again wide c bytes m x w y rest s bar q (Some next) e h same =
     let both = and_parts (takes_item wide bar next.1) (is_separable_from wide next.0 (bar_behind wide bar next.1) bytes) (sym (separable-more wide s bar c bytes next e) ∙ h) in
     let more = named_from-more s c bytes q next e in
-    let unstamped = sym (ap (λ (p : Parsed). is_present p.timestamp) more) ∙ none in
-    let free = free_item wide bar next.1 next.0 bytes q both.0 unstamped in
-    let behind = rest next.0 (bar_behind wide bar next.1) (with_item next.1 q) both.1 unstamped (subst (λ (p : Parsed). Same p m x w y) more same) in (
+    let free = taken_free wide bar next.1 both.0 in
+    let behind = rest next.0 (bar_behind wide bar next.1) (with_item next.1 q) both.1 (subst (λ (p : Parsed). Same p m x w y) more same) in (
       text_from-more s c bytes m x next e
           ∙ ap (λ (l : List ℕ). l ++ text_from next.0 bytes m x) (item_same next.1 q m x w y free behind.1)
           ∙ ap (λ (l : List ℕ). text_of_item next.1 w y ++ l) behind.0
@@ -532,10 +467,10 @@ step_again wide c bytes m x w y rest s bar q (Some next) e h none same =
     )
 
 again : (wide : Bool) (bytes : List ℕ) (m : Moment) (x : ℤ) (w : Moment) (y : ℤ) → Again wide bytes m x w y
-again wide [] m x w y s bar q h none same =
+again wide [] m x w y s bar q h same =
     (text_from-nothing s m x ∙ sym (text_from-nothing s w y), subst (λ (p : Parsed). Same p m x w y) (named_from-nothing s q) same)
-again wide (c ∷ bytes) m x w y s bar q h none same =
-    step_again wide c bytes m x w y (again wide bytes m x w y) s bar q (pattern_step s c) refl h none same
+again wide (c ∷ bytes) m x w y s bar q h same =
+    step_again wide c bytes m x w y (again wide bytes m x w y) s bar q (pattern_step s c) refl h same
 
 -- ---- a value that fits has the same named parts
 
@@ -551,7 +486,7 @@ counted_same None (Some b) v w e h = cc
 counted_same (Some a) None v w e h = cc
 counted_same (Some a) (Some b) v w e h = ap (λ (z : ℤ). Some z) ((Decides-int_eq v w).0 h)
 
-absent_same : (o : Option ℤ) (v w : ℤ) → is_present o ≡ false → if_named o v ≡ if_named o w
+pub absent_same : (o : Option ℤ) (v w : ℤ) → is_present o ≡ false → if_named o v ≡ if_named o w
 absent_same None v w h = refl
 absent_same (Some a) v w h = absurd (false≢true (sym h))
 
@@ -648,9 +583,8 @@ time_same bytes m x u like fits =
     }
 
 all_same : (q : Parsed) (m : Moment) (x : ℤ) (w : Moment) (y : ℤ) → DateSame q m.date w.date → TimeSame q m.time w.time → if_named q.offset x ≡ if_named q.offset y
-    → is_present q.timestamp ≡ false → Same q m x w y
-all_same q m x w y date time offset none =
-    let stamp = absent_same q.timestamp (epoch_second m -ℤ x) (epoch_second w -ℤ y) none in
+    → if_named q.timestamp (epoch_second m -ℤ x) ≡ if_named q.timestamp (epoch_second w -ℤ y) → Same q m x w y
+all_same q m x w y date time offset stamp =
     let a = date.year in
     let b = date.century in
     let c = date.place in
@@ -684,7 +618,7 @@ date_again wide bytes m n separable kept none is =
     let fits = ap (λ (p : Parsed). date_fits p n) (sym (same_parts wide bytes m (pos 0) is.parts separable kept is.read)) ∙ is.fits in
     let date = date_same (given_parts bytes m.time) q m (pos 0) n (kept_like wide bytes m (pos 0) separable kept) fits in
     let time : TimeSame q m.time m.time = record { half = refl; hour = refl; minute = refl; second = refl; fraction = refl } in
-    sym (again wide bytes m (pos 0) (moment n m.time) (pos 0) Outside Free no_parts separable none (all_same q m (pos 0) (moment n m.time) (pos 0) date time refl none)).0
+    sym (again wide bytes m (pos 0) (moment n m.time) (pos 0) Outside Free no_parts separable (all_same q m (pos 0) (moment n m.time) (pos 0) date time refl (absent_same q.timestamp _ _ none))).0
 
 own_date : (q : Parsed) (n : ℤ) → DateSame q n n
 own_date q n = record { year = refl; century = refl; place = refl; isoyear = refl; iso_place = refl; quarter = refl; month = refl; isoweek = refl; from_sun = refl; from_mon = refl; weekday = refl; ordinal = refl; day = refl }
@@ -695,7 +629,7 @@ time_again wide bytes m u separable kept none is =
     let q = named_parts bytes in
     let fits = ap (λ (p : Parsed). time_fits p u) (sym (same_parts wide bytes m (pos 0) is.parts separable kept is.read)) ∙ is.fits in
     let time = time_same bytes m (pos 0) u (kept_like wide bytes m (pos 0) separable kept) fits in
-    sym (again wide bytes m (pos 0) (moment m.date u) (pos 0) Outside Free no_parts separable none (all_same q m (pos 0) (moment m.date u) (pos 0) (own_date q m.date) time refl none)).0
+    sym (again wide bytes m (pos 0) (moment m.date u) (pos 0) Outside Free no_parts separable (all_same q m (pos 0) (moment m.date u) (pos 0) (own_date q m.date) time refl (absent_same q.timestamp _ _ none))).0
 
 -- without the seconds from 1970 a date-time fits by its date and its time of day
 plain_fits : (g : Parsed) (m : Moment) (x : ℤ) (o : Option ℤ) (w : Moment) (y : ℤ) → mark (if_named g.timestamp (epoch_second m -ℤ x)) ≡ mark o → is_present o ≡ false
@@ -720,7 +654,7 @@ fits_again wide bytes m x w y separable kept none fits offset =
     let both = plain_fits (given_parts bytes m.time) m x q.timestamp w y (ap (λ (p : Parsed). p.timestamp) like.same) none fits in
     let date = date_same (given_parts bytes m.time) q m x w.date like both.0 in
     let time = time_same bytes m x w.time like both.1 in
-    sym (again wide bytes m x w y Outside Free no_parts separable none (all_same q m x w y date time offset none)).0
+    sym (again wide bytes m x w y Outside Free no_parts separable (all_same q m x w y date time offset (absent_same q.timestamp _ _ none))).0
 
 pub moment_again : (wide : Bool) (bytes : List ℕ) (m w : Moment) → is_separable wide bytes ≡ true → LosesNothing wide bytes m (pos 0) → is_present (named_parts bytes).timestamp ≡ false
     → IsMomentBy bytes (pattern_text bytes m) w → pattern_text bytes w ≡ pattern_text bytes m
@@ -737,3 +671,126 @@ zoned_again wide bytes m x w y separable kept none is =
     let offset = counted_same (given_parts bytes m.time).offset (named_parts bytes).offset x y
     (ap (λ (p : Parsed). p.offset) (kept_like wide bytes m x separable kept).same) both.0 in
     fits_again wide bytes m x w y separable kept none both.1 offset
+
+-- ---- with the seconds from 1970
+
+shown_same : (o other : Option ℤ) (v : ℤ) (t : TimeOfDay) → mark (if_named o v) ≡ mark other → shows_second (if_named o v) t ≡ true
+    → if_named other v ≡ if_named other (pos (second_of t + t.fraction / nanos_per_second))
+shown_same None None v t e h = refl
+shown_same None (Some b) v t e h = cc
+shown_same (Some a) None v t e h = cc
+shown_same (Some a) (Some b) v t e h = ap (λ (z : ℤ). Some z) ((Decides-int_eq v (pos (second_of t + t.fraction / nanos_per_second))).0 h)
+
+stamped_same : (bytes : List ℕ) (m : Moment) (x : ℤ) (u : TimeOfDay) → Like (kept_parts bytes m x) (named_parts bytes) → stamped_time_fits (kept_parts bytes m x) u ≡ true
+    → TimeSame (named_parts bytes) m.time u
+unfolding stamped_time_fits clock_fits
+stamped_same bytes m x u like fits =
+    let g = given_parts bytes m.time in
+    let q = named_parts bytes in
+    let s = like.same in
+    let both = and_parts _ _ fits in
+    let clock = and_parts _ _ both.0 in
+    let hours = and_parts _ _ clock.0 in
+    let seconds = and_parts _ _ both.1 in
+    record {
+      half = said_same g.hour_div_12 q.hour_div_12 _ _ (ap (λ (p : Parsed). p.hour_div_12) s) hours.0;
+      hour = said_same g.hour_mod_12 q.hour_mod_12 _ _ (ap (λ (p : Parsed). p.hour_mod_12) s) hours.1;
+      minute = said_same g.minute q.minute _ _ (ap (λ (p : Parsed). p.minute) s) clock.1;
+      second = shown_same g.second q.second _ u (ap (λ (p : Parsed). p.second) s) seconds.0;
+      fraction = fraction_same bytes m.time _ seconds.1;
+    }
+
+-- an offset of whole minutes
+abbrev Minutes : ℤ → Type 0
+Minutes x = unsigned_abs x % 60 ≡ 0
+
+-- two leap seconds are no second apart
+apart : (d e : ℤ) (s t : ℕ) (x y : ℤ) → s % 60 ≡ 59 → t % 60 ≡ 59 → Minutes x → Minutes y
+    → (d *ℤ pos 86_400 +ℤ pos s) -ℤ x ≡ ((e *ℤ pos 86_400 +ℤ pos t) -ℤ y) +ℤ pos 1 → ⊥
+apart d e s t (pos a) (pos b) first second x y is = omega (arith, signed, first, second, x, y, is)
+apart d e s t (pos a) (negsuc b) first second x y is = omega (arith, signed, first, second, x, y, is)
+apart d e s t (negsuc a) (pos b) first second x y is = omega (arith, signed, first, second, x, y, is)
+apart d e s t (negsuc a) (negsuc b) first second x y is = omega (arith, signed, first, second, x, y, is)
+
+-- a clock that shows the second of a leap second is in one
+leap_shown : (o : Option ℤ) (m w : TimeOfDay) → IsTime m → IsClockTime w → is_leap w ≡ true → shows_second (if_named o (pos (second_of m + m.fraction / nanos_per_second))) w ≡ true
+    → (m.second % 60 ≡ 59) × (w.second % 60 ≡ 59)
+leap_shown None m w time clock leap shown = absurd (false≢true (sym (ap (λ (b : Bool). if b then false else true) leap) ∙ shown))
+leap_shown (Some a) m w time clock leap shown =
+    let same = same_pos _ _ ((Decides-int_eq (pos (second_of m + m.fraction / nanos_per_second)) (pos (second_of w + w.fraction / nanos_per_second))).0 shown) in
+    let many : nanos_per_second ≤ w.fraction = grind (arith, nat_tests, leap) in
+    let last = clock.leap.1 many in
+    (omega (arith, same, many, last, time.fraction, clock.leap.0), last)
+
+stamp_same : (g : Parsed) (m : Moment) (x : ℤ) (w : Moment) (y : ℤ) → IsTime m.time → IsClockTime w.time → Minutes x → Minutes y
+    → shows_second (if_named g.second (pos (second_of m.time + m.time.fraction / nanos_per_second))) w.time ≡ true
+    → is_stamp_of (epoch_second m -ℤ x) w y ≡ true → epoch_second m -ℤ x ≡ epoch_second w -ℤ y
+stamp_same g m x w y time clock first second shown is = by_leap (is_leap w.time) refl is
+  where
+    by_test : is_leap w.time ≡ true → (a b : Bool) → int_eq (epoch_second m -ℤ x) (epoch_second w -ℤ y) ≡ a → int_eq (epoch_second m -ℤ x) (epoch_second w -ℤ y +ℤ pos 1) ≡ b
+        → (a || b) ≡ true → epoch_second m -ℤ x ≡ epoch_second w -ℤ y
+    by_test leap true b h k is = (Decides-int_eq (epoch_second m -ℤ x) (epoch_second w -ℤ y)).0 h
+    by_test leap false true h k is =
+        let both = leap_shown g.second m.time w.time time clock leap shown in
+        absurd (apart (m.date -ℤ unix_epoch_day) (w.date -ℤ unix_epoch_day) m.time.second w.time.second x y both.0 both.1 first second
+        ((Decides-int_eq (epoch_second m -ℤ x) (epoch_second w -ℤ y +ℤ pos 1)).0 k))
+    by_test leap false false h k is = absurd (false≢true is)
+
+    by_leap : (b : Bool) → is_leap w.time ≡ b → (if b then is_next_to (epoch_second m -ℤ x) (epoch_second w -ℤ y) else int_eq (epoch_second m -ℤ x) (epoch_second w -ℤ y)) ≡ true
+        → epoch_second m -ℤ x ≡ epoch_second w -ℤ y
+    by_leap false leap h = (Decides-int_eq (epoch_second m -ℤ x) (epoch_second w -ℤ y)).0 h
+    by_leap true leap h = by_test leap (int_eq (epoch_second m -ℤ x) (epoch_second w -ℤ y)) (int_eq (epoch_second m -ℤ x) (epoch_second w -ℤ y +ℤ pos 1)) refl refl h
+
+stamped_again : (wide : Bool) (bytes : List ℕ) (m : Moment) (x : ℤ) (w : Moment) (y : ℤ) → is_separable wide bytes ≡ true → LosesNothing wide bytes m x
+    → is_present (named_parts bytes).timestamp ≡ true → IsClockTime w.time → Minutes x → Minutes y
+    → moment_fits (kept_parts bytes m x) w y ≡ true → if_named (named_parts bytes).offset x ≡ if_named (named_parts bytes).offset y
+    → text_at_offset bytes w y ≡ text_at_offset bytes m x
+unfolding moment_fits stamped_time_fits
+stamped_again wide bytes m x w y separable kept some clock first second fits offset =
+    let g = given_parts bytes m.time in
+    let q = named_parts bytes in
+    let like = kept_like wide bytes m x separable kept in
+    let both = and_parts _ _ fits in
+    let date = date_same g q m x w.date like both.0 in
+    let parts = by_stamp g.timestamp q.timestamp (ap (λ (p : Parsed). p.timestamp) like.same) some both.1 in
+    let time = stamped_same bytes m x w.time like parts.0 in
+    let shown = (and_parts _ _ (and_parts _ _ parts.0).1).0 in
+    let stamp = ap (λ (z : ℤ). if_named q.timestamp z) (stamp_same g m x w y kept.time clock first second shown parts.1) in
+    sym (again wide bytes m x w y Outside Free no_parts separable (all_same q m x w y date time offset stamp)).0
+  where
+    by_stamp : (s other : Option ℤ) → mark (if_named s (epoch_second m -ℤ x)) ≡ mark other → is_present other ≡ true
+        → fits_by (if_named s (epoch_second m -ℤ x)) (kept_parts bytes m x) w y ≡ true
+        → (stamped_time_fits (kept_parts bytes m x) w.time ≡ true) × (is_stamp_of (epoch_second m -ℤ x) w y ≡ true)
+    by_stamp None None k h f = absurd (false≢true h)
+    by_stamp None (Some b) k h f = cc
+    by_stamp (Some a) other k h f = and_parts _ _ f
+
+any_again : (wide : Bool) (bytes : List ℕ) (m : Moment) (x : ℤ) (w : Moment) (y : ℤ) → is_separable wide bytes ≡ true → LosesNothing wide bytes m x → IsClockTime w.time
+    → Minutes x → Minutes y → moment_fits (kept_parts bytes m x) w y ≡ true → if_named (named_parts bytes).offset x ≡ if_named (named_parts bytes).offset y
+    → text_at_offset bytes w y ≡ text_at_offset bytes m x
+any_again wide bytes m x w y separable kept clock first second fits offset = by_stamp (is_present (named_parts bytes).timestamp) refl
+  where
+    by_stamp : (b : Bool) → is_present (named_parts bytes).timestamp ≡ b → text_at_offset bytes w y ≡ text_at_offset bytes m x
+    by_stamp true e = stamped_again wide bytes m x w y separable kept e clock first second fits offset
+    by_stamp false e = fits_again wide bytes m x w y separable kept e fits offset
+
+pub any_moment_again : (wide : Bool) (bytes : List ℕ) (m w : Moment) → is_separable wide bytes ≡ true → LosesNothing wide bytes m (pos 0) → IsClockTime w.time
+    → IsMomentBy bytes (pattern_text bytes m) w → pattern_text bytes w ≡ pattern_text bytes m
+any_moment_again wide bytes m w separable kept clock is =
+    let fits = ap (λ (p : Parsed). moment_fits p w (pos 0)) (sym (same_parts wide bytes m (pos 0) is.parts separable kept is.read)) ∙ is.fits in
+    any_again wide bytes m (pos 0) w (pos 0) separable kept clock refl refl fits refl
+
+-- an offset that fits is the same, or none is named
+counted_minutes : (o : Option ℤ) (x y : ℤ) → Minutes x → counts (if_named o x) y ≡ true → Minutes y
+counted_minutes None x y whole h = ap (λ (z : ℤ). unsigned_abs z % 60) (sym ((Decides-int_eq (pos 0) y).0 h))
+counted_minutes (Some a) x y whole h = ap (λ (z : ℤ). unsigned_abs z % 60) (sym ((Decides-int_eq x y).0 h)) ∙ whole
+
+pub any_zoned_again : (wide : Bool) (bytes : List ℕ) (m : Moment) (x : ℤ) (w : Moment) (y : ℤ) → is_separable wide bytes ≡ true → LosesNothing wide bytes m x → Minutes x
+    → IsClockTime w.time → IsZonedBy bytes (text_at_offset bytes m x) w y → text_at_offset bytes w y ≡ text_at_offset bytes m x
+unfolding zoned_fits
+any_zoned_again wide bytes m x w y separable kept whole clock is =
+    let fits = ap (λ (p : Parsed). zoned_fits p w y) (sym (same_parts wide bytes m x is.parts separable kept is.read)) ∙ is.fits in
+    let both = and_parts (counts (kept_parts bytes m x).offset y) (moment_fits (kept_parts bytes m x) w y) fits in
+    let offset = counted_same (given_parts bytes m.time).offset (named_parts bytes).offset x y
+    (ap (λ (p : Parsed). p.offset) (kept_like wide bytes m x separable kept).same) both.0 in
+    any_again wide bytes m x w y separable kept clock whole (counted_minutes (given_parts bytes m.time).offset x y whole both.0) both.1 offset

@@ -83,7 +83,7 @@ minutes_back missing n text rest p few is =
     never true = refl
     never false = refl
 
-no_minutes : (text : List ℕ) (p : Parsed) → class_len Digit (behind_colons text) ≡ 0 → minutes_taken true (at_rest text p) ≡ Ok (0, at_rest text p)
+pub no_minutes : (text : List ℕ) (p : Parsed) → class_len Digit (behind_colons text) ≡ 0 → minutes_taken true (at_rest text p) ≡ Ok (0, at_rest text p)
 unfolding minutes_taken
 no_minutes text p none = ap (λ (k : ℕ). if true && k == 0 then Ok (0, at_rest text p) else two_taken 59 (at_rest (behind_colons text) p)) none
 
@@ -238,7 +238,7 @@ offset_opens form (negsuc n) rest = ap (λ (l : List ℕ). opens l) (piece_by fo
 
 -- ---- the seconds from 1970
 
-stamp_counted : (ds rest : List ℕ) (n : ℕ) (negative : Bool) (p q : Parsed) → IsDigits ds n → length ds ≤ 18 → class_len Digit rest ≡ 0
+pub stamp_counted : (ds rest : List ℕ) (n : ℕ) (negative : Bool) (p q : Parsed) → IsDigits ds n → length ds ≤ 18 → class_len Digit rest ≡ 0
     → put_stamp (signed negative n) p ≡ Ok q → stamp_digits negative (ds ++ rest) p ≡ Ok (at_rest rest q)
 unfolding stamp_digits
 stamp_counted ds rest n negative p q are few none done =
@@ -250,7 +250,7 @@ stamp_counted ds rest n negative p q are few none done =
     ∙ ap (λ (l : List ℕ). progress (put_stamp (signed negative n) p) l text) (ap (λ (j : ℕ). drop j text) count ∙ split.1)
     ∙ ap (λ (o : Result Parsed ReadFault). progress o rest text) done
 
-unsigned_stamp : (ds rest : List ℕ) (n : ℕ) (p : Parsed) → IsDigits ds n → signed_stamp (ds ++ rest) p ≡ stamp_digits false (ds ++ rest) p
+pub unsigned_stamp : (ds rest : List ℕ) (n : ℕ) (p : Parsed) → IsDigits ds n → signed_stamp (ds ++ rest) p ≡ stamp_digits false (ds ++ rest) p
 unfolding signed_stamp
 unsigned_stamp [] rest n p are = absurd (omega (arith, are.some))
 unsigned_stamp (c ∷ cs) rest n p are =

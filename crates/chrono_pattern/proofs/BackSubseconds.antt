@@ -167,7 +167,7 @@ asked count f some =
 
 -- ---- the text
 
-nine_same : (f : ℕ) → f < 10 ^ 9 → nine_digits f ≡ all_digits 9 f
+pub nine_same : (f : ℕ) → f < 10 ^ 9 → nine_digits f ≡ all_digits 9 f
 nine_same f small = sym (nine_places f small)
 
 pub pointed : (k f : ℕ) (rest : List ℕ) → 0 < k → f < 10 ^ 9 → fraction_with true k f ++ rest ≡ 46 ∷ (places k f ++ rest)

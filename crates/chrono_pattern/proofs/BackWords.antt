@@ -218,7 +218,7 @@ weekday_same Fri rest = refl
 weekday_same Sat rest = refl
 weekday_same Sun rest = refl
 
-weekday_long : (k : Weekday) → 3 ≤ length (weekday_name k)
+pub weekday_long : (k : Weekday) → 3 ≤ length (weekday_name k)
 weekday_long Mon = omega arith
 weekday_long Tue = omega arith
 weekday_long Wed = omega arith

@@ -31,3 +31,8 @@ mod BackValues
 mod BackAgain
 mod OffsetTexts
 mod OffsetExact
+mod PieceExact
+mod OffsetPieces
+mod RowExact
+mod CutTexts
+mod CutAgain

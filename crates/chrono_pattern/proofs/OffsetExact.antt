@@ -25,7 +25,7 @@ use Rattle.chrono_pattern.specs.declared.stop.Stop.{Stop}
 use Rattle.chrono_pattern.proofs.BackOffsets.{no_seconds}
 use Rattle.chrono_pattern.proofs.OffsetTexts.{blanks_before, read_by_z, written_read}
 
-no_answer : {T E P : Type 0} (e : E) (t : T) → ◌≡◌ {A = Result T E} (Err e) (Ok t) → P
+pub no_answer : {T E P : Type 0} (e : E) (t : T) → ◌≡◌ {A = Result T E} (Err e) (Ok t) → P
 no_answer {T} {E} e t h = absurd (false≢true (ap (λ (r : Result T E). is_ok r) h))
 
 -- ---- the bytes of a class in front of a text
@@ -38,7 +38,7 @@ front_step class c text all true e =
     ap (λ (k : ℕ). list_all (is_of class) (take k (c ∷ text))) more ∙ ap (λ (b : Bool). b && list_all (is_of class) (take (class_len class text) text)) e ∙ all
 front_step class c text all false e = refl
 
-front_all : (class : Class) (text : List ℕ) → list_all (is_of class) (take (class_len class text) text) ≡ true
+pub front_all : (class : Class) (text : List ℕ) → list_all (is_of class) (take (class_len class text) text) ≡ true
 unfolding class_len
 front_all class [] = refl
 front_all class (c ∷ text) = front_step class c text (front_all class text) (is_of class c) refl
@@ -59,11 +59,11 @@ two_are (a ∷ b ∷ rest) n long is =
       omega (arith, read.1, first, second),
     )
 
-record AreTwo (most : ℕ) (text : List ℕ) (p : Parsed) (t : ℕ × Progress) : Type 0 where
-  is : text ≡ two_digits t.0 ++ t.1.rest
-  parts : t.1.parsed ≡ p
-  few : t.0 ≤ most
-  small : t.0 < 100
+pub record AreTwo (most : ℕ) (text : List ℕ) (p : Parsed) (t : ℕ × Progress) : Type 0 where
+  pub is : text ≡ two_digits t.0 ++ t.1.rest
+  pub parts : t.1.parsed ≡ p
+  pub few : t.0 ≤ most
+  pub small : t.0 < 100
 
 not_above : (most n : ℕ) → nat_lt most n ≡ false → n ≤ most
 not_above most n e = grind (arith, nat_tests, e)
@@ -92,7 +92,7 @@ two_by_length : (most : ℕ) (text : List ℕ) (p : Parsed) (t : ℕ × Progress
 two_by_length most text p t true e h = no_answer _ _ h
 two_by_length most text p t false e h = two_by_value most text p t e (digits_of 2 (take 2 text)) refl h
 
-two_taken_are : (most : ℕ) (text : List ℕ) (p : Parsed) (t : ℕ × Progress) → two_taken most (at_rest text p) ≡ Ok t → AreTwo most text p t
+pub two_taken_are : (most : ℕ) (text : List ℕ) (p : Parsed) (t : ℕ × Progress) → two_taken most (at_rest text p) ≡ Ok t → AreTwo most text p t
 unfolding two_taken
 two_taken_are most text p t h = two_by_length most text p t (nat_lt (length text) 2) refl h
 
@@ -109,7 +109,7 @@ record IsSize (text : List ℕ) (p : Parsed) (t : ℕ × Progress) : Type 0 wher
   is : text ≡ two_digits hours ++ (between ++ (two_digits minutes ++ t.1.rest))
   gap : list_all (is_of Gap) between ≡ true
   hour : minutes < 60
-  parts : t.1.parsed ≡ p
+  pub parts : t.1.parsed ≡ p
   size : t.0 ≡ hours * 3_600 + minutes * 60
 
 size_by_minutes : (text : List ℕ) (p : Parsed) (t u : ℕ × Progress) → AreTwo 99 text p u → (o : Taken) → minutes_taken false u.1 ≡ o
@@ -219,7 +219,7 @@ signed_by_size negative c text digits q sign (Err e) is h = no_answer _ _ h
 signed_by_size negative c text digits q sign (Ok t) is h =
     signed_by_put negative c text digits q t sign (size_is digits no_parts t is) (put OffsetFromUtc (signed negative t.0) t.1.parsed) refl h
 
-same_byte : (c k : ℕ) → (c == k) ≡ true → c ≡ k
+pub same_byte : (c k : ℕ) → (c == k) ≡ true → c ≡ k
 same_byte c k e = grind (arith, nat_tests, e)
 
 signed_by_plus : (c : ℕ) (digits : List ℕ) (q : Progress) → (b : Bool) → (c == 43) ≡ b
@@ -245,7 +245,7 @@ plain_is text q h = signed_is (behind_blanks text) q h
 
 -- ---- the whole text
 
-no_bytes : (text : List ℕ) → (length text == 0) ≡ true → text ≡ []
+pub no_bytes : (text : List ℕ) → (length text == 0) ≡ true → text ≡ []
 no_bytes [] e = refl
 no_bytes (c ∷ text) e = absurd (omega (arith, same_byte (length (c ∷ text)) 0 e))
 

@@ -28,7 +28,7 @@ use Rattle.chrono_pattern.proofs.BackParts.{put_offset}
 use Rattle.chrono_pattern.proofs.BackStarts.{gap_goes}
 use Rattle.chrono_pattern.proofs.ReadLemmas.{behind_item, read_from-more, read_from-nothing}
 
-gaps_go : (gap text : List ℕ) → list_all (is_of Gap) gap ≡ true → behind_colons (gap ++ text) ≡ behind_colons text
+pub gaps_go : (gap text : List ℕ) → list_all (is_of Gap) gap ≡ true → behind_colons (gap ++ text) ≡ behind_colons text
 gaps_go [] text all = refl
 gaps_go (c ∷ gap) text all =
     let parts = and_parts (is_of Gap c) (list_all (is_of Gap) gap) all in gap_goes c (gap ++ text) parts.0 ∙ gaps_go gap text parts.1

@@ -27,4 +27,6 @@ pub mod Separable
 pub mod Kept
 pub mod ReadBack
 pub mod PatternItems
+pub mod TextPieces
+pub mod CutFractions
 pub mod DelayedPieces

@@ -25,9 +25,11 @@ ghost use Rattle.chrono_pattern.specs.Kept.{LosesNothing, given_parts, keeps_sta
 ghost use Rattle.chrono_pattern.specs.ReadBack.{parts_of};
 ghost use Rattle.chrono_pattern.specs.Separable.{is_separable};
 ghost use Rattle.chrono_pattern.specs.Reads.{text_read};
+ghost use Rattle.chrono_pattern.specs.TextPieces.{Reads};
 ghost use Rattle.chrono_pattern.specs.YearWeeks.{week_from_monday, week_from_sunday};
 ghost use Rattle.chrono_pattern.specs.declared.error.ReadFault.TheVariants.{Impossible, Invalid, OutOfRange, TooLong, TooShort};
-ghost use Rattle.chrono_pattern.specs.TimeParts.{names_second, names_time};
+ghost use Rattle.chrono_pattern.specs.CutFractions.{as_written};
+ghost use Rattle.chrono_pattern.specs.TimeParts.{IsClockTime, names_second, names_time};
 ghost use Rattle.chrono_pattern.specs.ZonedParts.{names_moment, names_zoned};
 ghost use Rattle.chrono_pattern.specs.Patterns.{IsPattern, pattern_error, pattern_text, text_at_offset};
 ghost use Rattle.chrono_pattern.specs.declared.error.PatternFault.TheVariants.{Cut, Unknown};
@@ -163,6 +165,13 @@ pub fn offsets_are_read_as_they_are_written()
     ensures nothing { offset_written false 9 [] 30 ≡ codes "+0930" }
 {}
 
+/// States that a pattern reads exactly the texts that are pieces in a row, one for each of its items, and with which parts.
+///
+/// `Reads` says what the piece of each item is, and not how a reader finds it: blanks and digits for a number, letters of any case for a word.
+pub fn texts_are_read_by_their_pieces()
+    ensures exact { (bytes text : List ℕ) → (parts : Parsed) → text_read bytes text ≡ Ok parts ↔ Reads (pattern_items bytes) text parts }
+{}
+
 /// States where known texts of an offset and of the seconds from 1970 are wrong, by the bytes that are left:
 ///
 /// - sixty minutes, a whole day, and minutes that are missing;
@@ -223,20 +232,34 @@ pub fn separable_patterns_read_back()
 
 /// States that what a separable pattern loses it loses for good: the value that its text gives writes the same text again.
 ///
-/// So `%d.%m.%y` of a date of 1900 gives one of 2000, with the same text. The law speaks of what the pattern writes whole, as the law above
-/// does, and of patterns without `%s`.
+/// So `%d.%m.%y` of a date of 1900 gives one of 2000, with the same text, and `%T%.3f` loses the microseconds alone. The pattern writes the same
+/// of `as_written bytes m`: of the date-time with as many digits of its fraction as the pattern has. It keeps that one whole, as the law above says.
+///
+/// - Beside a date or a time of day alone stands no `%s`. In `%s %d.%m.%y` the year of two digits may contradict the seconds.
+/// - `date_time` and `zoned` are of patterns without `%s`, and of any value that fits the text.
+/// - `clock` and `zoned_clock` are of all patterns, and of what a clock shows: its leap seconds are behind second 59. The offset has whole minutes.
 pub fn lossy_patterns_write_the_same_again()
-    ensures date { (wide : Bool) → (bytes : List ℕ) → (m : Moment) → (n : ℤ) → is_separable wide bytes ≡ true → LosesNothing wide bytes m (pos 0)
+    ensures cut { (bytes : List ℕ) → (m : Moment) → (x : ℤ) → text_at_offset bytes m x ≡ text_at_offset bytes (as_written bytes m) x }
+    ensures date { (wide : Bool) → (bytes : List ℕ) → (m : Moment) → (n : ℤ) → is_separable wide bytes ≡ true
+        → LosesNothing wide bytes (as_written bytes m) (pos 0)
         → is_present (named_parts bytes).timestamp ≡ false → IsDateBy bytes (pattern_text bytes m) n
         → pattern_text bytes (moment n m.time) ≡ pattern_text bytes m }
-    ensures time { (wide : Bool) → (bytes : List ℕ) → (m : Moment) → (t : TimeOfDay) → is_separable wide bytes ≡ true → LosesNothing wide bytes m (pos 0)
+    ensures time { (wide : Bool) → (bytes : List ℕ) → (m : Moment) → (t : TimeOfDay) → is_separable wide bytes ≡ true
+        → LosesNothing wide bytes (as_written bytes m) (pos 0)
         → is_present (named_parts bytes).timestamp ≡ false → IsTimeBy bytes (pattern_text bytes m) t
         → pattern_text bytes (moment m.date t) ≡ pattern_text bytes m }
-    ensures date_time { (wide : Bool) → (bytes : List ℕ) → (m w : Moment) → is_separable wide bytes ≡ true → LosesNothing wide bytes m (pos 0)
-        → is_present (named_parts bytes).timestamp ≡ false → IsMomentBy bytes (pattern_text bytes m) w → pattern_text bytes w ≡ pattern_text bytes m }
+    ensures date_time { (wide : Bool) → (bytes : List ℕ) → (m w : Moment) → is_separable wide bytes ≡ true
+        → LosesNothing wide bytes (as_written bytes m) (pos 0) → is_present (named_parts bytes).timestamp ≡ false
+        → IsMomentBy bytes (pattern_text bytes m) w → pattern_text bytes w ≡ pattern_text bytes m }
     ensures zoned { (wide : Bool) → (bytes : List ℕ) → (m : Moment) → (x : ℤ) → (w : Moment) → (y : ℤ) → is_separable wide bytes ≡ true
-        → LosesNothing wide bytes m x → is_present (named_parts bytes).timestamp ≡ false → IsZonedBy bytes (text_at_offset bytes m x) w y
-        → text_at_offset bytes w y ≡ text_at_offset bytes m x }
+        → LosesNothing wide bytes (as_written bytes m) x → is_present (named_parts bytes).timestamp ≡ false
+        → IsZonedBy bytes (text_at_offset bytes m x) w y → text_at_offset bytes w y ≡ text_at_offset bytes m x }
+    ensures clock { (wide : Bool) → (bytes : List ℕ) → (m w : Moment) → is_separable wide bytes ≡ true
+        → LosesNothing wide bytes (as_written bytes m) (pos 0) → IsClockTime w.time
+        → IsMomentBy bytes (pattern_text bytes m) w → pattern_text bytes w ≡ pattern_text bytes m }
+    ensures zoned_clock { (wide : Bool) → (bytes : List ℕ) → (m : Moment) → (x : ℤ) → (w : Moment) → (y : ℤ) → is_separable wide bytes ≡ true
+        → LosesNothing wide bytes (as_written bytes m) x → unsigned_abs x % 60 ≡ 0 → IsClockTime w.time
+        → IsZonedBy bytes (text_at_offset bytes m x) w y → text_at_offset bytes w y ≡ text_at_offset bytes m x }
 {}
 
 /// States which known patterns are separable:

@@ -12,6 +12,9 @@ ghost use Rattle.chrono_pattern.specs.TimeParts.{names_time};
 ghost use Rattle.chrono_pattern.specs.declared.item.State.TheVariants.{Outside};
 ghost use Rattle.chrono_pattern.specs.ZonedParts.{names_moment};
 ghost use Rattle.chrono_pattern.specs.declared.stop.Stop.{Stop};
+ghost use Rattle.chrono_pattern.specs.PatternItems.{pattern_items};
+ghost use Rattle.chrono_pattern.specs.TextPieces.{Reads};
+ghost use Rattle.chrono_pattern.specs.declared.parsed.Parsed.{Parsed};
 ghost use Rattle.chrono_pattern.specs.Patterns.{IsPattern, begun_at, cut_error, pattern_error, pattern_text};
 
 use crate::date_parts::names_date;
@@ -260,6 +263,8 @@ impl<'a> Pattern<'a> {
     /// pattern.read_parts(b"29 feb").err() // Some(PatternReadError { byte: 6, cause: TooShort })
     /// ```
     pub fn read_parts(&self, text: &[u8]) -> Result<Parsed, PatternReadError>
+        // The text is pieces in a row, one for each item of the pattern.
+        ensures exact { (p : Parsed) → result ≡ Ok p ↔ Reads (pattern_items self.now) text.now p }
         ensures parts { IfOk result (λ p. text_read self.now text.now ≡ Ok p) }
         ensures error { IfErr result (λ e. (stop : Stop) × (text_read self.now text.now ≡ Err stop) × (e ≡ read_error text.now stop)) }
     {
