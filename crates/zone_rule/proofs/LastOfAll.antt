@@ -66,7 +66,7 @@ unfolding passes_below near_months days_of_months_in
 near_tested true = refl
 near_tested false = refl
 
-months_bound : (leap : Bool) (k : ℕ) → k < 12 → (days_of_months_in false k ≤ days_of_months_in leap k) × (days_of_months_in leap k ≤ days_of_months_in false k + 1) × (days_of_months_in false k ≤ 334)
+pub months_bound : (leap : Bool) (k : ℕ) → k < 12 → (days_of_months_in false k ≤ days_of_months_in leap k) × (days_of_months_in leap k ≤ days_of_months_in false k + 1) × (days_of_months_in false k ≤ 334)
 unfolding near_months
 months_bound leap k h =
     let passed : near_months leap k ≡ true = passes_below-at (near_months leap) 12 (near_tested leap) k h in
@@ -141,7 +141,7 @@ rises f later z w (pos n) e le =
 rises f later z w (negsuc n) e le = absurd (omega (arith, signed, e, le))
 
 -- no change up to u comes behind that of the year w, if the next one is behind u
-behind : (f : ℤ → ℤ) → ((y : ℤ) → f y <ℤ f (y +ℤ pos 1)) → (w u : ℤ) → u <ℤ f (w +ℤ pos 1) → (z : ℤ) → f z ≤ℤ u → f z ≤ℤ f w
+pub behind : (f : ℤ → ℤ) → ((y : ℤ) → f y <ℤ f (y +ℤ pos 1)) → (w u : ℤ) → u <ℤ f (w +ℤ pos 1) → (z : ℤ) → f z ≤ℤ u → f z ≤ℤ f w
 behind f later w u next z come = by_lt_z w z
     (λ (lt : w <ℤ z). let rise = rises f later (w +ℤ pos 1) z (z -ℤ (w +ℤ pos 1)) refl (omega (arith, signed, lt)) in absurd (omega (arith, signed, rise, next, come)))
     (λ (le : z ≤ℤ w). rises f later z w (w -ℤ z) refl le)

@@ -6,7 +6,9 @@ mod Carried
 mod DaysInYears
 mod Holds
 mod LastOfAll
+mod MeanYears
 mod NextChanges
+mod Places
 mod RuleCycles
 mod RuleDates
 mod Turns

@@ -106,7 +106,8 @@ impl Change {
 }
 
 // The second at which a clock, so far ahead of UTC, shows a second of a day.
-fn second_of(day: i32, second: i32, offset: i32) -> i64
+#[inline]
+pub(crate) fn second_of(day: i32, second: i32, offset: i32) -> i64
     requires day { unsigned_abs day < 96_000_000 }
     requires second { unsigned_abs second < 604_800 }
     requires offset { unsigned_abs offset < 86_400 }

@@ -25,6 +25,7 @@
 
 mod change;
 pub mod law;
+mod mean_year;
 mod rule;
 mod rule_day;
 mod time_zone;

@@ -8,12 +8,16 @@ ghost use Rattle.zone_rule.specs.Private.{AreKnown};
 ghost use Rattle.zone_rule.specs.Rules.{IsNextSetting, IsSetAt, IsSteadyUntil, is_daylight, is_daylight_by, rule_offset};
 
 use crate::change::{Change, SECS_PER_DAY, UNIX_EPOCH_DAY};
+use crate::mean_year::SECS_PER_MEAN_YEAR;
 use crate::turn::turn_at;
 use chrono_datetime::{Datelike, NaiveDate};
 use chrono_zoned::{FixedOffset, MappedLocalTime, Stretch};
 
 // The seconds of 400 years, after which the calendar comes again.
 const SECS_PER_CYCLE: i64 = 12_622_780_800;
+
+// The seconds of six days. Where a change may be so near, the changes of the year are looked at.
+const SECS_NEAR: i64 = 518_400;
 
 /// A clock in each year: how far standard time is ahead of UTC, and daylight time if there is one.
 ///
@@ -200,6 +204,44 @@ impl ZoneRule {
         Stretch { offset, until }
     }
 
+    // The same as [`stretch_of_instant`](Self::stretch_of_instant), but the stretch may end before the next change.
+    #[inline]
+    pub(crate) fn stretch_near(&self, second: i64) -> Stretch
+        ensures offset { result.offset ≡ rule_offset self.now second }
+        ensures holds { HoldsUntil (rule_offset self.now) second result.until }
+        ensures later { second <ℤ pos 9_223_372_036_854_775_807 → second <ℤ result.until }
+        ensures near { (u : ℤ) → IsOffset (rule_offset self.now u) }
+    {
+        if let Some(stretch) = self.stretch_far(second) {
+            return stretch;
+        }
+        self.stretch_of_instant(second)
+    }
+
+    // A stretch from a second on, if no change is near it, in the years 1970 to 2369. `None` says nothing.
+    #[inline]
+    fn stretch_far(&self, second: i64) -> Option<Stretch>
+        ensures offset { IfSome result (λ t. t.offset ≡ rule_offset self.now second) }
+        ensures holds { IfSome result (λ t. HoldsUntil (rule_offset self.now) second t.until) }
+        ensures later { IfSome result (λ t. second <ℤ t.until) }
+        ensures near { IfSome result (λ _. (u : ℤ) → IsOffset (rule_offset self.now u)) }
+    {
+        let daylight = self.daylight?;
+        if second < 0 || SECS_PER_CYCLE <= second {
+            return None;
+        }
+        let hold = daylight.hold_far(self.standard, second)?;
+        // A proof knows the range of what is read. The compiler leaves it out.
+        let _near = (
+            self.standard.local_minus_utc(),
+            daylight.offset.local_minus_utc(),
+        );
+        Some(Stretch {
+            offset: daylight.offset_if(self.standard, hold.is_daylight),
+            until: second + hold.wait,
+        })
+    }
+
     /// Returns the offsets at all instants at which the clock shows the local second `local`, the earlier instant first.
     ///
     /// There is none if the clock is set ahead past `local`. There are two if it is set back, and shows `local` twice.
@@ -304,8 +346,49 @@ impl Daylight {
         }
     }
 
+    // The same where no change is near, by the mean year of the second. `None` says nothing.
+    #[inline]
+    fn hold_far(&self, standard: FixedOffset, second: i64) -> Option<Hold>
+        requires first { pos 0 ≤ℤ second }
+        requires last { second ≤ℤ pos 12_622_867_200 }
+        ensures holds { IfSome result (λ h. (u : ℤ) → second ≤ℤ u → u <ℤ (second +ℤ h.wait) → is_daylight standard self.now u ≡ h.is_daylight) }
+        ensures long { IfSome result (λ h. pos 518_400 ≤ℤ h.wait) }
+        ensures short { IfSome result (λ h. h.wait ≤ℤ pos 120_000_000) }
+    {
+        let place = second.rem_euclid(SECS_PER_MEAN_YEAR);
+        let begun = self.begins.last_window(standard, second, place);
+        let ended = self.ends.last_window(self.offset, second, place);
+        let wait = begun.low.min(ended.low) + SECS_PER_MEAN_YEAR - place;
+        if place < begun.high || place < ended.high || wait < SECS_NEAR {
+            return None;
+        }
+        if begun.low < ended.high && ended.low <= begun.high {
+            return None;
+        }
+        Some(Hold {
+            is_daylight: ended.high <= begun.low,
+            wait,
+        })
+    }
+
     // Whether daylight time holds at the second, in or beside the years 1970 to 2369.
+    #[inline]
     fn holds_at(&self, standard: FixedOffset, second: i64) -> bool
+        requires first { neg_ℤ (pos 86_400) ≤ℤ second }
+        requires last { second ≤ℤ pos 12_622_867_200 }
+        ensures { result ≡ is_daylight standard self.now second }
+    {
+        if second >= 0 {
+            if let Some(hold) = self.hold_far(standard, second) {
+                return hold.is_daylight;
+            }
+        }
+        self.holds_near(standard, second)
+    }
+
+    // The same, by the changes of the second's year.
+    #[inline(never)]
+    fn holds_near(&self, standard: FixedOffset, second: i64) -> bool
         requires first { neg_ℤ (pos 86_400) ≤ℤ second }
         requires last { second ≤ℤ pos 12_622_867_200 }
         ensures { result ≡ is_daylight standard self.now second }

@@ -18,6 +18,6 @@ impl TimeZone for ZoneRule {
     }
 
     fn stretch_from(&self, second: i64) -> Stretch {
-        self.stretch_of_instant(second)
+        self.stretch_near(second)
     }
 }

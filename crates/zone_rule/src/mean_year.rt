@@ -1,0 +1,80 @@
+//! `Window`: between which seconds of a mean year a yearly change comes.
+//!
+//! A mean year has the 400th part of the seconds of 400 years. Mean years are counted from 1 January 1970. A calendar year begins less than
+//! two days before or behind its mean year. So one division tells of most seconds that they are far from all changes.
+ghost use Rattle.std.specs.Prelude.{◌≡◌, ◌<◌, pos, ◌+ℤ◌, ◌-ℤ◌, ◌≤ℤ◌, unsigned_abs};
+ghost use Rattle.std.specs.Int.{int_rem_euclid};
+ghost use Rattle.chrono_zoned.specs.Offsets.{IsOffset};
+ghost use Rattle.zone_rule.specs.Changes.{IsChange, change_second};
+ghost use Rattle.zone_rule.specs.Private.{ComesWithin, LiesWithin};
+
+use crate::change::{Change, second_of};
+use chrono_zoned::FixedOffset;
+
+/// The seconds of a mean year.
+pub(crate) const SECS_PER_MEAN_YEAR: i64 = 31_556_952;
+
+// A year of the calendar begins no more seconds before its mean year, and no more behind it.
+const MOST_BEFORE: i64 = 109_296;
+
+const MOST_BEHIND: i64 = 127_224;
+
+/// The seconds from which and up to which a change comes, counted from the beginning of a mean year.
+#[derive(Clone, Copy)]
+pub(crate) struct Window {
+    pub(crate) low: i64,
+    pub(crate) high: i64,
+}
+
+impl Change {
+    // Between which seconds of each mean year the change comes.
+    #[inline]
+    fn window(&self, offset: FixedOffset) -> Window
+        ensures lies { LiesWithin (change_second offset self.now) result.low result.high }
+        ensures low { unsigned_abs result.low < 40_000_000 }
+        ensures high { unsigned_abs result.high < 40_000_000 }
+        ensures change { IsChange self.now }
+        ensures offset { IsOffset offset }
+    {
+        let (least, most) = self.day().places();
+        let (second, offset) = (self.second(), offset.local_minus_utc());
+        Window {
+            low: second_of(day_of_1970(least), second, offset) - MOST_BEFORE,
+            high: second_of(day_of_1970(most), second, offset) + MOST_BEHIND,
+        }
+    }
+
+    // The same of the last change that has come by the second at the place of its mean year. If it may not have come, then of the one before.
+    #[inline]
+    pub(crate) fn last_window(&self, offset: FixedOffset, second: i64, place: i64) -> Window
+        requires first { pos 0 ≤ℤ second }
+        requires last { second ≤ℤ pos 12_622_867_200 }
+        requires place { place ≡ int_rem_euclid second (pos 31_556_952) }
+        ensures comes { ComesWithin (change_second offset self.now) (second -ℤ place) result.low result.high }
+        ensures low { unsigned_abs result.low < 80_000_000 }
+        ensures high { unsigned_abs result.high < 80_000_000 }
+        ensures change { IsChange self.now }
+        ensures offset { IsOffset offset }
+    {
+        let window = self.window(offset);
+        let back = if place < window.high {
+            SECS_PER_MEAN_YEAR
+        } else {
+            0
+        };
+        Window {
+            low: window.low - back,
+            high: window.high - back,
+        }
+    }
+}
+
+// The number of the day of 1970 that has a place, from 1.
+#[inline]
+fn day_of_1970(place: u32) -> i32
+    requires { place < 367 }
+    ensures value { result ≡ pos place +ℤ pos 719_162 }
+    ensures in_range { unsigned_abs result < 96_000_000 }
+{
+    place as i32 + 719_162
+}
