@@ -1,4 +1,5 @@
 mod MinuteOrder
+mod YearSteps
 mod TextWords
 mod SixFields
 mod Laws

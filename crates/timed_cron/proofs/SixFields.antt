@@ -108,6 +108,7 @@ rest_words text p e q f m first second four =
 pub record IsSameReading (word rest : List ℕ) (s : TimedSchedule) : Type 0 where
   pub seconds : AreListed s.seconds (field_lists Numbers 0 59 word)
   pub schedule : IsScheduleText rest s.schedule.sets
+  pub years : s.years ≡ None
 
 pub same_reading : (text word rest : List ℕ) (s : TimedSchedule) → text_words text ≡ word ∷ text_words rest → IsSixFieldText text s → IsSameReading word rest s
 same_reading text word rest s e is =
@@ -117,6 +118,7 @@ same_reading text word rest s e is =
     record {
       seconds = λ k. ap (λ t. field_lists Numbers 0 59 t k) (sym second) ∙ is.seconds k;
       schedule = respelled is.fields rest s.schedule.sets fields is.schedule;
+      years = is.years;
     }
 
 pub same_seconds : (word : List ℕ) (set other : FiniteSet) → ((k : ℕ) → Some (has set k) ≡ field_lists Numbers 0 59 word k) → AreListed other (field_lists Numbers 0 59 word) → set ≡ other

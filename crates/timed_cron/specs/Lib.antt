@@ -4,3 +4,4 @@ pub mod Private
 pub mod TimedDueLists
 pub mod TimedErrors
 pub mod TimedTexts
+pub mod Years

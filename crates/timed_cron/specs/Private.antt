@@ -1,18 +1,47 @@
 -- Words of functions that are not public.
 use Rattle.std.specs.Prelude.{◌≡◌, ℕ, ◌-◌, ◌<◌, ◌≤◌, true, false, ◌&&◌, List, [], ◌∷◌, length, take, drop, slice_index, None}
 use Rattle.chrono_text.specs.Lists.{is_blank}
-use Rattle.chrono_datetime.specs.Moment.{Moment}
+use Rattle.chrono_datetime.specs.Days.{year_of}
+use Rattle.chrono_datetime.specs.Moment.{Moment, IsBefore, IsMoment}
 use Rattle.chrono_datetime.specs.PassedOver.{PassedNumbers}
 use Rattle.chrono_sets.specs.FiniteSets.{has}
 use Rattle.chrono_cron.specs.Due.{is_due}
 use Rattle.chrono_cron.specs.FieldTexts.{field_lists}
 use Rattle.chrono_cron.specs.PlacedWords.{placed_words}
 use Rattle.chrono_cron.specs.declared.text.number_names.Names.TheVariants.{Numbers}
+use Rattle.timed_cron.specs.DueSeconds.{is_due_at_second}
+use Rattle.timed_cron.specs.Years.{has_year}
 use Rattle.timed_cron.specs.declared.timed_schedule.TimedSchedule.{TimedSchedule}
+use Rattle.timed_cron.specs.declared.year_set.YearSet.{YearSet}
 
 -- the schedule is due at none of the seconds, from one up to before another, of the minute that begins at a moment
 abbrev pub NoSecondIn : TimedSchedule → Moment → ℕ → ℕ → Type 0
 NoSecondIn s minute from end = PassedNumbers (λ k. is_due s.schedule.sets minute && has s.seconds k) from end
+
+-- whatever the year, the schedule is due at no moment between two, at none after one, and at none before one
+abbrev pub IdleBetween : TimedSchedule → Moment → Moment → Type 0
+IdleBetween s start end = (m : Moment) → IsMoment m → IsBefore start m → IsBefore m end → is_due_at_second s m ≡ false
+
+abbrev pub IdleAfter : TimedSchedule → Moment → Type 0
+IdleAfter s start = (m : Moment) → IsMoment m → IsBefore start m → is_due_at_second s m ≡ false
+
+abbrev pub IdleBefore : TimedSchedule → Moment → Type 0
+IdleBefore s end = (m : Moment) → IsMoment m → IsBefore m end → is_due_at_second s m ≡ false
+
+-- the schedule's fields are due at a moment, and its year is one of the set
+pub record IsDueIn (s : TimedSchedule) (years : YearSet) (m : Moment) : Type 0 where
+  pub fields : is_due_at_second s m ≡ true
+  pub year : has_year years (year_of m.date) ≡ true
+
+-- there is no such moment between two, none after one, and none before one
+abbrev pub IdleInYearsBetween : TimedSchedule → YearSet → Moment → Moment → Type 0
+IdleInYearsBetween s years start end = (m : Moment) → IsMoment m → IsBefore start m → IsBefore m end → IsDueIn s years m → ⊥
+
+abbrev pub IdleInYearsAfter : TimedSchedule → YearSet → Moment → Type 0
+IdleInYearsAfter s years start = (m : Moment) → IsMoment m → IsBefore start m → IsDueIn s years m → ⊥
+
+abbrev pub IdleInYearsBefore : TimedSchedule → YearSet → Moment → Type 0
+IdleInYearsBefore s years end = (m : Moment) → IsMoment m → IsBefore m end → IsDueIn s years m → ⊥
 
 -- the bytes from one place up to before another are blanks
 abbrev pub AreBlank : List ℕ → ℕ → ℕ → Type 0

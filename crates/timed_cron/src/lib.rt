@@ -17,6 +17,8 @@ mod timed_error;
 mod timed_reader;
 mod timed_schedule;
 mod words;
+mod year_search;
+mod year_set;
 
 pub use chrono_cron::{Schedule, read_schedule};
 pub use chrono_sets::NumberSet;
@@ -25,3 +27,4 @@ pub use timed_dues::TimedDues;
 pub use timed_error::TimedError;
 pub use timed_reader::read_timed_schedule;
 pub use timed_schedule::TimedSchedule;
+pub use year_set::YearSet;
