@@ -1,11 +1,12 @@
 -- The texts of schedules with seconds.
-use Rattle.std.specs.Prelude.{◌≡◌, ◌⊎◌, ℕ, List, [], ◌∷◌, length, None}
+use Rattle.std.specs.Prelude.{◌≡◌, ◌⊎◌, ℕ, List, [], ◌∷◌, length, None, Ok}
 use Rattle.chrono_sets.specs.FiniteSets.{numbers}
 use Rattle.chrono_cron.specs.FieldTexts.{field_lists}
 use Rattle.chrono_cron.specs.ScheduleTexts.{AreListed, IsScheduleText, text_words}
 use Rattle.chrono_cron.specs.declared.text.number_names.Names.TheVariants.{Numbers}
+use Rattle.timed_cron.specs.QuartzTexts.{quartz_read}
 use Rattle.timed_cron.specs.declared.dialect.Dialect.{Dialect}
-use Rattle.timed_cron.specs.declared.dialect.Dialect.TheVariants.{Crontab, Seconds}
+use Rattle.timed_cron.specs.declared.dialect.Dialect.TheVariants.{Crontab, Seconds, Quartz}
 use Rattle.timed_cron.specs.declared.timed_schedule.TimedSchedule.{TimedSchedule}
 
 -- a text of the schedule as crontab(5) has it, which is due at second 0 alone, in each year
@@ -34,3 +35,4 @@ pub record IsNicknameText (text : List ℕ) (s : TimedSchedule) : Type 0 where
 abbrev pub IsTimedText : Dialect → List ℕ → TimedSchedule → Type 0
 IsTimedText Crontab text s = IsAtSecondZero text s
 IsTimedText Seconds text s = IsSixFieldText text s ⊎ IsNicknameText text s
+IsTimedText Quartz text s = quartz_read text ≡ Ok s
