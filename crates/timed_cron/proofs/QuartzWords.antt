@@ -1,11 +1,8 @@
 -- The words of a text of Quartz.
-use Rattle.std.proofs.Common.{◌≡◌, ℕ, ◌*◌, ◌+◌, ◌-◌, List, [], ◌∷◌, length, Option, Some, None, Result, Err, refl, sym, ap, ◌∙◌, arith}
+use Rattle.std.proofs.Common.{◌≡◌, ℕ, ◌*◌, ◌+◌, ◌-◌, List, [], ◌∷◌, Option, Some, None, Err, refl, sym, ap, arith}
 use Rattle.std.specs.Option.{option_map, option_and_then}
 use Rattle.std.proofs.Math.Path.{subst}
 use Rattle.chrono_text.specs.Numbers.{digits_of, natural_of}
-use Rattle.chrono_text.specs.Lists.{stands_in}
-use Rattle.chrono_cron.specs.FieldTexts.{behind_byte}
-use Rattle.chrono_cron.specs.PlacedWords.{placed_words}
 use Rattle.chrono_cron.specs.ScheduleErrors.{front_fault, front_or, schedule_error_at, told_or}
 use Rattle.chrono_cron.specs.declared.text.schedule_error.ScheduleFault.{ScheduleFault}
 use Rattle.timed_cron.specs.DialectFields.{named_number, number_in, number_written}

@@ -1,6 +1,6 @@
 -- Fields of numbers as Quartz has them: what each item lists, and what is wrong with one that cannot be read.
 -- What is said of Quartz is its "Cron Triggers Tutorial" and the documentation of its class CronExpression, in our words.
-use Rattle.std.specs.Prelude.{◌≡◌, ℕ, zero, suc, ◌+◌, ◌-◌, ◌≤◌, ◌<◌, nat_le, Bool, true, false, ◌&&◌, ◌||◌, if◌then◌else◌, List, [], ◌∷◌, length, take, Option, Some, None, Result, Ok, Err, is_some, codes, refl}
+use Rattle.std.specs.Prelude.{◌≡◌, ℕ, zero, suc, ◌+◌, ◌-◌, nat_le, Bool, true, ◌||◌, if◌then◌else◌, List, [], ◌∷◌, length, take, Option, Some, None, Result, Ok, Err, is_some, codes, refl}
 use Rattle.std.specs.Option.{option_map, option_and_then, option_or}
 use Rattle.std.specs.Str.{byte}
 use Rattle.chrono_text.specs.Lists.{pieces, stands_in}

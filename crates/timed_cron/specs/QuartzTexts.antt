@@ -9,7 +9,7 @@ use Rattle.chrono_sets.specs.FiniteSets.{FiniteSet, no_numbers, numbers, with_nu
 use Rattle.chrono_cron.specs.Due.{no_month_days}
 use Rattle.chrono_cron.specs.FieldTexts.{before_byte, behind_byte, step_of}
 use Rattle.chrono_cron.specs.PlacedWords.{placed_words}
-use Rattle.chrono_cron.specs.ScheduleErrors.{count_fault, front_fault, front_or, one_word_fault, schedule_error_at}
+use Rattle.chrono_cron.specs.ScheduleErrors.{front_fault, front_or, one_word_fault, schedule_error_at}
 use Rattle.chrono_cron.specs.ScheduleTexts.{before_letter, is_last_workday_text}
 use Rattle.chrono_cron.specs.declared.named_days.MonthDays.{MonthDays}
 use Rattle.chrono_cron.specs.declared.text.schedule_error.ScheduleFault.{ScheduleFault}

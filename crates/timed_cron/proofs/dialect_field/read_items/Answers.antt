@@ -1,4 +1,4 @@
-use Rattle.std.proofs.Common.{◌≡◌, ◌≤◌, ◌+◌, ◌-◌, [], ◌∷◌, length, take, drop, Err, ap, sym, ◌∙◌, arith}
+use Rattle.std.proofs.Common.{◌≡◌, ◌≤◌, ◌+◌, ◌-◌, [], ◌∷◌, length, take, drop, ap, sym, ◌∙◌, arith}
 use Rattle.std.specs.Str.{byte}
 use Rattle.chrono_text.specs.Lists.{pieces, pieces_behind}
 use Rattle.timed_cron.specs.DialectFields.{items_read}

@@ -1,4 +1,4 @@
-use Rattle.std.proofs.Common.{◌≡◌, List, ◌∷◌, length, Err, None, Some, refl, sym, ap, ◌∙◌, arith}
+use Rattle.std.proofs.Common.{length, Err, None, refl, sym, ap, ◌∙◌, arith}
 use Rattle.std.proofs.Math.Path.{subst}
 use Rattle.chrono_cron.specs.PlacedWords.{placed_words}
 use Rattle.chrono_cron.specs.ScheduleErrors.{front_or, schedule_error_at}

@@ -1,6 +1,6 @@
 use Rattle.std.proofs.Common.{length, ap, sym, ◌∙◌}
 use Rattle.chrono_cron.specs.ScheduleErrors.{front_fault}
-use Rattle.timed_cron.specs.Private.{bytes_of, word_of, year_word_of}
+use Rattle.timed_cron.specs.Private.{word_of, year_word_of}
 use Rattle.timed_cron.specs.QuartzTexts.{fields_read, unless_in_front}
 use Rattle.timed_cron.proofs.QuartzWords.{words_by}
 use Rattle.timed_cron.proofs.quartz_reader.read_words.Goals as goal

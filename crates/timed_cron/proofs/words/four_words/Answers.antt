@@ -1,6 +1,4 @@
-use Rattle.std.proofs.Common.{◌≡◌, ℕ, List, ◌∷◌, length, drop, arith, ap, sym}
-use Rattle.chrono_cron.specs.PlacedWords.{placed_words}
-use Rattle.timed_cron.specs.Private.{IsWordAt, bytes_of}
+use Rattle.std.proofs.Common.{length, arith, ap, sym}
 use Rattle.timed_cron.specs.TimedErrors.{four_fault}
 use Rattle.timed_cron.proofs.TextWords.{four_at, front, no_four, none_at, word_at}
 use Rattle.timed_cron.proofs.words.four_words.Goals as goal

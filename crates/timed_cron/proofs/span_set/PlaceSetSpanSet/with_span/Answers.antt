@@ -1,4 +1,4 @@
-use Rattle.std.proofs.Common.{◌+◌, ◌-◌, arith, sym, ◌∙◌}
+use Rattle.std.proofs.Common.{◌-◌, arith, sym, ◌∙◌}
 use Rattle.chrono_sets.specs.FiniteSets.{with_number}
 use Rattle.timed_cron.specs.DialectFields.{span_lists}
 use Rattle.timed_cron.proofs.PieceLemmas.{chosen, left_out, listed_step}
