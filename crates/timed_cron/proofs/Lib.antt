@@ -1,5 +1,8 @@
 mod MinuteOrder
+mod PieceLemmas
+mod YearSteps
 mod TextWords
+mod QuartzWords
 mod SixFields
 mod Laws
 mod TimedDueLists

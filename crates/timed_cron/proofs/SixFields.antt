@@ -1,5 +1,5 @@
 -- A text of six words, of which the first has the seconds.
-use Rattle.std.proofs.Common.{◌≡◌, ◌≢◌, ℕ, ◌≤◌, Bool, List, [], ◌∷◌, length, get_or, take, drop, refl, ap, sym, ◌∙◌, arith, Option, Some, None, Result, Ok, Err, IfOk, IfErr, IsErr, ◌↔◌}
+use Rattle.std.proofs.Common.{◌≡◌, ◌≢◌, ℕ, ◌≤◌, Bool, true, false, List, [], ◌∷◌, length, get_or, take, drop, refl, ap, sym, ◌∙◌, arith, Option, Some, None, Result, Ok, Err, IfOk, IfErr, IsErr, ◌↔◌}
 use Rattle.std.proofs.lemmas.Bool.{false≢true}
 use Rattle.std.proofs.lemmas.List.{length-map}
 use Rattle.chrono_text.proofs.AnswerLemmas.{no_one, the_one}
@@ -18,6 +18,8 @@ use Rattle.chrono_cron.proofs.TextWords.{piece_of, words_of}
 use Rattle.timed_cron.specs.Private.{HasFourWords, IsUnreadFirst, IsWordAt, bytes_of}
 use Rattle.timed_cron.specs.TimedErrors.{error_with_seconds, four_fault}
 use Rattle.timed_cron.specs.TimedTexts.{IsAtSecondZero, IsNicknameText, IsSixFieldText}
+use Rattle.timed_cron.specs.QuartzTexts.{error_in}
+use Rattle.timed_cron.specs.declared.timed_error.TimedError.{TimedError}
 use Rattle.timed_cron.specs.declared.timed_error.TimedError.TheVariants.{Fields as InFields}
 use Rattle.timed_cron.specs.declared.timed_schedule.TimedSchedule.{TimedSchedule}
 use Rattle.timed_cron.proofs.TextWords.{cut_at, in_front, word_at}
@@ -108,6 +110,7 @@ rest_words text p e q f m first second four =
 pub record IsSameReading (word rest : List ℕ) (s : TimedSchedule) : Type 0 where
   pub seconds : AreListed s.seconds (field_lists Numbers 0 59 word)
   pub schedule : IsScheduleText rest s.schedule.sets
+  pub years : s.years ≡ None
 
 pub same_reading : (text word rest : List ℕ) (s : TimedSchedule) → text_words text ≡ word ∷ text_words rest → IsSixFieldText text s → IsSameReading word rest s
 same_reading text word rest s e is =
@@ -117,6 +120,7 @@ same_reading text word rest s e is =
     record {
       seconds = λ k. ap (λ t. field_lists Numbers 0 59 t k) (sym second) ∙ is.seconds k;
       schedule = respelled is.fields rest s.schedule.sets fields is.schedule;
+      years = is.years;
     }
 
 pub same_seconds : (word : List ℕ) (set other : FiniteSet) → ((k : ℕ) → Some (has set k) ≡ field_lists Numbers 0 59 word k) → AreListed other (field_lists Numbers 0 59 word) → set ≡ other
@@ -202,3 +206,21 @@ is_ok_of P (Err e) s only none is = absurd (none s is)
 pub err_iff : {A E : Type 0} (P : A → Type 0) (r : Result A E) → IfOk r P → IfErr r (λ _. (u : A) → P u → ⊥) → IsErr r ↔ ((u : A) → P u → ⊥)
 err_iff P (Ok a) is none = (λ err. absurd (false≢true err), λ none. absurd (none a is))
 err_iff P (Err e) is none = (λ err. none, λ none. refl)
+
+-- ---- what is read as a definition says
+
+abbrev is_error : {A E : Type 0} → Result A E → Bool
+is_error (Ok a) = false
+is_error (Err e) = true
+
+pub ok_of : {A E : Type 0} (q : Result A E) → IfOk q (λ a. q ≡ Ok a)
+ok_of (Ok a) = refl
+ok_of (Err e) = tt
+
+pub err_of : {A E : Type 0} (q : Result A E) → IsErr q ↔ ((a : A) → q ≡ Ok a → ⊥)
+err_of (Ok a) = (λ err. absurd (false≢true err), λ none. absurd (none a refl))
+err_of (Err e) = (λ err a same. absurd (false≢true (sym (ap is_error same))), λ none. refl)
+
+pub error_told : (q : Result TimedSchedule TimedError) → IfErr q (λ e. e ≡ error_in q)
+error_told (Ok s) = tt
+error_told (Err e) = refl

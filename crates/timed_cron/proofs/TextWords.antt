@@ -81,6 +81,11 @@ cut_end text n = ap (placed_words n) (drop_all n (take n text) (omega (arith, le
 pub in_front : {words rest more : List (ℕ × List ℕ)} (a : ℕ × List ℕ) → words ≡ a ∷ rest → rest ≡ more → words ≡ a ∷ more
 in_front a e f = e ∙ ap (λ l. a ∷ l) f
 
+-- the words from a place on, if the first of them is the word at the place, and the rest are others
+pub front : (text : List ℕ) (from place end : ℕ) (rest : List (ℕ × List ℕ)) → IsWordAt text from place end → placed_words end (drop end text) ≡ rest
+    → placed_words from (drop from text) ≡ (place, bytes_of text place end) ∷ rest
+front text from place end rest is e = in_front (place, bytes_of text place end) (word_at text from place end is) e
+
 pub four_at : (text : List ℕ) (from p q r s first second third fourth : ℕ) → IsWordAt text from p first → IsWordAt text first q second → IsWordAt text second r third → IsWordAt text third s fourth
     → fourth ≤ length text → AreBlank text fourth (length text) → HasFourWords text from third
 four_at text from p q r s first second third fourth a b c d within blanks =

@@ -8,9 +8,10 @@ use Rattle.chrono_datetime.specs.Moment.{Moment, moment, IsBefore, IsMoment}
 use Rattle.chrono_datetime.specs.Time.{time_at}
 use Rattle.chrono_datetime.proofs.Signed.{signed}
 use Rattle.timed_cron.specs.declared.timed_schedule.TimedSchedule.{TimedSchedule}
-use Rattle.timed_cron.specs.DueSeconds.{is_due_at_second}
+use Rattle.timed_cron.specs.DueSeconds.{is_timed_due}
 use Rattle.timed_cron.specs.TimedDueLists.{beginning_of_second, second_number_of, seconds_left, seconds_in_a_row, timed_dues_after}
 use Rattle.timed_cron.proofs.MinuteOrder.{second_parts}
+use Rattle.timed_cron.proofs.YearSteps.{timed_parts}
 
 -- ---- seconds in a row, and moments
 
@@ -52,34 +53,34 @@ pub timed_dues_after-few : (s : TimedSchedule) (m : Moment) → length (timed_du
 unfolding timed_dues_after
 timed_dues_after-few s m =
     let after = seconds_in_a_row (seconds_left m) (second_number_of m +ℤ pos 1) in
-    omega (arith, filter-few (is_due_at_second s) after, length-seconds_in_a_row (seconds_left m) (second_number_of m +ℤ pos 1))
+    omega (arith, filter-few (is_timed_due s) after, length-seconds_in_a_row (seconds_left m) (second_number_of m +ℤ pos 1))
 
 -- one second more in front
-seconds-in_front : (s : TimedSchedule) (b : Bool) (t k : ℕ) (n : ℤ) → t ≡ suc k → is_due_at_second s (beginning_of_second n) ≡ b → filter (is_due_at_second s) (seconds_in_a_row t n) ≡ cond b (beginning_of_second n ∷ filter (is_due_at_second s) (seconds_in_a_row k (n +ℤ pos 1))) (filter (is_due_at_second s) (seconds_in_a_row k (n +ℤ pos 1)))
+seconds-in_front : (s : TimedSchedule) (b : Bool) (t k : ℕ) (n : ℤ) → t ≡ suc k → is_timed_due s (beginning_of_second n) ≡ b → filter (is_timed_due s) (seconds_in_a_row t n) ≡ cond b (beginning_of_second n ∷ filter (is_timed_due s) (seconds_in_a_row k (n +ℤ pos 1))) (filter (is_timed_due s) (seconds_in_a_row k (n +ℤ pos 1)))
 unfolding seconds_in_a_row
 seconds-in_front s b t k n count first =
-    ap (λ t. filter (is_due_at_second s) (seconds_in_a_row t n)) count
-    ∙ ap (λ b. cond b (beginning_of_second n ∷ filter (is_due_at_second s) (seconds_in_a_row k (n +ℤ pos 1))) (filter (is_due_at_second s) (seconds_in_a_row k (n +ℤ pos 1)))) first
+    ap (λ t. filter (is_timed_due s) (seconds_in_a_row t n)) count
+    ∙ ap (λ b. cond b (beginning_of_second n ∷ filter (is_timed_due s) (seconds_in_a_row k (n +ℤ pos 1))) (filter (is_timed_due s) (seconds_in_a_row k (n +ℤ pos 1)))) first
 
-none_among : (s : TimedSchedule) (k : ℕ) (n : ℤ) → ((d : ℤ) → n ≤ℤ d → d <ℤ (n +ℤ pos k) → is_due_at_second s (beginning_of_second d) ≡ false) → filter (is_due_at_second s) (seconds_in_a_row k n) ≡ []
+none_among : (s : TimedSchedule) (k : ℕ) (n : ℤ) → ((d : ℤ) → n ≤ℤ d → d <ℤ (n +ℤ pos k) → is_timed_due s (beginning_of_second d) ≡ false) → filter (is_timed_due s) (seconds_in_a_row k n) ≡ []
 unfolding seconds_in_a_row
 none_among s zero n none = refl
 none_among s (suc k) n none =
     seconds-in_front s false (suc k) k n refl (none n (omega (arith, signed)) (omega (arith, signed)))
     ∙ none_among s k (n +ℤ pos 1) (λ d low high. none d (omega (arith, signed, low)) (omega (arith, signed, high)))
 
-first_among : (s : TimedSchedule) (t k r : ℕ) (n e : ℤ) → t ≡ k + suc r → e ≡ n +ℤ pos k → ((d : ℤ) → n ≤ℤ d → d <ℤ e → is_due_at_second s (beginning_of_second d) ≡ false) → is_due_at_second s (beginning_of_second e) ≡ true → filter (is_due_at_second s) (seconds_in_a_row t n) ≡ beginning_of_second e ∷ filter (is_due_at_second s) (seconds_in_a_row r (e +ℤ pos 1))
+first_among : (s : TimedSchedule) (t k r : ℕ) (n e : ℤ) → t ≡ k + suc r → e ≡ n +ℤ pos k → ((d : ℤ) → n ≤ℤ d → d <ℤ e → is_timed_due s (beginning_of_second d) ≡ false) → is_timed_due s (beginning_of_second e) ≡ true → filter (is_timed_due s) (seconds_in_a_row t n) ≡ beginning_of_second e ∷ filter (is_timed_due s) (seconds_in_a_row r (e +ℤ pos 1))
 first_among s t zero r n e count at none due =
     let here : n ≡ e = omega (arith, signed, at) in
-    seconds-in_front s true t r n (omega (arith, count)) (ap (λ d. is_due_at_second s (beginning_of_second d)) here ∙ due)
-    ∙ ap (λ d. beginning_of_second d ∷ filter (is_due_at_second s) (seconds_in_a_row r (d +ℤ pos 1))) here
+    seconds-in_front s true t r n (omega (arith, count)) (ap (λ d. is_timed_due s (beginning_of_second d)) here ∙ due)
+    ∙ ap (λ d. beginning_of_second d ∷ filter (is_timed_due s) (seconds_in_a_row r (d +ℤ pos 1))) here
 first_among s t (suc k) r n e count at none due =
     seconds-in_front s false t (k + suc r) n (omega (arith, count)) (none n (omega (arith, signed)) (omega (arith, signed, at)))
     ∙ first_among s (k + suc r) k r (n +ℤ pos 1) e refl (omega (arith, signed, at)) (λ d low high. none d (omega (arith, signed, low)) high) due
 
 -- ---- what a step takes from it
 
-pub timed_dues_after-none : (s : TimedSchedule) (start : Moment) → IsMoment start → ((q : Moment) → IsMoment q → IsBefore start q → is_due_at_second s q ≡ false) → timed_dues_after s start ≡ []
+pub timed_dues_after-none : (s : TimedSchedule) (start : Moment) → IsMoment start → ((q : Moment) → IsMoment q → IsBefore start q → is_timed_due s q ≡ false) → timed_dues_after s start ≡ []
 unfolding timed_dues_after
 timed_dues_after-none s start is none =
     none_among s (seconds_left start) (second_number_of start +ℤ pos 1)
@@ -88,10 +89,10 @@ timed_dues_after-none s start is none =
     (beginning_of_second-moment d (omega (arith, signed, is.date.0, low)) (omega (arith, signed, is.date.1, is.time.second, high)))
     (beginning_of_second-later start d (omega (arith, signed, low))))
 
-pub timed_dues_after-first : (s : TimedSchedule) (start m : Moment) → IsMoment start → IsMoment m → is_due_at_second s m ≡ true → IsBefore start m → ((q : Moment) → IsMoment q → IsBefore start q → IsBefore q m → is_due_at_second s q ≡ false) → timed_dues_after s start ≡ m ∷ timed_dues_after s m
+pub timed_dues_after-first : (s : TimedSchedule) (start m : Moment) → IsMoment start → IsMoment m → is_timed_due s m ≡ true → IsBefore start m → ((q : Moment) → IsMoment q → IsBefore start q → IsBefore q m → is_timed_due s q ≡ false) → timed_dues_after s start ≡ m ∷ timed_dues_after s m
 unfolding timed_dues_after
 timed_dues_after-first s start m is end due later least =
-    let at = second_parts s m due in
+    let at = second_parts s m (timed_parts s m due).0 in
     let less = second_number_of-later start m is.time.second at.fraction later in
     let here = beginning_of_second-same m end.time.second at.fraction in
     let skipped : ℕ = unsigned_abs (second_number_of m -ℤ (second_number_of start +ℤ pos 1)) in
@@ -102,8 +103,8 @@ timed_dues_after-first s start m is end due later least =
     (beginning_of_second-moment d (omega (arith, signed, is.date.0, low)) (omega (arith, signed, end.date.1, end.time.second, high)))
     (beginning_of_second-later start d (omega (arith, signed, low)))
     (beginning_of_second-earlier m d end.time.second high))
-    (ap (is_due_at_second s) here ∙ due)
-    ∙ ap (λ x. x ∷ filter (is_due_at_second s) (seconds_in_a_row (seconds_left m) (second_number_of m +ℤ pos 1))) here
+    (ap (is_timed_due s) here ∙ due)
+    ∙ ap (λ x. x ∷ filter (is_timed_due s) (seconds_in_a_row (seconds_left m) (second_number_of m +ℤ pos 1))) here
 
 -- none is left after the last moment of the calendar
 pub timed_dues_after-end : (s : TimedSchedule) (m : Moment) → m ≡ moment (pos 95_745_399) (time_at 23 59 59 999_999_999) → timed_dues_after s m ≡ []

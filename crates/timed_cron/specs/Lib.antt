@@ -1,6 +1,9 @@
+pub mod DialectFields
 pub mod DueSeconds
 pub mod KnownSeconds
 pub mod Private
+pub mod QuartzTexts
 pub mod TimedDueLists
 pub mod TimedErrors
 pub mod TimedTexts
+pub mod Years

@@ -6,7 +6,7 @@ use Rattle.chrono_datetime.specs.Recurrence.{past_last_date}
 use Rattle.chrono_datetime.specs.Time.{time_at}
 use Rattle.timed_cron.specs.declared.timed_dues.TimedDues.{TimedDues}
 use Rattle.timed_cron.specs.declared.timed_schedule.TimedSchedule.{TimedSchedule}
-use Rattle.timed_cron.specs.DueSeconds.{is_due_at_second}
+use Rattle.timed_cron.specs.DueSeconds.{is_timed_due}
 
 -- the beginning of the k-th second, counted from that with which day 0 begins
 abbrev pub beginning_of_second : ℤ → Moment
@@ -27,7 +27,7 @@ seconds_in_a_row (suc k) n = beginning_of_second n ∷ seconds_in_a_row k (n +�
 
 -- of the beginnings of all seconds after a moment, those at which the schedule is due
 unfoldable pub timed_dues_after : TimedSchedule → Moment → List Moment
-timed_dues_after s m = filter (is_due_at_second s) (seconds_in_a_row (seconds_left m) (second_number_of m +ℤ pos 1))
+timed_dues_after s m = filter (is_timed_due s) (seconds_in_a_row (seconds_left m) (second_number_of m +ℤ pos 1))
 
 -- what an iterator has left to give
 abbrev pub timed_dues_left : TimedDues → List Moment

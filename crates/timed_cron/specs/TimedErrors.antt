@@ -1,5 +1,6 @@
 -- What is told of a text that is no schedule of its dialect: the field, the place, and what is wrong there.
 use Rattle.std.specs.Prelude.{◌≡◌, ℕ, ◌+◌, Bool, List, [], ◌∷◌, ◌++◌, length, drop, Option, Some, None, codes, refl}
+use Rattle.std.specs.Fmt.{decimal}
 use Rattle.chrono_cron.specs.ErrorTexts.{schedule_error_text}
 use Rattle.chrono_cron.specs.FieldTexts.{field_lists, item_lists, item_span, number_between, number_of_name, range_of, spelled_number, step_of}
 use Rattle.chrono_cron.specs.PlacedWords.{placed_items, placed_words}
@@ -11,15 +12,18 @@ use Rattle.chrono_cron.specs.declared.text.number_names.Names.TheVariants.{Numbe
 use Rattle.chrono_cron.specs.declared.text.schedule_error.ScheduleFault.{ScheduleFault}
 use Rattle.chrono_cron.specs.declared.text.schedule_error.ScheduleFault.TheVariants.{Interval, OutOfRange, Reboot, TimeZone, TooFewFields, TooManyFields, UnknownNickname}
 use Rattle.chrono_cron.specs.declared.text.schedule_error.ScheduleField.TheVariants.{Minute}
+use Rattle.timed_cron.specs.QuartzTexts.{error_in, quartz_read}
 use Rattle.timed_cron.specs.declared.dialect.Dialect.{Dialect}
-use Rattle.timed_cron.specs.declared.dialect.Dialect.TheVariants.{Crontab, Seconds}
+use Rattle.timed_cron.specs.declared.dialect.Dialect.TheVariants.{Crontab, Seconds, Quartz}
 use Rattle.timed_cron.specs.declared.timed_error.TimedError.{TimedError}
-use Rattle.timed_cron.specs.declared.timed_error.TimedError.TheVariants.{Seconds as InSeconds, Fields as InFields}
+use Rattle.timed_cron.specs.declared.timed_error.TimedError.TheVariants.{Seconds as InSeconds, Fields as InFields, QuestionMarks, Years as InYears}
 
 -- the byte of an error
 abbrev pub error_byte : TimedError → ℕ
 error_byte (InSeconds e) = e.byte
 error_byte (InFields e) = e.byte
+error_byte (QuestionMarks byte) = byte
+error_byte (InYears e) = e.byte
 
 -- where a placed word ends
 abbrev pub placed_word_end : ℕ × List ℕ → ℕ
@@ -51,11 +55,14 @@ error_with_seconds text (a ∷ b ∷ others) = InFields (schedule_error_at None 
 unfoldable pub timed_error : Dialect → List ℕ → TimedError
 timed_error Crontab text = InFields (schedule_error text)
 timed_error Seconds text = error_with_seconds text (placed_words 0 text)
+timed_error Quartz text = error_in (quartz_read text)
 
 -- the line of an error
 unfoldable pub timed_error_text : TimedError → List ℕ
 timed_error_text (InSeconds e) = codes "second, " ++ schedule_error_text e
 timed_error_text (InFields e) = schedule_error_text e
+timed_error_text (QuestionMarks byte) = codes "weekday, byte " ++ (decimal byte ++ codes ": not just one field of days is ?")
+timed_error_text (InYears e) = codes "year, " ++ schedule_error_text e
 
 -- known values: the 60 of a list of seconds, and that of a list of minutes, by their places in the whole text
 timed_error-second : timed_error Seconds (codes " 5,60 * * * * *") ≡ InSeconds (schedule_error_at None (3, OutOfRange))

@@ -2,7 +2,9 @@
 
 /// Which fields a schedule's text has.
 ///
-/// In both dialects a nickname such as `@daily` may stand in place of the fields. It is due at second 0.
+/// In the first two a nickname such as `@daily` may stand in place of the fields. It is due at second 0.
+///
+/// No dialect reads a time zone in front (`TZ=`, `CRON_TZ=`), `@every` or `@reboot`. The error names each.
 #[derive(Clone, Copy, PartialEq, Eq, Debug)]
 pub enum Dialect {
     /// Five fields, of which the first is the minute. It is due at second 0.
@@ -11,8 +13,17 @@ pub enum Dialect {
     Crontab,
     /// Six fields, of which the first is the second, 0 to 59. The others are those of [`Crontab`](Dialect::Crontab).
     ///
-    /// The option `cron.Second` of Go's library robfig/cron, and the cron triggers of Quartz, have seconds in this place. Their `?` is not
-    /// read, and neither is a step behind a number alone, such as `5/10`. Years, which Quartz has, are not read either. Quartz counts weekdays
-    /// from 1 for Sunday. Here 0 and 7 are Sunday.
+    /// The option `cron.Second` of Go's library robfig/cron has seconds in this place. Its `?` is not read, and neither is a step behind a
+    /// number alone, such as `5/10`.
     Seconds,
+    /// Six fields as in the cron triggers of Quartz, or seven: a year from 1970 to 2099 may stand behind the weekday.
+    ///
+    /// Weekdays are 1 for Sunday to 7 for Saturday, or `SUN` to `SAT`. One of the two fields of days has to be `?`, and the other not.
+    ///
+    /// - `5/15` lists every 15th number from 5 to the end of the field, and `22-2` goes over that end. Years do not.
+    /// - The day of the month may be `L`, `L-3`, `LW` or `15W`, alone. `L-3W` is not read.
+    /// - The weekday may be `L` for Saturday, `6L` or `6#3`, alone.
+    ///
+    /// With no year the schedule is due in all years of the calendar, and `*` stands for 1970 to 2099. A step is 1 to 999. Nicknames are not read.
+    Quartz,
 }

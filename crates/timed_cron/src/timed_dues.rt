@@ -3,7 +3,7 @@ ghost use Rattle.std.specs.Prelude.{◌≡◌, ◌≤◌, pos, length, IfSome, I
 ghost use Rattle.std.specs.Iterator.{YieldsFirst, item_count};
 ghost use Rattle.chrono_datetime.specs.Moment.{IsBefore, moment};
 ghost use Rattle.chrono_datetime.specs.Time.{IsPlain, time_at};
-ghost use Rattle.timed_cron.specs.DueSeconds.{NoSecondAfter, NoSecondBetween, is_due_at_second};
+ghost use Rattle.timed_cron.specs.DueSeconds.{NoSecondAfter, NoSecondBetween, is_timed_due};
 ghost use Rattle.timed_cron.specs.TimedDueLists.{seconds_left, timed_dues_left};
 
 use crate::timed_schedule::TimedSchedule;
@@ -41,7 +41,7 @@ impl TimedDues {
     /// It does what [`next`](Iterator::next) does. The contract of `next` names the list of moments that is left.
     /// The contract of `step` names the moment that it returns.
     pub fn step(&mut self) -> Option<NaiveDateTime>
-        ensures due { IfSome result (λ m. IsTrue (is_due_at_second self.old.schedule m)) }
+        ensures due { IfSome result (λ m. IsTrue (is_timed_due self.old.schedule m)) }
         ensures later { IfSome result (λ m. IsBefore self.old.last m) }
         // It lies in no leap second.
         ensures plain { IfSome result (λ m. IsPlain m.time) }

@@ -21,6 +21,10 @@ pub enum TimedError {
     /// The five fields behind the seconds or the nickname cannot be read, or the string has other fields than these.
     /// `TooFewFields` and `TooManyFields` speak of the five fields. So `* * * * *` has too few of them where seconds stand in front.
     Fields(ScheduleError),
+    /// In [`Quartz`](crate::Dialect::Quartz), neither field of days is `?`, or both are. The number is the byte where the weekday begins.
+    QuestionMarks(usize),
+    /// The field of years cannot be read. `field` of the error is `None`, since this is none of the five.
+    Years(ScheduleError),
 }
 
 impl fmt::Display for TimedError {
@@ -31,6 +35,10 @@ impl fmt::Display for TimedError {
         match self {
             TimedError::Seconds(error) => write!(f, "second, {error}"),
             TimedError::Fields(error) => write!(f, "{error}"),
+            TimedError::QuestionMarks(byte) => {
+                write!(f, "weekday, byte {byte}: not just one field of days is ?")
+            }
+            TimedError::Years(error) => write!(f, "year, {error}"),
         }
     }
 }

@@ -12,6 +12,7 @@ ghost use Rattle.timed_cron.specs.declared.dialect.Dialect.TheVariants.{Seconds}
 ghost use Rattle.timed_cron.specs.declared.timed_error.TimedError.TheVariants.{Fields as InFields};
 
 use crate::dialect::Dialect;
+use crate::quartz_reader::read_quartz;
 use crate::timed_error::TimedError;
 use crate::timed_schedule::TimedSchedule;
 use crate::words::{Ends, four_words, next_word};
@@ -30,7 +31,7 @@ use chrono_text::{begins_but_for_case, same_but_for_case};
 /// ```
 ///
 /// The field of seconds is read as [`read_field`] reads the numbers 0 to 59, without names. The others are read as [`read_schedule`] does.
-/// In both dialects a nickname such as `@daily` may stand alone. It is due at second 0.
+/// Where a dialect has nicknames, one such as `@daily` may stand alone. It is due at second 0. [`Dialect`] says how Quartz differs.
 pub fn read_timed_schedule(dialect: Dialect, text: &[u8]) -> Result<TimedSchedule, TimedError>
     ensures read { IfOk result (λ s. IsTimedText dialect text.now s) }
     // Whatever schedule the text is one of is the answer: no text is refused, and none has two meanings.
@@ -42,6 +43,7 @@ pub fn read_timed_schedule(dialect: Dialect, text: &[u8]) -> Result<TimedSchedul
     match dialect {
         Dialect::Crontab => read_at_second_zero(text),
         Dialect::Seconds => read_with_seconds(text),
+        Dialect::Quartz => read_quartz(text),
     }
 }
 
@@ -161,7 +163,7 @@ fn error_behind(error: ScheduleError, by: usize) -> ScheduleError
 }
 
 // The error of a text whose first word this is, and that has another number of words than six.
-fn number_error(text: &[u8], first: Ends, count: (usize, ScheduleFault)) -> TimedError
+pub(crate) fn number_error(text: &[u8], first: Ends, count: (usize, ScheduleFault)) -> TimedError
     requires first { IsWordAt text.now 0 first.place first.end }
     requires count { count.0 ≤ length text.now }
     ensures error { result ≡ InFields (schedule_error_at None (told_or first.place (front_fault (bytes_of text.now first.place first.end)) count)) }
@@ -180,7 +182,7 @@ fn number_error(text: &[u8], first: Ends, count: (usize, ScheduleFault)) -> Time
 
 // What a first word is in place of a field: an interval, the start of a machine or a time zone.
 #[tactic(auto, unfolding(chrono_cron::specs::ScheduleErrors::front_fault))]
-fn front_fault(word: &[u8]) -> Option<ScheduleFault>
+pub(crate) fn front_fault(word: &[u8]) -> Option<ScheduleFault>
     ensures { result ≡ front_fault word.now }
 {
     if same_but_for_case(word, b"@every") {

@@ -49,6 +49,7 @@ returns-in-Ok-clause-read c =
       five = words.1;
       seconds = λ k. sym (c.in-Some.ensures k);
       schedule = rw c.text_from.ensures at c.in-Ok.ensures.read;
+      years = refl;
     })
 
 pub returns-in-Ok-clause-only : goal.returns-in-Ok-clause-only
@@ -59,7 +60,7 @@ returns-in-Ok-clause-only c = λ s is.
     let same = same_reading text (bytes_of text second.place second.end) (drop second.end text) s words.0 is in
     let schedule = rw (← c.text_from.ensures) at same.schedule in
     let seconds = same_seconds (bytes_of text second.place second.end) c.in-Some.seconds s.seconds c.in-Some.ensures same.seconds in
-    rw (c.new.ensures, seconds, c.in-Ok.ensures.sets s.schedule.sets schedule) refl
+    rw (c.new.ensures, seconds, c.in-Ok.ensures.sets s.schedule.sets schedule, sym same.years) refl
 
 pub returns-in-Err-clause-found : goal.returns-in-Err-clause-found
 returns-in-Err-clause-found c = λ s is.

@@ -1,14 +1,7 @@
-use Rattle.std.proofs.Common.{◌≡◌, ℕ, List, ◌∷◌, length, drop, arith, ap, sym}
-use Rattle.chrono_cron.specs.PlacedWords.{placed_words}
-use Rattle.timed_cron.specs.Private.{IsWordAt, bytes_of}
+use Rattle.std.proofs.Common.{length, arith, ap, sym}
 use Rattle.timed_cron.specs.TimedErrors.{four_fault}
-use Rattle.timed_cron.proofs.TextWords.{four_at, in_front, no_four, none_at, word_at}
+use Rattle.timed_cron.proofs.TextWords.{four_at, front, no_four, none_at, word_at}
 use Rattle.timed_cron.proofs.words.four_words.Goals as goal
-
--- the words from a place on, if the first of them is the word at the place, and the rest are others
-front : (text : List ℕ) (from place end : ℕ) (rest : List (ℕ × List ℕ)) → IsWordAt text from place end → placed_words end (drop end text) ≡ rest
-    → placed_words from (drop from text) ≡ (place, bytes_of text place end) ∷ rest
-front text from place end rest is e = in_front (place, bytes_of text place end) (word_at text from place end is) e
 
 pub returns-in_default-clause-fault : goal.returns-in_default-clause-fault
 returns-in_default-clause-fault c =

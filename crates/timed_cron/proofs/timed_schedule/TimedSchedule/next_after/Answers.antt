@@ -1,47 +1,44 @@
-use Rattle.std.proofs.Common.{ap, ◌∙◌}
-use Rattle.chrono_cron.specs.Due.{is_due}
-use Rattle.timed_cron.proofs.MinuteOrder.{due_begins, due_in_minute, later_minute, least_in_minute, least_later, never_second, none_later}
+use Rattle.std.proofs.Common.{◌≡◌, true, ◌∙◌}
+use Rattle.std.proofs.lemmas.Option.{IfSome_then}
+use Rattle.timed_cron.specs.DueSeconds.{NoSecondBetween, is_due_at_second, is_timed_due}
+use Rattle.timed_cron.specs.Private.{IdleBetween, IdleInYearsBetween, IsDueIn}
+use Rattle.timed_cron.proofs.YearSteps.{any_year, due_by_years, for_none, not_due_in}
 use Rattle.timed_cron.proofs.timed_schedule.TimedSchedule.next_after.Goals as goal
+
+pub returns-in-None-clause-due : goal.returns-in-None-clause-due
+returns-in-None-clause-due c =
+    let s = c.args.self.now in
+    IfSome_then c.next_in_any_year.result {P = λ m. is_due_at_second s m ≡ true} {Q = λ m. is_timed_due s m ≡ true} c.next_in_any_year.ensures.due
+    (λ m due. any_year s m c.in-None.is ∙ due)
+
+pub returns-in-None-clause-least : goal.returns-in-None-clause-least
+returns-in-None-clause-least c =
+    let s = c.args.self.now in
+    let start = c.args.start in
+    IfSome_then c.next_in_any_year.result {P = λ m. IdleBetween s start m} {Q = λ m. NoSecondBetween s start m} c.next_in_any_year.ensures.least
+    (λ m idle q at later earlier. any_year s q c.in-None.is ∙ idle q at later earlier)
+
+pub returns-in-None-clause-none : goal.returns-in-None-clause-none
+returns-in-None-clause-none c =
+    for_none c.next_in_any_year.result
+    (λ idle q at later. any_year c.args.self.now q c.in-None.is ∙ idle q at later) c.next_in_any_year.ensures.none
 
 pub returns-in-Some-clause-due : goal.returns-in-Some-clause-due
 returns-in-Some-clause-due c =
-    rw c.second_in_minute.ensures (due_in_minute c.args.self.now c.args.start c.in-Some.second c.in-Some.ensures.within
-    (rw c.second_in_minute-minute.ensures at c.in-Some.ensures.due) c.in-Some.ensures.member)
+    let s = c.args.self.now in
+    let years = c.in-Some.years in
+    IfSome_then c.next_in_years.result {P = λ m. IsDueIn s years m} {Q = λ m. is_timed_due s m ≡ true} c.next_in_years.ensures.due
+    (λ m due. due_by_years s years m c.in-Some.is due)
 
 pub returns-in-Some-clause-least : goal.returns-in-Some-clause-least
-returns-in-Some-clause-least c = λ q at later earlier.
-    least_in_minute c.args.self.now c.args.start q c.in-Some.second c.in-Some.ensures.within
-    (rw (c.second_in_minute-minute.ensures, c.second_of.ensures) at c.in-Some.ensures.least)
-    later (rw c.second_in_minute.ensures at earlier)
+returns-in-Some-clause-least c =
+    let s = c.args.self.now in
+    let years = c.in-Some.years in
+    let start = c.args.start in
+    IfSome_then c.next_in_years.result {P = λ m. IdleInYearsBetween s years start m} {Q = λ m. NoSecondBetween s start m} c.next_in_years.ensures.least
+    (λ m idle q at later earlier. not_due_in s years q c.in-Some.is (idle q at later earlier))
 
-pub returns-in_default-first_in-clause-none : goal.returns-in_default-first_in-clause-none
-returns-in_default-first_in-clause-none c = λ q at later. never_second c.args.self.now q c.in_default-first_in.ensures.none
-
-pub returns-in_default-next_after-clause-none : goal.returns-in_default-next_after-clause-none
-returns-in_default-next_after-clause-none c = λ q at later.
-    none_later c.args.self.now c.args.start q c.date_times_exist.ensures at
-    (rw (c.second_in_minute-minute.ensures, c.second_of.ensures) at c.in_default.ensures.none)
-    (rw c.second_in_minute-minute.ensures at c.in_default-next_after.ensures.none) later
-
-pub returns-clause-due : goal.returns-clause-due
-returns-clause-due c =
-    let next = c.in-Some-next_after.next in
-    let begins = due_begins next c.args.self.now c.in-Some-next_after.ensures.member in
-    rw c.second_in_minute-2.ensures (due_in_minute c.args.self.now next c.in-Some-first_in.second c.in-Some-first_in.ensures.before
-    (ap (is_due c.args.self.now.schedule.sets) begins ∙ c.in-Some-next_after.ensures.member) c.in-Some-first_in.ensures.member)
-
-pub returns-clause-later : goal.returns-clause-later
-returns-clause-later c =
-    let next = c.in-Some-next_after.next in
-    rw c.second_in_minute-2.ensures (later_minute c.args.start next c.in-Some-first_in.second
-    (due_begins next c.args.self.now c.in-Some-next_after.ensures.member)
-    (rw c.second_in_minute-minute.ensures at c.in-Some-next_after.ensures.later))
-
-pub returns-clause-least : goal.returns-clause-least
-returns-clause-least c = λ q at later earlier.
-    let next = c.in-Some-next_after.next in
-    least_later c.args.self.now c.args.start q next c.in-Some-first_in.second c.in-Some-first_in.ensures.before
-    c.date_times_exist.ensures at c.date_times_exist-2.ensures (due_begins next c.args.self.now c.in-Some-next_after.ensures.member)
-    (rw (c.second_in_minute-minute.ensures, c.second_of.ensures) at c.in_default.ensures.none)
-    (rw c.second_in_minute-minute.ensures at c.in-Some-next_after.ensures.least)
-    c.in-Some-first_in.ensures.least later (rw c.second_in_minute-2.ensures at earlier)
+pub returns-in-Some-clause-none : goal.returns-in-Some-clause-none
+returns-in-Some-clause-none c =
+    for_none c.next_in_years.result
+    (λ idle q at later. not_due_in c.args.self.now c.in-Some.years q c.in-Some.is (idle q at later)) c.next_in_years.ensures.none

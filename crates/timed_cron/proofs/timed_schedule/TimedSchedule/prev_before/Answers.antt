@@ -1,41 +1,44 @@
-use Rattle.std.proofs.Common.{ap, ◌∙◌, arith}
-use Rattle.chrono_cron.specs.Due.{is_due}
-use Rattle.timed_cron.proofs.MinuteOrder.{due_begins, due_in_minute, greatest_earlier, greatest_in_minute, never_second, none_earlier}
+use Rattle.std.proofs.Common.{◌≡◌, true, ◌∙◌}
+use Rattle.std.proofs.lemmas.Option.{IfSome_then}
+use Rattle.timed_cron.specs.DueSeconds.{NoSecondBetween, is_due_at_second, is_timed_due}
+use Rattle.timed_cron.specs.Private.{IdleBetween, IdleInYearsBetween, IsDueIn}
+use Rattle.timed_cron.proofs.YearSteps.{any_year, due_by_years, for_none, not_due_in}
 use Rattle.timed_cron.proofs.timed_schedule.TimedSchedule.prev_before.Goals as goal
+
+pub returns-in-None-clause-due : goal.returns-in-None-clause-due
+returns-in-None-clause-due c =
+    let s = c.args.self.now in
+    IfSome_then c.prev_in_any_year.result {P = λ m. is_due_at_second s m ≡ true} {Q = λ m. is_timed_due s m ≡ true} c.prev_in_any_year.ensures.due
+    (λ m due. any_year s m c.in-None.is ∙ due)
+
+pub returns-in-None-clause-greatest : goal.returns-in-None-clause-greatest
+returns-in-None-clause-greatest c =
+    let s = c.args.self.now in
+    let start = c.args.start in
+    IfSome_then c.prev_in_any_year.result {P = λ m. IdleBetween s m start} {Q = λ m. NoSecondBetween s m start} c.prev_in_any_year.ensures.greatest
+    (λ m idle q at later earlier. any_year s q c.in-None.is ∙ idle q at later earlier)
+
+pub returns-in-None-clause-none : goal.returns-in-None-clause-none
+returns-in-None-clause-none c =
+    for_none c.prev_in_any_year.result
+    (λ idle q at later. any_year c.args.self.now q c.in-None.is ∙ idle q at later) c.prev_in_any_year.ensures.none
 
 pub returns-in-Some-clause-due : goal.returns-in-Some-clause-due
 returns-in-Some-clause-due c =
-    rw c.second_in_minute.ensures (due_in_minute c.args.self.now c.args.start c.in-Some.second (omega (arith, c.in-Some.ensures.before, c.seconds_begun.ensures.within))
-    (rw c.second_in_minute-minute.ensures at c.in-Some.ensures.due) c.in-Some.ensures.member)
+    let s = c.args.self.now in
+    let years = c.in-Some.years in
+    IfSome_then c.prev_in_years.result {P = λ m. IsDueIn s years m} {Q = λ m. is_timed_due s m ≡ true} c.prev_in_years.ensures.due
+    (λ m due. due_by_years s years m c.in-Some.is due)
 
 pub returns-in-Some-clause-greatest : goal.returns-in-Some-clause-greatest
-returns-in-Some-clause-greatest c = λ q at later earlier.
-    greatest_in_minute c.args.self.now c.args.start q c.in-Some.second c.seconds_begun.result c.seconds_begun.ensures.begun
-    (rw c.second_in_minute-minute.ensures at c.in-Some.ensures.greatest)
-    (rw c.second_in_minute.ensures at later) earlier
+returns-in-Some-clause-greatest c =
+    let s = c.args.self.now in
+    let years = c.in-Some.years in
+    let start = c.args.start in
+    IfSome_then c.prev_in_years.result {P = λ m. IdleInYearsBetween s years m start} {Q = λ m. NoSecondBetween s m start} c.prev_in_years.ensures.greatest
+    (λ m idle q at later earlier. not_due_in s years q c.in-Some.is (idle q at later earlier))
 
-pub returns-in_default-last_in-clause-none : goal.returns-in_default-last_in-clause-none
-returns-in_default-last_in-clause-none c = λ q at earlier. never_second c.args.self.now q c.in_default-last_in.ensures.none
-
-pub returns-in_default-prev_before-clause-none : goal.returns-in_default-prev_before-clause-none
-returns-in_default-prev_before-clause-none c = λ q at earlier.
-    none_earlier c.args.self.now c.args.start q c.seconds_begun.result c.date_times_exist.ensures at c.seconds_begun.ensures.begun
-    (rw c.second_in_minute-minute.ensures at c.in_default.ensures.none)
-    (rw c.second_in_minute-minute.ensures at c.in_default-prev_before.ensures.none) earlier
-
-pub returns-clause-due : goal.returns-clause-due
-returns-clause-due c =
-    let previous = c.in-Some-prev_before.previous in
-    let begins = due_begins previous c.args.self.now c.in-Some-prev_before.ensures.member in
-    rw c.second_in_minute-2.ensures (due_in_minute c.args.self.now previous c.in-Some-last_in.second c.in-Some-last_in.ensures.before
-    (ap (is_due c.args.self.now.schedule.sets) begins ∙ c.in-Some-prev_before.ensures.member) c.in-Some-last_in.ensures.member)
-
-pub returns-clause-greatest : goal.returns-clause-greatest
-returns-clause-greatest c = λ q at later earlier.
-    let previous = c.in-Some-prev_before.previous in
-    greatest_earlier c.args.self.now c.args.start q previous c.in-Some-last_in.second c.seconds_begun.result
-    c.date_times_exist.ensures at c.date_times_exist-2.ensures (due_begins previous c.args.self.now c.in-Some-prev_before.ensures.member)
-    c.seconds_begun.ensures.begun
-    (rw c.second_in_minute-minute.ensures at c.in_default.ensures.none)
-    (rw c.second_in_minute-minute.ensures at c.in-Some-prev_before.ensures.greatest)
-    (λ j low high. c.in-Some-last_in.ensures.greatest j (omega (arith, low)) high) (rw c.second_in_minute-2.ensures at later) earlier
+pub returns-in-Some-clause-none : goal.returns-in-Some-clause-none
+returns-in-Some-clause-none c =
+    for_none c.prev_in_years.result
+    (λ idle q at later. not_due_in c.args.self.now c.in-Some.years q c.in-Some.is (idle q at later)) c.prev_in_years.ensures.none

@@ -1,0 +1,287 @@
+//! The reading of whole texts of Quartz.
+ghost use Rattle.std.specs.Prelude.{◌≡◌, ◌+◌, ◌<◌, ◌≤◌, ◌^◌, length, IfOk, IfErr, IfSome, Ok, Err, Some, None};
+ghost use Rattle.chrono_cron.specs.PlacedWords.{placed_words};
+ghost use Rattle.chrono_cron.specs.ScheduleErrors.{front_or, one_word_fault, schedule_error_at};
+ghost use Rattle.timed_cron.specs.Private.{AreWords, IsWithin, IsWordAt, bytes_of, word_of, year_word_of};
+ghost use Rattle.timed_cron.specs.QuartzTexts.{calendar_read, clock_read, fields_read, named_by_both, quartz_read, schedule_of, words_read, years_read};
+ghost use Rattle.timed_cron.specs.TimedErrors.{error_byte};
+ghost use Rattle.timed_cron.specs.declared.timed_error.TimedError.TheVariants.{Fields as InFields};
+
+use crate::dialect_field::{FieldFault, read_items};
+use crate::quartz_days::{DaySets, is_mark, read_days, read_weekdays};
+use crate::quartz_form::{months, plain, years};
+use crate::timed_error::TimedError;
+use crate::timed_reader::{front_fault, number_error};
+use crate::timed_schedule::TimedSchedule;
+use crate::words::{Ends, next_word};
+use crate::year_set::YearSet;
+use chrono_cron::{FieldSets, MonthDays, Schedule, ScheduleError, ScheduleFault, ScheduleField};
+use chrono_sets::{NumberSet, PlaceSet};
+
+// The words of six fields, and that of the years.
+#[derive(Clone, Copy)]
+pub(crate) struct Words {
+    pub(crate) second: Ends,
+    pub(crate) minute: Ends,
+    pub(crate) hour: Ends,
+    pub(crate) day: Ends,
+    pub(crate) month: Ends,
+    pub(crate) weekday: Ends,
+    pub(crate) year: Option<Ends>,
+}
+
+// The schedule of a text.
+#[tactic(auto, unfolding(crate::specs::QuartzTexts::quartz_read))]
+pub(crate) fn read_quartz(text: &[u8]) -> Result<TimedSchedule, TimedError>
+    ensures read { result ≡ quartz_read text.now }
+    ensures byte { IfErr result (λ e. error_byte e ≤ length text.now) }
+{
+    match quartz_words(text) {
+        Ok(words) => read_words(text, words),
+        Err(count) => Err(count_error(text, count)),
+    }
+}
+
+// The schedule of six words or seven.
+fn read_words(text: &[u8], words: Words) -> Result<TimedSchedule, TimedError>
+    requires { AreWords text.now words }
+    ensures read { result ≡ words_read (length text.now) (placed_words 0 text.now) }
+    ensures byte { IfErr result (λ e. error_byte e ≤ length text.now) }
+{
+    if let Some(fault) = front_fault(word(text, words.second)) {
+        return Err(TimedError::Fields(ScheduleError {
+            field: None,
+            byte: words.second.place,
+            fault,
+        }));
+    }
+    read_fields(text, words)
+}
+
+// The schedule of the fields.
+#[tactic(auto, unfolding(crate::specs::QuartzTexts::fields_read))]
+fn read_fields(text: &[u8], words: Words) -> Result<TimedSchedule, TimedError>
+    requires { AreWords text.now words }
+    ensures read { result ≡ fields_read (word_of text.now words.second) (word_of text.now words.minute) (word_of text.now words.hour)
+        (word_of text.now words.day) (word_of text.now words.month) (word_of text.now words.weekday) (year_word_of text.now words.year) }
+    ensures byte { IfErr result (λ e. error_byte e ≤ length text.now) }
+{
+    let clock = read_clock(text, words.second, words.minute, words.hour)?;
+    let days = read_calendar(text, words.day, words.month, words.weekday)?;
+    let years = read_years(text, words.year)?;
+    Ok(schedule_of(&clock, &days, years))
+}
+
+// The schedule of what the fields list and name.
+fn schedule_of(
+    clock: &(NumberSet, NumberSet, NumberSet),
+    calendar: &(DaySets, NumberSet, DaySets),
+    years: Option<YearSet>,
+) -> TimedSchedule
+    ensures { result ≡ schedule_of clock.now calendar.now years }
+{
+    let sets = FieldSets {
+        minutes: clock.1,
+        hours: clock.2,
+        days: calendar.0.numbers,
+        months: calendar.1,
+        weekdays: calendar.2.numbers,
+        month_days: named_by_both(&calendar.0.named, &calendar.2.named),
+        either: false,
+    };
+    TimedSchedule {
+        schedule: Schedule { sets },
+        seconds: clock.0,
+        years,
+    }
+}
+
+// The day that the first of the two fields of days names, and that which the second does.
+fn named_by_both(days: &MonthDays, weekdays: &MonthDays) -> MonthDays
+    ensures { result ≡ named_by_both days.now weekdays.now }
+{
+    MonthDays {
+        from_end: days.from_end,
+        nearest_workdays: days.nearest_workdays,
+        last_workday: days.last_workday,
+        last_weekdays: weekdays.last_weekdays,
+        nth_weekdays: weekdays.nth_weekdays,
+    }
+}
+
+// The seconds, the minutes and the hours.
+#[tactic(auto, unfolding(crate::specs::QuartzTexts::clock_read))]
+fn read_clock(
+    text: &[u8],
+    second: Ends,
+    minute: Ends,
+    hour: Ends,
+) -> Result<(NumberSet, NumberSet, NumberSet), TimedError>
+    requires second { IsWithin text.now second }
+    requires minute { IsWithin text.now minute }
+    requires hour { IsWithin text.now hour }
+    ensures read { result ≡ clock_read (word_of text.now second) (word_of text.now minute) (word_of text.now hour) }
+    ensures byte { IfErr result (λ e. error_byte e ≤ length text.now) }
+{
+    let seconds = match read_items(word(text, second), plain(0, 59), NumberSet::none()) {
+        Ok(seconds) => seconds,
+        Err(fault) => return Err(TimedError::Seconds(error_at(second, None, fault))),
+    };
+    let minutes = match read_items(word(text, minute), plain(0, 59), NumberSet::none()) {
+        Ok(minutes) => minutes,
+        Err(fault) => return Err(field_error(minute, ScheduleField::Minute, fault)),
+    };
+    match read_items(word(text, hour), plain(0, 23), NumberSet::none()) {
+        Ok(hours) => Ok((seconds, minutes, hours)),
+        Err(fault) => Err(field_error(hour, ScheduleField::Hour, fault)),
+    }
+}
+
+// The days of the month, the months and the days of the week.
+#[tactic(auto, unfolding(crate::specs::QuartzTexts::calendar_read))]
+fn read_calendar(
+    text: &[u8],
+    day: Ends,
+    month: Ends,
+    weekday: Ends,
+) -> Result<(DaySets, NumberSet, DaySets), TimedError>
+    requires day { IsWithin text.now day }
+    requires month { IsWithin text.now month }
+    requires weekday { IsWithin text.now weekday }
+    ensures read { result ≡ calendar_read (word_of text.now day) (word_of text.now month) (word_of text.now weekday) }
+    ensures byte { IfErr result (λ e. error_byte e ≤ length text.now) }
+{
+    let days = match read_days(word(text, day)) {
+        Ok(days) => days,
+        Err(fault) => return Err(field_error(day, ScheduleField::Day, fault)),
+    };
+    let listed = match read_items(word(text, month), months(), NumberSet::none()) {
+        Ok(listed) => listed,
+        Err(fault) => return Err(field_error(month, ScheduleField::Month, fault)),
+    };
+    let weekdays = match read_weekdays(word(text, weekday)) {
+        Ok(weekdays) => weekdays,
+        Err(fault) => return Err(field_error(weekday, ScheduleField::Weekday, fault)),
+    };
+    if is_mark(word(text, day)) == is_mark(word(text, weekday)) {
+        return Err(TimedError::QuestionMarks(weekday.place));
+    }
+    Ok((days, listed, weekdays))
+}
+
+// The years.
+#[tactic(auto, unfolding(crate::specs::QuartzTexts::years_read))]
+fn read_years(text: &[u8], year: Option<Ends>) -> Result<Option<YearSet>, TimedError>
+    requires { IfSome year (λ y. IsWithin text.now y) }
+    ensures read { result ≡ years_read (year_word_of text.now year) }
+    ensures byte { IfErr result (λ e. error_byte e ≤ length text.now) }
+{
+    let Some(year) = year else {
+        return Ok(None);
+    };
+    match read_items(word(text, year), years(), PlaceSet::none()) {
+        Ok(places) => Ok(Some(YearSet { places })),
+        Err(fault) => Err(TimedError::Years(error_at(year, None, fault))),
+    }
+}
+
+// The error of one of the five fields.
+fn field_error(word: Ends, field: ScheduleField, fault: FieldFault) -> TimedError
+    requires { word.place + fault.0 < 2 ^ 64 }
+    ensures { result ≡ InFields (schedule_error_at (Some field) (word.place + fault.0, fault.1)) }
+{
+    TimedError::Fields(error_at(word, Some(field), fault))
+}
+
+// The error of a field, by the place of its word.
+fn error_at(word: Ends, field: Option<ScheduleField>, fault: FieldFault) -> ScheduleError
+    requires { word.place + fault.0 < 2 ^ 64 }
+    ensures { result ≡ schedule_error_at field (word.place + fault.0, fault.1) }
+{
+    ScheduleError {
+        field,
+        byte: word.place + fault.0,
+        fault: fault.1,
+    }
+}
+
+// The bytes of a word.
+fn word(text: &[u8], ends: Ends) -> &[u8]
+    requires { IsWithin text.now ends }
+    ensures bytes { result.now ≡ bytes_of text.now ends.place ends.end }
+    ensures length { ends.place + length result.now ≤ length text.now }
+{
+    &text[ends.place..ends.end]
+}
+
+// The words of a text, if they are six or seven. Otherwise what is wrong with their number, and where.
+fn quartz_words(text: &[u8]) -> Result<Words, FieldFault>
+    ensures words { IfOk result (λ w. AreWords text.now w) }
+    ensures count { IfErr result (λ count. words_read (length text.now) (placed_words 0 text.now)
+        ≡ Err (InFields (schedule_error_at None (front_or (placed_words 0 text.now) count)))) }
+    ensures within { IfErr result (λ count. count.0 ≤ length text.now) }
+{
+    let too_few = (text.len(), ScheduleFault::TooFewFields);
+    let Some(second) = next_word(text, 0) else {
+        return Err((text.len(), ScheduleFault::Empty));
+    };
+    let Some(minute) = next_word(text, second.end) else {
+        return Err(one_word_fault(text, second));
+    };
+    let Some(hour) = next_word(text, minute.end) else {
+        return Err(too_few);
+    };
+    let Some(day) = next_word(text, hour.end) else {
+        return Err(too_few);
+    };
+    let Some(month) = next_word(text, day.end) else {
+        return Err(too_few);
+    };
+    let Some(weekday) = next_word(text, month.end) else {
+        return Err(too_few);
+    };
+    let year = next_word(text, weekday.end);
+    if let Some(year) = year {
+        if let Some(eighth) = next_word(text, year.end) {
+            return Err((eighth.place, ScheduleFault::TooManyFields));
+        }
+    }
+    Ok(Words {
+        second,
+        minute,
+        hour,
+        day,
+        month,
+        weekday,
+        year,
+    })
+}
+
+// What is wrong with a text of one word.
+fn one_word_fault(text: &[u8], word: Ends) -> FieldFault
+    requires { IsWordAt text.now 0 word.place word.end }
+    ensures value { result ≡ one_word_fault (length text.now) (word_of text.now word) }
+    ensures within { result.0 ≤ length text.now }
+{
+    if text[word.place] == b'@' {
+        (word.place, ScheduleFault::UnknownNickname)
+    } else {
+        (text.len(), ScheduleFault::TooFewFields)
+    }
+}
+
+// The error of a text with this number of words.
+fn count_error(text: &[u8], count: FieldFault) -> TimedError
+    requires { count.0 ≤ length text.now }
+    ensures error { result ≡ InFields (schedule_error_at None (front_or (placed_words 0 text.now) count)) }
+    ensures byte { error_byte result ≤ length text.now }
+{
+    match next_word(text, 0) {
+        Some(first) => number_error(text, first, count),
+        None => TimedError::Fields(ScheduleError {
+            field: None,
+            byte: count.0,
+            fault: count.1,
+        }),
+    }
+}
