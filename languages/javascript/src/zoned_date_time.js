@@ -50,6 +50,9 @@ function offsetText(offset) {
   return (offset < 0 ? "-" : "+") + parts.slice(0, ahead % 60 === 0 ? 2 : 3).join(":");
 }
 
+/** An offset in whole minutes, of which it is the nearest; in texts it has no seconds. */
+const inMinutes = (offset) => Math.sign(offset) * Math.round(Math.abs(offset) / 60) * 60;
+
 /** The seconds of the text of an offset; undefined if it is none. */
 function offsetOf(text) {
   const [, sign, hours, minutes = "0", seconds = "0"] = /^([+-])(\d\d)(?::?(\d\d)(?::?(\d\d))?)?$/.exec(text) ?? [];
@@ -94,14 +97,16 @@ function instantOf(zone, { seconds, nanos }, disambiguation) {
   return at(disambiguation === "earlier" ? after : before);
 }
 
-/** The nanoseconds since 1970 of a local moment with an offset beside it. */
-function instantBy(zone, local, offset, options) {
+/** The nanoseconds since 1970 of a local moment with an offset beside it, which may be one in whole minutes. */
+function instantBy(zone, local, offset, options, isInMinutes = false) {
   const [choice, disambiguation] = [choiceOf(options, "offset"), choiceOf(options, "disambiguation")];
   if (offset === undefined || choice === "ignore") {
     return instantOf(zone, local, disambiguation);
   }
-  if (choice === "use" || zone.offsetsOfLocal(local.seconds).includes(offset)) {
-    return (local.seconds - BigInt(offset)) * SECOND + BigInt(local.nanos);
+  const isThere = (it) => it === offset || (isInMinutes && inMinutes(it) === offset);
+  const found = choice === "use" ? offset : zone.offsetsOfLocal(local.seconds).find(isThere);
+  if (found !== undefined) {
+    return (local.seconds - BigInt(found)) * SECOND + BigInt(local.nanos);
   }
   if (choice === "reject") {
     throw new RangeError(`${dateTimeOf(local)}: the clock of ${zone} is not ${offsetText(offset)} ahead of UTC`);
@@ -136,6 +141,8 @@ export class ZonedDateTime {
    */
   static from(item, options) {
     const given = optionsOf(options);
+    overflowOf(options);
+    Object.keys(CHOICES).forEach((it) => choiceOf(options, it));
     if (item instanceof ZonedDateTime) {
       return new ZonedDateTime(item.#nanoseconds, given.timeZone ?? item.#zone);
     }
@@ -171,7 +178,8 @@ export class ZonedDateTime {
       return new ZonedDateTime(Instant.from(local + offset).epochNanoseconds, zone);
     }
     const ahead = offset === undefined ? undefined : givenOffset(offset);
-    return new ZonedDateTime(instantBy(zone, withoutLeap(PlainDateTime.from(local)), ahead, options), zone);
+    const isInMinutes = /^...:?..$|^...$/.test(offset);
+    return new ZonedDateTime(instantBy(zone, withoutLeap(PlainDateTime.from(local)), ahead, options, isInMinutes), zone);
   }
 
   /** -1 if the first of two is the earlier instant, 1 if it is the later, 0 if they are the same. */
@@ -305,12 +313,12 @@ export class ZonedDateTime {
     return this.#nanoseconds === other.epochNanoseconds && this.#zone.equals(other.timeZone);
   }
 
-  /** The text of ISO 8601 with the offset, and the name of the zone in brackets if it has one. */
+  /** The text of ISO 8601 with the offset in whole minutes, and the name of the zone in brackets if it has one. */
   toString(options) {
     refuseRounding(options, "texts");
     const { offset = "auto", timeZoneName = "auto" } = optionsOf(options);
     const name = timeZoneName === "never" || this.#zone.name === undefined ? "" : `[${this.#zone.name}]`;
-    return `${this.#plain}${offset === "never" ? "" : this.offset}${name}`;
+    return `${this.#plain}${offset === "never" ? "" : offsetText(inMinutes(this.#offset))}${name}`;
   }
 
   toJSON() {

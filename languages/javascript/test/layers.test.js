@@ -378,7 +378,10 @@ test("zone_offset_at", () => {
   assert.deepEqual([59n, 60n, 0n].map((it) => file.offsetAt(it)), [0, 3_600, 0]);
   // (another zone takes the room of the first)
   assert.deepEqual([BERLIN, file, BERLIN].map((it) => it.offsetAt(1_720_000_000n)), [7_200, 3_600, 7_200]);
-  assert.equal(`${new ZonedDateTime(0n, "LMT-0:53:28")}`, "1970-01-01T00:53:28+00:53:28");
+  // (a text has the offset in whole minutes)
+  const odd = new ZonedDateTime(0n, "LMT-0:53:28");
+  assert.deepEqual([`${odd}`, odd.offset], ["1970-01-01T00:53:28+00:53", "+00:53:28"]);
+  assert.ok([`${odd}`, "1970-01-01T00:53:28+00:53:28"].every((it) => odd.equals(ZonedDateTime.from(it, { timeZone: odd.timeZone }))));
   assert.equal(`${new ZonedDateTime(-1n, "NST3:30")}`, "1969-12-31T20:29:59.999999999-03:30");
   refused(() => new ZonedDateTime(-8_334_601_228_800_000_000_000n, "HST10"));
 });
