@@ -35,7 +35,10 @@ FEATURES = {
 # The tests of the package alone, and those of its features.
 TESTS, FEATURE_TESTS = ("calls", "layers", "values", "chrono_names"), ("features", "beside_chrono")
 # The structs of the headers by their names in Rust, and what of the layers the crate does not use, as it is built with them.
-STRUCTS = {"calendar_date_time": "Moment", "calendar_fault": "Fault", "calendar_schedule": "Sets", "calendar_fraction": "Quotient"}
+STRUCTS = {
+    "calendar_date_time": "Moment", "calendar_fault": "Fault", "calendar_schedule": "Sets", "calendar_fraction": "Quotient",
+    "calendar_offsets": "Offsets",
+}
 NOT_USED = ("calendar_version",)
 COUNTS = (r"test result: .*? (\d+) passed", r"test result: .*? (\d+) failed")
 

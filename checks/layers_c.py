@@ -32,6 +32,7 @@ SANITIZERS = ["-fsanitize=address,undefined", "-fno-sanitize-recover=all", "-g"]
 TYPES = {
     "int32_t": "i32", "int64_t": "i64", "uint8_t": "u8", "uint32_t": "u32", "uint64_t": "u64", "size_t": "usize",
     "CalendarDateTime": "calendar_date_time", "CalendarFault": "calendar_fault", "CalendarSchedule": "calendar_schedule", "CalendarFraction": "calendar_fraction",
+    "CalendarOffsets": "calendar_offsets",
 }
 
 

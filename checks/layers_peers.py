@@ -1,5 +1,5 @@
 #!/usr/bin/env python3
-"""Holds the schedules of libcalendar_layers to those of croniter, its rules to those of dateutil, and its open days to those of numpy.
+"""Holds the schedules of libcalendar_layers to croniter's, its rules to dateutil's, its open days to numpy's, and its zones to zoneinfo's.
 
     checks/layers_peers.py [CASES [SEED]]
 
@@ -9,16 +9,21 @@ and the last moment have to be croniter's. Left out is what the two read otherwi
 step, or lists all its numbers. So is what croniter 1.3 does not find: 29 February backwards, and a day in more than 50 years or in
 a month that is too short for the days listed. As many cases count and move open days by generated weekends and holidays.
 
+As many cases are instants and local times in the zones of this machine, half of them near a change. In a tenth of them the zone is the
+rule at the end of its file, and the time a late one.
+
 A tenth as many are recurrence rules, whose first 20 instances in 30 years have to be dateutil's. No case has BYWEEKNO without BYDAY,
 BYSETPOS in weeks, or weekdays of which some have numbers: there dateutil departs from RFC 5545.
 """
 import ctypes
 import datetime
 import itertools
+import os
 import random
 import sys
 import tempfile
 import warnings
+import zoneinfo
 
 from results import TOP, Results
 
@@ -55,6 +60,12 @@ class Fault(ctypes.Structure):
     """A calendar_fault."""
 
     _fields_ = [("code", ctypes.c_uint32), ("field", ctypes.c_uint32), ("byte", ctypes.c_size_t), ("end", ctypes.c_size_t)]
+
+
+class Offsets(ctypes.Structure):
+    """A calendar_offsets."""
+
+    _fields_ = [("count", ctypes.c_uint32), ("earlier", ctypes.c_int32), ("later", ctypes.c_int32)]
 
 
 def load(library, room):
@@ -147,6 +158,56 @@ def test_schedules(results, library, numbers, cases):
     return left_out
 
 
+def zone_files():
+    """The bytes of each zone's file, by its name."""
+    found = {}
+    for folder, name in itertools.product(zoneinfo.TZPATH, sorted(zoneinfo.available_timezones())):
+        if name not in found and os.path.isfile(f"{folder}/{name}"):
+            with open(f"{folder}/{name}", "rb") as it:
+                found[name] = it.read()
+    return found
+
+
+def seconds_of(offset):
+    """A duration in whole seconds."""
+    return offset // datetime.timedelta(seconds=1)
+
+
+def local_peer(zone, local):
+    """The offsets of zoneinfo at the instants that show a local time, the earlier instant first."""
+    found = set()
+    for fold in (0, 1):
+        offset = local.replace(tzinfo=zone, fold=fold).utcoffset()
+        shown = (local - offset).replace(tzinfo=datetime.timezone.utc).astimezone(zone)
+        if shown.replace(tzinfo=None) == local:
+            found.add(seconds_of(offset))
+    return sorted(found, reverse=True)
+
+
+def test_zones(results, library, numbers, cases):
+    """The offsets of instants and of local times beside zoneinfo's."""
+    library.calendar_zone_offsets_of_local.restype, library.calendar_zone_holds_until.restype = Offsets, ctypes.c_int64
+    files = zone_files()
+    results.count(len(files) > 300, f"{len(files)} zones have files in {zoneinfo.TZPATH}")
+    for _ in range(cases if files else 0):
+        name = numbers.choice(sorted(files))
+        zone, rule = zoneinfo.ZoneInfo(name), files[name].rstrip(b"\n").rpartition(b"\n")[2]
+        is_late = bool(rule) and numbers.random() < 0.1
+        given = rule if is_late else files[name]
+        given = given, ctypes.c_size_t(len(given))
+        at = numbers.randrange(*((2_200_000_000, 9_000_000_000) if is_late else (-2_500_000_000, 5_000_000_000)))
+        until = library.calendar_zone_holds_until(*given, ctypes.c_int64(at))
+        if numbers.randrange(2) and until < 2**40:
+            at = until + numbers.choice((-1, 0, numbers.randrange(-9_000, 9_000)))
+        utc = EPOCH + datetime.timedelta(seconds=at)
+        theirs = seconds_of(utc.replace(tzinfo=datetime.timezone.utc).astimezone(zone).utcoffset())
+        ours = library.calendar_zone_offset_at(*given, ctypes.c_int64(at))
+        local = library.calendar_zone_offsets_of_local(*given, ctypes.c_int64(at))
+        found = [local.earlier, local.later][: local.count]
+        is_same = (ours, found) == (theirs, local_peer(zone, utc))
+        results.count(is_same, f"{name} at {at}: {ours} and {found}, zoneinfo has {theirs} and {local_peer(zone, utc)}")
+
+
 def listed(numbers, choices, most=3):
     """Some of the choices, as a list of a rule."""
     return ",".join(str(it) for it in numbers.sample(choices, numbers.randint(1, most)))
@@ -202,6 +263,7 @@ def main():
             left_out = test_schedules(results, library, numbers, cases)
             print(f"{left_out} answers on schedules were left out")
             test_open_days(results, library, numbers, cases)
+            test_zones(results, library, numbers, cases)
             # (COUNT beside UNTIL, which no text of a rule has)
             warnings.simplefilter("ignore", DeprecationWarning)
             test_rules(results, library, numbers, cases // 10)

@@ -348,6 +348,86 @@ static void patterns(void)
     free(given);
 }
 
+/* Bytes near to those of a zone: a file of version 1 with a few rows, a rule, or any letters. */
+static uint8_t *zone(size_t *length)
+{
+    static const char *const rules[] = {
+        "CET-1CEST,M3.5.0,M10.5.0/3", "EST5EDT,M3.2.0,M11.1.0", "IST-1GMT0,M10.5.0,M3.5.0/1", "<-03>3<-02>,M3.5.0/-2,M10.5.0/-1", "HST10",
+        "XXX3EDT4,0/0,J365/23", "AAA-24", "A5", "AAA5BBB,J0,1", "AAA5BBB,J1/99:00:59,364/-167",
+    };
+    uint8_t *made;
+    if (any() % 4 == 0) {
+        *length = any() % 60;
+        made = text(*length);
+    } else if (any() % 2) {
+        const char *given = rules[any() % (sizeof rules / sizeof *rules)];
+        *length = strlen(given);
+        made = bytes(*length);
+        memcpy(made, given, *length);
+    } else {
+        size_t rows = any() % 5, kinds = any() % 3 + 1;
+        *length = 44 + rows * 5 + kinds * 6 + 4;
+        made = bytes(*length);
+        memset(made, 0, 44);
+        memcpy(made, "TZif", 4);
+        made[35] = (uint8_t)rows;
+        made[39] = (uint8_t)kinds;
+        made[43] = 4;
+        for (size_t i = 0; i < rows; i++) {
+            uint8_t *time = made + 44 + i * 4;
+            time[0] = (uint8_t)(i * 20);
+            made[44 + rows * 4 + i] = (uint8_t)(any() % kinds);
+        }
+        for (size_t i = 0; i < kinds; i++) {
+            uint8_t *kind = made + 44 + rows * 5 + i * 6;
+            memset(kind, any() % 2 ? 0 : 255, 2);
+            kind[4] = (uint8_t)(any() % 2);
+            kind[5] = 0;
+        }
+        memcpy(made + *length - 4, "ABC", 4);
+    }
+    if (*length && any() % 8 == 0) {
+        made[any() % *length] ^= (uint8_t)(1 << any() % 8);
+    }
+    return made;
+}
+
+static void zones(void)
+{
+    size_t length;
+    uint8_t *given = zone(&length);
+    calendar_fault fault = {0, 0, 0, 0};
+    bool is_zone = calendar_zone_check(given, length, &fault);
+    HOLDS(is_zone ? fault.code == 0 : fault.code && fault.byte <= fault.end && fault.end <= length);
+    int64_t at = any() % 8 ? (int64_t)(any() % 5000000000u) - 1000000000 : (int64_t)any();
+    int32_t offset = calendar_zone_offset_at(given, length, at);
+    HOLDS((offset != CALENDAR_NONE) == is_zone);
+    int64_t until = calendar_zone_holds_until(given, length, at);
+    HOLDS(is_zone ? at < until || at == INT64_MAX : until == INT64_MIN);
+    HOLDS(!is_zone || at == INT64_MAX || calendar_zone_offset_at(given, length, until - 1) == offset);
+    if (is_zone && INT64_MIN + 86400 < at && at < INT64_MAX - 86400) {
+        calendar_offsets back = calendar_zone_offsets_of_local(given, length, at + offset), here = calendar_zone_offsets_of_local(given, length, at);
+        HOLDS(back.earlier == offset || back.later == offset);
+        HOLDS(back.count == 1 || back.count == 2);
+        HOLDS(back.count == 1 ? back.earlier == back.later : back.later < back.earlier);
+        HOLDS(here.count == 0 || calendar_zone_offset_at(given, length, at - here.earlier) == here.earlier);
+        HOLDS(here.count == 0 || calendar_zone_offset_at(given, length, at - here.later) == here.later);
+    }
+    HOLDS(is_zone || calendar_zone_offsets_of_local(given, length, at).count == CALENDAR_NO_ZONE);
+    calendar_schedule schedule;
+    fill(&schedule, sizeof schedule);
+    calendar_date_time start = moment(), next = calendar_zone_schedule_next(&schedule, given, length, start);
+    HOLDS(!is_moment(next) || (is_zone && is_before(start, next)));
+    free(given);
+    fill(&fault, sizeof fault);
+    fault.code = (uint32_t)(any() % 20);
+    size_t room = any() % 70;
+    uint8_t *said = bytes(room);
+    int32_t told = calendar_zone_fault_text(&fault, said, room);
+    HOLDS(told == CALENDAR_NONE || (told > 0 && (size_t)told <= room));
+    free(said);
+}
+
 static void versions(void)
 {
     size_t room = any() % 9;
@@ -369,6 +449,7 @@ int main(int count_of_words, char **words)
         known_holidays();
         columns();
         patterns();
+        zones();
         day_counts();
     }
     printf("%d passed, %d failed\n", passed, failed);

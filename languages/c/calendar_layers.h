@@ -1,5 +1,5 @@
-/* calendar_layers.h of proved_calendar: cron schedules, recurrence rules, open days, holidays, day counts and patterns, by
- * functions that are proved.
+/* calendar_layers.h of proved_calendar: cron schedules, recurrence rules, open days, holidays, day counts, patterns and time zones,
+ * by functions that are proved.
  *
  * For example, calendar_schedule_read reads `30 4 1,15 * fri` into a calendar_schedule. calendar_schedule_next then finds the
  * next time at which it is due.
@@ -288,6 +288,72 @@ int32_t calendar_parse_date(const uint8_t *pattern, size_t length, const uint8_t
 /* Returns the date-time that a text is of. If there is none, returns 0 seconds and CALENDAR_NO_NANOS. */
 calendar_date_time calendar_parse_date_time(const uint8_t *pattern, size_t length, const uint8_t *text, size_t text_length,
                                             calendar_fault *fault);
+
+/* ---- time zones
+ *
+ * A zone is bytes: those of a TZif file, such as `/usr/share/zoneinfo/Europe/Berlin`, or the text of a POSIX rule, such as
+ * `CET-1CEST,M3.5.0,M10.5.0/3`. The program reads the file. Each call reads the bytes and looks at each row: 2 to 4 microseconds for
+ * the files of Berlin and New York, and half of one for a rule. An offset holds up to calendar_zone_holds_until, so keep it until then. A
+ * zone has at most 512 rows, and each file of the database has fewer. Bytes that begin with `TZif` are those of a file.
+ *
+ * An instant is a number of seconds from 1 January 1970 in UTC. A local second is counted as if the clock were one in UTC. */
+
+/* What is wrong with a zone: the codes of calendar_fault. Its field is the row that is wrong, from 1, or 0. Codes 10 to 14 are of a rule:
+ * that of the text, or that at the end of the file. */
+enum {
+    CALENDAR_ZONE_NO_HEADER = 1,
+    CALENDAR_ZONE_UNKNOWN_VERSION,
+    CALENDAR_ZONE_CUT_OFF,
+    CALENDAR_ZONE_WRONG_COUNTS,
+    CALENDAR_ZONE_LEAP_SECONDS,
+    CALENDAR_ZONE_WRONG_FOOTER,
+    CALENDAR_ZONE_NO_FIRST_KIND,
+    CALENDAR_ZONE_NO_ROW,
+    CALENDAR_ZONE_TOO_MANY_ROWS,
+    CALENDAR_ZONE_NO_NAME,
+    CALENDAR_ZONE_NO_OFFSET,
+    CALENDAR_ZONE_OFFSET_OF_DAY,
+    CALENDAR_ZONE_NO_DAYS,
+    CALENDAR_ZONE_NO_CHANGE,
+    CALENDAR_ZONE_UNORDERED,
+    CALENDAR_ZONE_NOT_JOINED
+};
+
+/* The count of no offsets, which says that the bytes are no zone. */
+#define CALENDAR_NO_ZONE UINT32_MAX
+
+/* The offsets of a local time, in seconds ahead of UTC. The instants are the local second less each of them. */
+typedef struct {
+    /* 0 if the clock skips the local time, 1, or 2 if it shows it twice */
+    uint32_t count;
+    /* at the only instant, or at the earlier one */
+    int32_t earlier;
+    /* the same, or at the later one */
+    int32_t later;
+} calendar_offsets;
+
+/* Returns whether bytes are a zone. If they are none, fault says what is wrong first. */
+bool calendar_zone_check(const uint8_t *zone, size_t length, calendar_fault *fault);
+
+/* Writes what a fault of a zone says, such as `an offset is missing`, and returns the number of bytes, at most 64. If fault has no such
+ * code, or room is too small, writes nothing and returns CALENDAR_NONE. */
+int32_t calendar_zone_fault_text(const calendar_fault *fault, uint8_t *text, size_t room);
+
+/* Returns how many seconds the zone's clock is ahead of UTC at an instant. Returns CALENDAR_NONE if the bytes are no zone. */
+int32_t calendar_zone_offset_at(const uint8_t *zone, size_t length, int64_t second);
+
+/* Returns the offsets at all instants at which the zone's clock shows a local second. */
+calendar_offsets calendar_zone_offsets_of_local(const uint8_t *zone, size_t length, int64_t local);
+
+/* Returns a later second, up to which the zone keeps the offset of an instant: the next change, or INT64_MAX if there is none. The zone
+ * can change to the same offset there. Returns INT64_MIN if the bytes are no zone. */
+int64_t calendar_zone_holds_until(const uint8_t *zone, size_t length, int64_t second);
+
+/* Returns the first instant after start at which a schedule fires in the zone. Both are date-times in UTC. A time that the clock skips
+ * fires as the gap ends, and one that it shows twice fires once. But a schedule that lists every minute or every hour goes by what the
+ * clock shows. So do Vixie's cron and cronie. If there is none, returns 0 seconds and CALENDAR_NO_NANOS. */
+calendar_date_time calendar_zone_schedule_next(const calendar_schedule *schedule, const uint8_t *zone, size_t length,
+                                               calendar_date_time start);
 
 /* ---- day counts */
 

@@ -435,6 +435,119 @@ static void patterns(void)
     IS(fails_to_parse("%d.%", "29.2.", CALENDAR_PATTERN_CUT, 3), true);
 }
 
+static bool has_offsets(const char *zone, int64_t local, uint32_t number, int32_t earlier, int32_t later)
+{
+    calendar_offsets found = calendar_zone_offsets_of_local(bytes_of(zone), strlen(zone), local);
+    return found.count == number && (number == 0 || number == CALENDAR_NO_ZONE || (found.earlier == earlier && found.later == later));
+}
+
+static bool is_wrong_zone(const char *zone, uint32_t code, size_t byte, size_t end, const char *sentence)
+{
+    calendar_fault fault;
+    uint8_t text[64];
+    bool is_zone = calendar_zone_check(bytes_of(zone), strlen(zone), &fault);
+    int32_t length = calendar_zone_fault_text(&fault, text, sizeof text);
+    return !is_zone && fault.code == code && fault.field == 0 && fault.byte == byte && fault.end == end
+        && length == (int32_t)strlen(sentence) && memcmp(text, sentence, strlen(sentence)) == 0;
+}
+
+static int32_t offset_at(const char *zone, int64_t second)
+{
+    return calendar_zone_offset_at(bytes_of(zone), strlen(zone), second);
+}
+
+static int64_t holds_until(const char *zone, int64_t second)
+{
+    return calendar_zone_holds_until(bytes_of(zone), strlen(zone), second);
+}
+
+/* A TZif file of version 1: UTC up to 1970-01-01T00:01:00, and an hour ahead from then on. */
+static const uint8_t small_file[] = {
+    'T', 'Z', 'i', 'f', 0, 0, 0, 0, 0, 0, 0, 0, 0, 0, 0, 0, 0, 0, 0, 0, 0, 0, 0, 0, 0, 0, 0, 0, 0, 0, 0, 0, 0, 0, 0, 1, 0, 0, 0, 2, 0, 0, 0, 8,
+    0, 0, 0, 60, 1, 0, 0, 0, 0, 0, 0, 0, 0, 14, 16, 1, 4, 'G', 'M', 'T', 0, 'B', 'S', 'T', 0,
+};
+
+static void files_of_zones(void)
+{
+    calendar_fault fault = {7, 8, 9, 10};
+    size_t length = sizeof small_file;
+    IS(calendar_zone_check(small_file, length, &fault), true);
+    IS(fault.code, 7u);
+    IS(calendar_zone_offset_at(small_file, length, 59), 0);
+    IS(calendar_zone_offset_at(small_file, length, 60), 3600);
+    IS(calendar_zone_holds_until(small_file, length, 0), 60);
+    IS(calendar_zone_holds_until(small_file, length, 60), INT64_MAX);
+    IS(calendar_zone_offsets_of_local(small_file, length, 60).count, 0u);
+    IS(calendar_zone_offsets_of_local(small_file, length, 3659).count, 0u);
+    IS(calendar_zone_offsets_of_local(small_file, length, 3660).earlier, 3600);
+    IS(calendar_zone_check(small_file, length - 1, &fault), false);
+    IS(fault.code, (uint32_t)CALENDAR_ZONE_CUT_OFF);
+    IS(fault.byte, 44u);
+    IS(fault.end, length - 1);
+    IS(calendar_zone_offset_at(small_file, length - 1, 60), CALENDAR_NONE);
+    uint8_t wrong[sizeof small_file];
+    memcpy(wrong, small_file, length);
+    wrong[48] = 2;
+    IS(calendar_zone_check(wrong, length, &fault), false);
+    IS(fault.code, (uint32_t)CALENDAR_ZONE_NO_ROW);
+    IS(fault.field, 1u);
+}
+
+static void zones(void)
+{
+    const char *berlin = "CET-1CEST,M3.5.0,M10.5.0/3";
+    calendar_fault fault = {7, 8, 9, 10};
+    uint8_t text[64];
+    IS(calendar_zone_check(bytes_of(berlin), strlen(berlin), &fault), true);
+    IS(fault.code, 7u);
+    /* The clock is set ahead at 01:00 UTC of 31 March 2024, and back at 01:00 UTC of 27 October. */
+    IS(offset_at(berlin, 1711846799), 3600);
+    IS(offset_at(berlin, 1711846800), 7200);
+    IS(offset_at(berlin, 1729990799), 7200);
+    IS(offset_at(berlin, 1729990800), 3600);
+    IS(holds_until(berlin, 1711846800), 1729990800);
+    IS(holds_until("HST10", 0), INT64_MAX);
+    IS(has_offsets(berlin, 1711850399, 1, 3600, 3600), true);
+    IS(has_offsets(berlin, 1711850400, 0, 0, 0), true);
+    IS(has_offsets(berlin, 1711853999, 0, 0, 0), true);
+    IS(has_offsets(berlin, 1711854000, 1, 7200, 7200), true);
+    IS(has_offsets(berlin, 1729994399, 1, 7200, 7200), true);
+    IS(has_offsets(berlin, 1729994400, 2, 7200, 3600), true);
+    IS(has_offsets(berlin, 1729997999, 2, 7200, 3600), true);
+    IS(has_offsets(berlin, 1729998000, 1, 3600, 3600), true);
+    IS(has_offsets("EST5EDT", 0, CALENDAR_NO_ZONE, 0, 0), true);
+    IS(offset_at("EST5EDT", 0), CALENDAR_NONE);
+    IS(holds_until("", 0), INT64_MIN);
+    IS(is_wrong_zone("EST5EDT", CALENDAR_ZONE_NO_DAYS, 7, 7, "the days of daylight time are missing"), true);
+    IS(is_wrong_zone("EST", CALENDAR_ZONE_NO_OFFSET, 3, 3, "an offset is missing"), true);
+    IS(is_wrong_zone("EST5EDT,M3.2.0,M13.1.0", CALENDAR_ZONE_NO_CHANGE, 15, 22, "no day stands there on which the clock is set"), true);
+    IS(is_wrong_zone("5", CALENDAR_ZONE_NO_NAME, 0, 1, "a name of three letters or more is missing"), true);
+    IS(is_wrong_zone("XXX24", CALENDAR_ZONE_OFFSET_OF_DAY, 3, 5, "the offset is a day or more"), true);
+    IS(is_wrong_zone("TZif", CALENDAR_ZONE_CUT_OFF, 0, 4, "the file is cut off"), true);
+    fault.code = 17;
+    IS(calendar_zone_fault_text(&fault, text, sizeof text), CALENDAR_NONE);
+    fault.code = CALENDAR_ZONE_NO_OFFSET;
+    IS(calendar_zone_fault_text(&fault, text, 19), CALENDAR_NONE);
+}
+
+static void schedules_in_zones(void)
+{
+    const char *berlin = "CET-1CEST,M3.5.0,M10.5.0/3";
+    size_t length = strlen(berlin);
+    calendar_schedule nightly, hourly;
+    calendar_fault fault;
+    IS(reads("30 2 * * *", &nightly, &fault) && reads("30 * * * *", &hourly, &fault), true);
+    /* 02:30 does not exist on 31 March 2024, and comes twice on 27 October. */
+    IS_MOMENT(calendar_zone_schedule_next(&nightly, bytes_of(berlin), length, moment(1711800000, 0)), 1711846800, 0);
+    IS_MOMENT(calendar_zone_schedule_next(&nightly, bytes_of(berlin), length, moment(1711846800, 0)), 1711931400, 0);
+    IS_MOMENT(calendar_zone_schedule_next(&nightly, bytes_of(berlin), length, moment(1729980000, 0)), 1729989000, 0);
+    IS_MOMENT(calendar_zone_schedule_next(&nightly, bytes_of(berlin), length, moment(1729989000, 0)), 1730079000, 0);
+    IS_MOMENT(calendar_zone_schedule_next(&hourly, bytes_of(berlin), length, moment(1729989000, 0)), 1729992600, 0);
+    IS_MOMENT(calendar_zone_schedule_next(&hourly, small_file, sizeof small_file, moment(0, 0)), 1800, 0);
+    NO_MOMENT(calendar_zone_schedule_next(&hourly, bytes_of("EST"), 3, moment(0, 0)));
+    NO_MOMENT(calendar_zone_schedule_next(&hourly, bytes_of(berlin), length, moment(INT64_MAX, 0)));
+}
+
 static void versions(void)
 {
     uint8_t text[16];
@@ -457,6 +570,9 @@ int main(void)
     holidays();
     columns();
     patterns();
+    zones();
+    files_of_zones();
+    schedules_in_zones();
     day_counts();
     printf("%d passed, %d failed\n", passed, failed);
     return failed != 0;

@@ -334,6 +334,8 @@ export class Schedule {
   isDue(moment: DateTimeLike): boolean;
   /** The date-times after another at which it is due, in order, up to `until`, which counts. */
   iterate(start: DateTimeLike, options?: { until?: DateTimeLike }): IterableIterator<PlainDateTime>;
+  /** The first instant after another at which it fires in a zone; undefined if there is none. */
+  nextInZone(start: ZonedDateTime): ZonedDateTime | undefined;
   /** Whether another schedule lists the same. */
   equals(other: Schedule | string): boolean;
   toString(): string;
@@ -414,3 +416,84 @@ export function dayCount(kind: DayCount, from: DateLike, to: DateLike): { numera
 
 /** Easter Sunday of a year, as the Gregorian churches have it. */
 export function easter(year: number): PlainDate;
+
+/** A time zone: the text of a POSIX rule, such as `CET-1CEST,M3.5.0,M10.5.0/3`, or the bytes of a TZif file. */
+export class Zone {
+  /** Throws a TextError if it is no zone. The name, such as `Europe/Berlin`, is shown in texts. */
+  constructor(source: string | ArrayBuffer | ArrayBufferView, name?: string);
+  static from(item: Zone | string): Zone;
+  readonly name: string | undefined;
+  /** How many seconds the clock is ahead of UTC at a second since 1970. */
+  offsetAt(second: bigint): number;
+  /** The offsets at all instants at which the clock shows a local second: 0, 1 or 2. */
+  offsetsOfLocal(local: bigint): number[];
+  /** The next second at which the offset changes; undefined if there is none. */
+  nextChange(second: bigint): bigint | undefined;
+  equals(other: Zone | string): boolean;
+  toString(): string;
+  toJSON(): string;
+  readonly [Symbol.toStringTag]: "Zone";
+}
+
+/** What becomes of a local time that the clock skips or shows twice, and of an offset that is not the zone's. */
+export interface ZonedOptions extends OverflowOptions {
+  disambiguation?: "compatible" | "earlier" | "later" | "reject";
+  offset?: "reject" | "use" | "ignore" | "prefer";
+}
+
+/** An instant in a zone. */
+export class ZonedDateTime {
+  constructor(epochNanoseconds: bigint, timeZone: Zone | string);
+  /** The option `timeZone` has the zone, unless the item is a ZonedDateTime or has one. */
+  static from(
+    item: ZonedDateTime | Instant | DateTimeLike | ((DateFields | CodedDateFields) & TimeFields & { timeZone: Zone | string; offset?: string }),
+    options?: ZonedOptions & { timeZone?: Zone | string },
+  ): ZonedDateTime;
+  static compare(one: ZonedDateTime, other: ZonedDateTime): -1 | 0 | 1;
+  readonly epochNanoseconds: bigint;
+  readonly epochMilliseconds: number;
+  readonly timeZone: Zone;
+  readonly timeZoneId: string;
+  /** Such as `+01:00`. */
+  readonly offset: string;
+  readonly offsetNanoseconds: number;
+  readonly hoursInDay: number;
+  readonly calendarId: "iso8601";
+  readonly year: number;
+  readonly month: number;
+  readonly monthCode: string;
+  readonly day: number;
+  readonly dayOfWeek: number;
+  readonly dayOfYear: number;
+  readonly weekOfYear: number;
+  readonly yearOfWeek: number;
+  readonly daysInWeek: number;
+  readonly daysInMonth: number;
+  readonly daysInYear: number;
+  readonly monthsInYear: number;
+  readonly inLeapYear: boolean;
+  readonly hour: number;
+  readonly minute: number;
+  readonly second: number;
+  readonly millisecond: number;
+  readonly microsecond: number;
+  readonly nanosecond: number;
+  toInstant(): Instant;
+  toPlainDateTime(): PlainDateTime;
+  toPlainDate(): PlainDate;
+  withTimeZone(timeZone: Zone | string): ZonedDateTime;
+  startOfDay(): ZonedDateTime;
+  with(parts: Partial<Omit<DateFields, "calendar"> & TimeFields> & { offset?: string }, options?: ZonedOptions): ZonedDateTime;
+  /** Years to days by what the clock shows, and then hours and shorter units by the line of time. */
+  add(duration: DurationLike, options?: OverflowOptions): ZonedDateTime;
+  subtract(duration: DurationLike, options?: OverflowOptions): ZonedDateTime;
+  until(other: ZonedDateTime, options?: { largestUnit?: string }): Duration;
+  since(other: ZonedDateTime, options?: { largestUnit?: string }): Duration;
+  getTimeZoneTransition(direction: "next" | { direction: "next" }): ZonedDateTime | null;
+  equals(other: ZonedDateTime): boolean;
+  toString(options?: { offset?: "auto" | "never"; timeZoneName?: "auto" | "never" }): string;
+  toJSON(): string;
+  toLocaleString(locales?: string | string[], options?: Intl.DateTimeFormatOptions): string;
+  valueOf(): never;
+  readonly [Symbol.toStringTag]: "ZonedDateTime";
+}

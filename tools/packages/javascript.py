@@ -26,7 +26,7 @@ MODULES = {
     "layers_module": Module("layers_c", "crates/layers_c/out/layers.wasm", ("open_day_columns",), ()),
 }
 SOURCES = ("instantiate", "moments", "numbers", "rounding", "calendar", "texts", "library", "duration", "plain_date", "plain_date_time",
-           "instant", "layers", "text_error", "schedule", "rule", "pattern", "business_calendar", "index")
+           "instant", "layers", "text_error", "schedule", "rule", "pattern", "business_calendar", "zone", "zoned_date_time", "index")
 PAGE = ("answers", "words", "parts", "layer_parts", "page")
 
 

@@ -11,3 +11,5 @@ mod RuleLemmas
 mod SaidLemmas
 mod SetsOfFields
 mod WrittenLemmas
+mod FileLemmas
+mod ZoneLemmas

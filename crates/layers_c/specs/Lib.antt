@@ -7,3 +7,5 @@ pub mod OpenDays
 pub mod Patterns
 pub mod Rules
 pub mod Schedules
+pub mod Zones
+pub mod ZonedSchedules

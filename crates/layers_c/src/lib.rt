@@ -22,3 +22,7 @@ mod schedule_numbers;
 mod schedule_texts;
 mod schedules;
 mod versions;
+mod zone_bytes;
+mod zone_faults;
+mod zoned_schedules;
+mod zones;

@@ -12,3 +12,5 @@ export { PlainDateTime } from "./plain_date_time.js";
 export { Rule } from "./rule.js";
 export { Schedule } from "./schedule.js";
 export { TextError } from "./text_error.js";
+export { Zone } from "./zone.js";
+export { ZonedDateTime } from "./zoned_date_time.js";

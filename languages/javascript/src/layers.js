@@ -1,7 +1,7 @@
 /**
  * The functions of the layers, which are proved, as a second module of WebAssembly. It is loaded at the first call.
  *
- * They take what lies in memory behind all that the module itself uses: texts, patterns, schedules, holidays and date-times.
+ * They take what lies in memory behind all that the module itself uses: texts, patterns, schedules, holidays, date-times and zones.
  */
 
 import { instantiate } from "./instantiate.js";
@@ -13,14 +13,17 @@ import { TextError } from "./text_error.js";
 /** A page of memory. */
 const PAGE = 65_536;
 
-/** Where things lie in the room: what is wrong, two date-times, an answer, a schedule, date-times, holidays, a text, a pattern. */
-const [FAULT, FIRST, SECOND, ANSWER, SCHEDULE, DUE, HOLIDAYS, TEXT, PATTERN] = [0, 32, 48, 64, 128, 1_024, 2_048, 8_192, PAGE];
+/** Where things lie in the room: what is wrong, two date-times, an answer, a schedule, date-times, holidays, a text, a pattern, a zone. */
+const [FAULT, FIRST, SECOND, ANSWER, SCHEDULE, DUE, HOLIDAYS, TEXT, PATTERN, ZONE] = [0, 32, 48, 64, 128, 1_024, 2_048, 8_192, PAGE, 2 * PAGE];
 
 /** How many bytes the room has. */
-const ROOM = 2 * PAGE;
+const ROOM = 3 * PAGE;
 
 /** A text, or a pattern, has at most so many bytes. */
 const LONGEST = PAGE - TEXT;
+
+/** The bytes of a zone are at most so many. */
+export const LONGEST_ZONE = PAGE;
 
 /** How many bytes a schedule takes. */
 const SCHEDULE_SIZE = 80;
@@ -312,4 +315,56 @@ export function parseDateTime(pattern, text) {
     throwPatternFault(room, text, encoded);
   }
   return moment;
+}
+
+/** The zone that lies in the room. */
+let zoneInRoom;
+
+/** Puts the bytes of a zone into the room, unless they lie there, and answers what a function takes as them. */
+function putZone(room, zone) {
+  if (zone !== zoneInRoom) {
+    room.bytes.set(zone, ZONE);
+    zoneInRoom = zone;
+  }
+  return [address(room, ZONE), BigInt(zone.length)];
+}
+
+/** Throws a TextError if bytes are no zone, where `text` is shown as what is wrong, and is itself wrong if they are its bytes. */
+export function checkZone(zone, text, isText) {
+  const room = open();
+  const { layers, view } = room;
+  if (layers.calendar_zone_check(...putZone(room, zone), address(room, FAULT))) {
+    return;
+  }
+  const [start, end] = isText ? wrongPart(room, zone) : [8, 16].map((it) => Number(view.getBigUint64(FAULT + it, true)));
+  const length = layers.calendar_zone_fault_text(address(room, FAULT), address(room, TEXT), BigInt(LONGEST));
+  throw new TextError(text, start, end, textAt(room, TEXT, length));
+}
+
+/** How many seconds the clock of a zone is ahead of UTC at a second since 1970, a BigInt. */
+export function zoneOffsetAt(zone, second) {
+  const room = open();
+  return room.layers.calendar_zone_offset_at(...putZone(room, zone), second);
+}
+
+/** The offsets at the instants at which the clock of a zone shows a local second, in order. */
+export function zoneOffsetsOfLocal(zone, local) {
+  const room = open();
+  room.layers.calendar_zone_offsets_of_local(address(room, ANSWER), ...putZone(room, zone), local);
+  const { view } = room;
+  return [4, 8].slice(0, view.getUint32(ANSWER, true)).map((it) => view.getInt32(ANSWER + it, true));
+}
+
+/** A later second, a BigInt, up to which the clock of a zone keeps its offset. */
+export function zoneHoldsUntil(zone, second) {
+  const room = open();
+  return room.layers.calendar_zone_holds_until(...putZone(room, zone), second);
+}
+
+/** The first date-time of UTC after another at which a schedule fires in a zone; undefined if there is none. */
+export function nextInZone(schedule, zone, start) {
+  const room = open();
+  const [at, first] = putSchedule(room, schedule, start);
+  room.layers.calendar_zone_schedule_next(address(room, ANSWER), at, ...putZone(room, zone), first);
+  return getMoment(room.view, ANSWER);
 }

@@ -5,6 +5,9 @@ import { LAST_SECOND } from "./moments.js";
 import { optionsOf } from "./numbers.js";
 import { dateTimeOf, momentOf, PlainDateTime } from "./plain_date_time.js";
 
+/** The nanoseconds of a second. */
+const SECOND = 1_000_000_000n;
+
 /** The sets of numbers in the order of the library. */
 const SETS = ["minutes", "hours", "days", "months", "weekdays", "daysFromEnd", "nearestWorkdays", "lastWeekdays"];
 
@@ -63,6 +66,17 @@ export class Schedule {
   previousBefore(start) {
     const found = previousDue(this.#bytes, momentOf(PlainDateTime.from(start)));
     return found && dateTimeOf(found);
+  }
+
+  /**
+   * The first instant after another at which it fires in a zone; undefined if there is none. A time that the clock skips fires as the gap
+   * ends, and one that it shows twice fires once. But a schedule that lists every minute or every hour goes by what the clock shows.
+   */
+  nextInZone(start) {
+    const { epochNanoseconds, timeZone } = start;
+    const nanos = ((epochNanoseconds % SECOND) + SECOND) % SECOND;
+    const found = timeZone.nextDue(this.#bytes, { seconds: (epochNanoseconds - nanos) / SECOND, nanos: Number(nanos) });
+    return found && new start.constructor(found.seconds * SECOND, timeZone);
   }
 
   /** Whether it is due at a date-time. */

@@ -4,10 +4,13 @@
  */
 
 import { strict as assert } from "node:assert";
+import { existsSync, readFileSync } from "node:fs";
 import { inspect } from "node:util";
 import { test } from "node:test";
 
-import { BusinessCalendar, dayCount, easter, Pattern, PlainDate, PlainDateTime, Rule, Schedule, TextError, version } from "proved-calendar";
+import {
+  BusinessCalendar, dayCount, easter, Pattern, PlainDate, PlainDateTime, Rule, Schedule, TextError, version, Zone, ZonedDateTime,
+} from "proved-calendar";
 
 const refused = (call) => assert.throws(call, RangeError);
 const texts = (moments) => Array.from(moments, String);
@@ -324,4 +327,164 @@ test("parse_date_time", () => {
   assert.equal(`${new Pattern("%s").parseDateTime("0")}`, "1970-01-01T00:00:00");
   assert.throws(() => new Pattern("%F %R").parseDateTime("2024-03-01 25:00"), wrongFrom(11, 16, "a number that is out of range"));
   assert.throws(() => new Pattern("%F").parseDateTime("2024-03-01"), wrongFrom(10, 10, "too few fields for a day or a time"));
+});
+
+/** Central Europe by its rule. */
+const BERLIN = new Zone("CET-1CEST,M3.5.0,M10.5.0/3");
+
+/** A TZif file of version 1: UTC up to 1970-01-01T00:01:00, and an hour ahead from then on. */
+function smallFile() {
+  const bytes = new Uint8Array(69);
+  const put = (at, text) => bytes.set(new TextEncoder().encode(text), at);
+  put(0, "TZif");
+  bytes.set([1, 0, 0, 0, 2, 0, 0, 0, 8, 0, 0, 0, 60, 1, 0, 0, 0, 0, 0, 0, 0, 0, 14, 16, 1, 4], 35);
+  put(61, "GMT\0BST\0");
+  return bytes;
+}
+
+/** The instant of a text in Berlin. */
+const inBerlin = (text, options) => ZonedDateTime.from(text, { timeZone: BERLIN, ...options });
+
+test("zone_check", () => {
+  assert.deepEqual([`${BERLIN}`, BERLIN.name, JSON.stringify(BERLIN)], ["CET-1CEST,M3.5.0,M10.5.0/3", undefined, `"${BERLIN}"`]);
+  for (const [text, start, end] of [["EST5EDT", 7, 7], ["EST", 3, 3], ["5", 0, 1], ["EST5EDT,M3.2.0,M13.1.0", 15, 22], ["ä", 0, 1]]) {
+    assert.throws(() => new Zone(text), (wrong) => wrong instanceof TextError && wrong.text === text && wrong.start === start && wrong.end === end);
+  }
+  const file = smallFile();
+  assert.deepEqual([`${new Zone(file)}`, `${new Zone(file.buffer, "Here/There")}`], ["a TZif file", "Here/There"]);
+  assert.ok(new Zone(file).equals(new Zone(file)) && !new Zone(file).equals(BERLIN) && !new Zone(file, "A").equals(new Zone(file, "B")));
+  refused(() => new Zone(file.subarray(0, 60)));
+  refused(() => new Zone(file, "../there"));
+  refused(() => new Zone("A".repeat(70_000)));
+  assert.throws(() => new Zone(7), TypeError);
+  assert.throws(() => Zone.from(file), TypeError);
+});
+
+test("zone_fault_text", () => {
+  for (const [given, reason] of [
+    ["EST5EDT", "the days of daylight time are missing"],
+    ["EST", "an offset is missing"],
+    [smallFile().subarray(0, 60), "the file is cut off"],
+    [new TextEncoder().encode("XXX24"), "the offset is a day or more"],
+  ]) {
+    assert.throws(() => new Zone(given), (wrong) => wrong.reason === reason);
+  }
+});
+
+test("zone_offset_at", () => {
+  const changes = [1_711_846_799n, 1_711_846_800n, 1_729_990_799n, 1_729_990_800n, 1_711_846_799n];
+  assert.deepEqual(changes.map((it) => BERLIN.offsetAt(it)), [3_600, 7_200, 7_200, 3_600, 3_600]);
+  const file = new Zone(smallFile());
+  assert.deepEqual([59n, 60n, 0n].map((it) => file.offsetAt(it)), [0, 3_600, 0]);
+  // (another zone takes the room of the first)
+  assert.deepEqual([BERLIN, file, BERLIN].map((it) => it.offsetAt(1_720_000_000n)), [7_200, 3_600, 7_200]);
+  // (a text has the offset in whole minutes)
+  const odd = new ZonedDateTime(0n, "LMT-0:53:28");
+  assert.deepEqual([`${odd}`, odd.offset], ["1970-01-01T00:53:28+00:53", "+00:53:28"]);
+  assert.ok([`${odd}`, "1970-01-01T00:53:28+00:53:28"].every((it) => odd.equals(ZonedDateTime.from(it, { timeZone: odd.timeZone }))));
+  assert.equal(`${new ZonedDateTime(-1n, "NST3:30")}`, "1969-12-31T20:29:59.999999999-03:30");
+  refused(() => new ZonedDateTime(-8_334_601_228_800_000_000_000n, "HST10"));
+});
+
+test("zone_offsets_of_local", () => {
+  const seconds = (text) => BigInt(PlainDateTime.from(text).unixSeconds);
+  for (const [local, offsets] of [
+    ["2024-03-31T01:59:59", [3_600]], ["2024-03-31T02:00:00", []], ["2024-03-31T02:59:59", []], ["2024-03-31T03:00:00", [7_200]],
+    ["2024-10-27T01:59:59", [7_200]], ["2024-10-27T02:00:00", [7_200, 3_600]], ["2024-10-27T02:59:59", [7_200, 3_600]],
+    ["2024-10-27T03:00:00", [3_600]],
+  ]) {
+    assert.deepEqual(BERLIN.offsetsOfLocal(seconds(local)), offsets);
+  }
+});
+
+test("disambiguation", () => {
+  const [gap, fold] = ["2024-03-31T02:30", "2024-10-27T02:30"];
+  const all = (text) => ["compatible", "earlier", "later"].map((it) => `${inBerlin(text, { disambiguation: it })}`);
+  assert.deepEqual(all(gap), ["2024-03-31T03:30:00+02:00", "2024-03-31T01:30:00+01:00", "2024-03-31T03:30:00+02:00"]);
+  assert.deepEqual(all(fold), ["2024-10-27T02:30:00+02:00", "2024-10-27T02:30:00+02:00", "2024-10-27T02:30:00+01:00"]);
+  refused(() => inBerlin(gap, { disambiguation: "reject" }));
+  refused(() => inBerlin(fold, { disambiguation: "reject" }));
+  refused(() => inBerlin(fold, { disambiguation: "first" }));
+  assert.equal(`${inBerlin("2024-07-01", { disambiguation: "reject" })}`, "2024-07-01T00:00:00+02:00");
+});
+
+test("texts of zoned date-times", () => {
+  const named = new Zone("CET-1CEST,M3.5.0,M10.5.0/3", "Europe/Berlin");
+  const read = (text, options) => `${ZonedDateTime.from(text, { timeZone: named, ...options })}`;
+  assert.equal(read("2024-10-27T02:30+01:00[Europe/Berlin]"), "2024-10-27T02:30:00+01:00[Europe/Berlin]");
+  assert.equal(read("2024-10-27T00:30Z"), "2024-10-27T02:30:00+02:00[Europe/Berlin]");
+  refused(() => read("2024-07-01T12:00+01:00"));
+  refused(() => read("2024-07-01T12:00[Europe/Paris]"));
+  refused(() => read("2024-07-01T12:00+24:00"));
+  refused(() => read("noon"));
+  assert.equal(read("2024-07-01T12:00+01:00", { offset: "use" }), "2024-07-01T13:00:00+02:00[Europe/Berlin]");
+  assert.equal(read("2024-07-01T12:00+01:00", { offset: "ignore" }), "2024-07-01T12:00:00+02:00[Europe/Berlin]");
+  assert.equal(read("2024-07-01T12:00+01:00", { offset: "prefer" }), "2024-07-01T12:00:00+02:00[Europe/Berlin]");
+  assert.throws(() => ZonedDateTime.from("2024-07-01"), TypeError);
+  assert.throws(() => ZonedDateTime.from(7, { timeZone: named }), TypeError);
+  const noon = ZonedDateTime.from({ year: 2024, month: 7, day: 1, hour: 12, timeZone: named });
+  assert.deepEqual([noon.offset, noon.offsetNanoseconds, noon.timeZoneId, noon.hour, noon.dayOfWeek], ["+02:00", 7.2e12, "Europe/Berlin", 12, 1]);
+  assert.equal(noon.toString({ timeZoneName: "never" }), "2024-07-01T12:00:00+02:00");
+  assert.equal(noon.toString({ timeZoneName: "never", offset: "never" }), "2024-07-01T12:00:00");
+  assert.deepEqual([JSON.stringify(noon), inspect(noon)], [`"${noon}"`, `ZonedDateTime ${noon}`]);
+  assert.deepEqual([`${noon.toInstant()}`, `${noon.toPlainDateTime()}`, `${noon.toPlainDate()}`], ["2024-07-01T10:00:00Z", "2024-07-01T12:00:00", "2024-07-01"]);
+  assert.ok(noon.toLocaleString("en").endsWith(" +02:00"));
+  assert.throws(() => noon < noon, TypeError);
+});
+
+test("moves of zoned date-times", () => {
+  const start = inBerlin("2024-03-30T02:30");
+  assert.equal(`${start.add({ days: 1 })}`, "2024-03-31T03:30:00+02:00");
+  assert.equal(`${start.add({ hours: 24 })}`, "2024-03-31T03:30:00+02:00");
+  assert.equal(`${start.add({ days: 2 })}`, "2024-04-01T02:30:00+02:00");
+  assert.equal(`${start.add({ hours: 48 })}`, "2024-04-01T03:30:00+02:00");
+  assert.equal(`${start.add({ months: 1, hours: 1 })}`, "2024-04-30T03:30:00+02:00");
+  assert.equal(`${start.subtract({ months: 1 })}`, "2024-02-29T02:30:00+01:00");
+  assert.equal(`${start.until(start.add({ days: 2 }))}`, "PT47H");
+  assert.equal(`${start.since(start.add({ days: 2 }), { largestUnit: "minutes" })}`, "-PT2820M");
+  assert.deepEqual(["2024-03-31", "2024-10-27", "2024-07-01"].map((it) => inBerlin(it).hoursInDay), [23, 25, 24]);
+  assert.equal(`${inBerlin("2024-03-31T12:00").startOfDay()}`, "2024-03-31T00:00:00+01:00");
+  // (in Beirut the clock skips the midnight of 31 March)
+  const beirut = new Zone("EET-2EEST,M3.5.0/0,M10.5.0/0");
+  assert.equal(`${ZonedDateTime.from("2024-03-31T12:00", { timeZone: beirut }).startOfDay()}`, "2024-03-31T01:00:00+03:00");
+  const fold = inBerlin("2024-10-27T02:30+01:00");
+  assert.equal(`${fold.with({ minute: 45 })}`, "2024-10-27T02:45:00+01:00");
+  assert.equal(`${fold.with({ offset: "+02:00" })}`, "2024-10-27T02:30:00+02:00");
+  assert.equal(`${fold.with({ day: 28 })}`, "2024-10-28T02:30:00+01:00");
+  assert.equal(`${start.withTimeZone("HST10")}`, "2024-03-29T15:30:00-10:00");
+  assert.equal(ZonedDateTime.compare(start, start.withTimeZone("HST10")), 0);
+  assert.ok(!start.equals(start.withTimeZone("HST10")) && start.equals(inBerlin("2024-03-30T02:30")));
+  assert.equal(ZonedDateTime.compare(start, fold), -1);
+  assert.equal(`${ZonedDateTime.from(start, { timeZone: "JST-9" })}`, "2024-03-30T10:30:00+09:00");
+  assert.equal(`${ZonedDateTime.from(start.toInstant(), { timeZone: BERLIN })}`, `${start}`);
+  assert.equal(start.epochMilliseconds, Number(start.epochNanoseconds / 1_000_000n));
+});
+
+test("zone_holds_until", () => {
+  assert.equal(`${inBerlin("2024-03-30").getTimeZoneTransition("next")}`, "2024-03-31T03:00:00+02:00");
+  assert.equal(ZonedDateTime.from("2024-03-30", { timeZone: "HST10" }).getTimeZoneTransition({ direction: "next" }), null);
+  refused(() => inBerlin("2024-03-30").getTimeZoneTransition("previous"));
+  assert.deepEqual([BERLIN.nextChange(1_711_846_799n), BERLIN.nextChange(1_711_846_800n)], [1_711_846_800n, 1_729_990_800n]);
+  assert.deepEqual([new Zone(smallFile()).nextChange(0n), new Zone(smallFile()).nextChange(60n)], [60n, undefined]);
+});
+
+test("zone_schedule_next", () => {
+  const [nightly, hourly] = [new Schedule("30 2 * * *"), new Schedule("30 * * * *")];
+  assert.equal(`${nightly.nextInZone(inBerlin("2024-03-30T12:00"))}`, "2024-03-31T03:00:00+02:00");
+  assert.equal(`${nightly.nextInZone(inBerlin("2024-03-31T03:00"))}`, "2024-04-01T02:30:00+02:00");
+  const first = inBerlin("2024-10-27T02:30");
+  assert.equal(`${nightly.nextInZone(first)}`, "2024-10-28T02:30:00+01:00");
+  assert.equal(`${hourly.nextInZone(first)}`, "2024-10-27T02:30:00+01:00");
+  assert.equal(new Schedule("0 0 30 2 *").nextInZone(first), undefined);
+});
+
+test("zones of this machine, beside Intl", { skip: !existsSync("/usr/share/zoneinfo/Europe/Berlin") }, () => {
+  for (const name of ["Europe/Berlin", "America/New_York", "Australia/Lord_Howe", "Africa/Casablanca", "Asia/Kathmandu", "Pacific/Apia"]) {
+    const zone = new Zone(readFileSync(`/usr/share/zoneinfo/${name}`), name);
+    const intl = new Intl.DateTimeFormat("en", { timeZone: name, timeZoneName: "longOffset" });
+    for (let second = 0; second < 2_500_000_000; second += 3_333_333) {
+      const shown = intl.formatToParts(1_000 * second).find((it) => it.type === "timeZoneName").value.slice(3) || "+00:00";
+      assert.equal(new ZonedDateTime(BigInt(second) * 1_000_000_000n, zone).offset, shown, `${name} at ${second}`);
+    }
+  }
 });

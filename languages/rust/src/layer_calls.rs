@@ -35,6 +35,15 @@ pub(crate) struct Quotient {
     pub(crate) denominator: i64,
 }
 
+/// `calendar_offsets`.
+#[repr(C)]
+#[derive(Clone, Copy, Debug, PartialEq, Eq, Hash)]
+pub(crate) struct Offsets {
+    pub(crate) count: u32,
+    pub(crate) earlier: i32,
+    pub(crate) later: i32,
+}
+
 // As in `calls`: a function is safe if it takes no pointer but references. Of one that takes a pointer, so many elements have to
 // lie there as the next argument says.
 unsafe extern "C" {
@@ -202,4 +211,19 @@ unsafe extern "C" {
         fault: &mut Fault,
     ) -> Moment;
     pub(crate) safe fn calendar_day_count(kind: u32, from: i32, to: i32) -> Quotient;
+    pub(crate) fn calendar_zone_check(zone: *const u8, length: usize, fault: &mut Fault) -> bool;
+    pub(crate) fn calendar_zone_fault_text(fault: &Fault, text: *mut u8, room: usize) -> i32;
+    pub(crate) fn calendar_zone_offset_at(zone: *const u8, length: usize, second: i64) -> i32;
+    pub(crate) fn calendar_zone_offsets_of_local(
+        zone: *const u8,
+        length: usize,
+        local: i64,
+    ) -> Offsets;
+    pub(crate) fn calendar_zone_holds_until(zone: *const u8, length: usize, second: i64) -> i64;
+    pub(crate) fn calendar_zone_schedule_next(
+        schedule: &Sets,
+        zone: *const u8,
+        length: usize,
+        start: Moment,
+    ) -> Moment;
 }

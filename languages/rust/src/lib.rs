@@ -32,6 +32,9 @@ mod with_serde;
 #[cfg(feature = "time")]
 mod with_time;
 
+#[cfg(feature = "alloc")]
+mod zone;
+
 #[cfg(any(feature = "chrono", feature = "time"))]
 mod conversion_error;
 
@@ -53,3 +56,5 @@ pub use schedule::{Schedule, ScheduleTimes};
 pub use text_error::TextError;
 pub use weekday::Weekday;
 pub use weekday_set::{WeekdaySet, Weekdays};
+#[cfg(feature = "alloc")]
+pub use zone::{LocalOffsets, Zone, ZonedDateTime};

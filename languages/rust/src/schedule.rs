@@ -67,6 +67,12 @@ impl Schedule {
         calendar_schedule_is_due(&self.sets, moment.moment())
     }
 
+    /// The sets as the library takes them.
+    #[cfg(feature = "alloc")]
+    pub(crate) const fn sets(&self) -> &Sets {
+        &self.sets
+    }
+
     /// The date-times after `start` at which the schedule is due, in order.
     ///
     /// ```

@@ -31,6 +31,9 @@ pub(crate) enum Kind {
     Schedule,
     /// A rule.
     Rule,
+    /// A zone.
+    #[cfg(feature = "alloc")]
+    Zone,
     /// A pattern, or a text that a pattern reads.
     #[cfg(feature = "alloc")]
     Pattern,
@@ -84,6 +87,8 @@ impl fmt::Display for TextError {
             match self.kind {
                 Kind::Schedule => calendar_schedule_fault_text(&self.fault, room, count),
                 Kind::Rule => calendar_rule_fault_text(&self.fault, room, count),
+                #[cfg(feature = "alloc")]
+                Kind::Zone => calendar_zone_fault_text(&self.fault, room, count),
                 #[cfg(feature = "alloc")]
                 Kind::Pattern => return f.pad(&sentence(&self.fault)),
             }

@@ -2,8 +2,8 @@
 //! function, named after it, and then what Rust adds.
 
 use proved_calendar::{
-    columns, BusinessCalendar, Date, DateTime, DayCount, KnownCalendar, Pattern, Roll, Rule,
-    Schedule, Weekday, WeekdaySet,
+    columns, BusinessCalendar, Date, DateTime, DayCount, KnownCalendar, LocalOffsets, Pattern,
+    Roll, Rule, Schedule, Weekday, WeekdaySet, Zone,
 };
 use Weekday::{Fri, Sat, Sun};
 
@@ -710,4 +710,144 @@ fn rule_instances() {
     assert_eq!(daily.instances(Date::MAX).collect::<Vec<_>>(), [Date::MAX]);
     let mut none = daily.instances_between(start, date("2024-01-01"), date("2024-01-31"));
     assert_eq!((none.next(), none.next()), (None, None));
+}
+
+/// Central Europe by its rule.
+const BERLIN: &str = "CET-1CEST,M3.5.0,M10.5.0/3";
+
+fn zone(text: &str) -> Zone {
+    text.parse().unwrap()
+}
+
+/// A TZif file of version 1: UTC up to 1970-01-01T00:01:00, and an hour ahead from then on.
+fn small_file() -> Vec<u8> {
+    let mut bytes = b"TZif".to_vec();
+    bytes.resize(44, 0);
+    (bytes[35], bytes[39], bytes[43]) = (1, 2, 8);
+    bytes.extend([0, 0, 0, 60, 1, 0, 0, 0, 0, 0, 0, 0, 0, 14, 16, 1, 4]);
+    bytes.extend(b"GMT\0BST\0");
+    bytes
+}
+
+#[test]
+fn zone_check() {
+    assert_eq!(zone(BERLIN).as_bytes(), BERLIN.as_bytes());
+    assert_eq!(Zone::from_tzif(small_file()).unwrap().as_bytes().len(), 69);
+    for (text, start, end) in [
+        ("EST5EDT", 7, 7),
+        ("EST", 3, 3),
+        ("5", 0, 1),
+        ("EST5EDT,M3.2.0,M13.1.0", 15, 22),
+        ("", 0, 0),
+    ] {
+        let wrong = text.parse::<Zone>().unwrap_err();
+        assert_eq!(
+            (wrong.start(), wrong.end(), wrong.field()),
+            (start, end, None),
+            "{text}"
+        );
+    }
+    let mut bytes = small_file();
+    bytes[48] = 2;
+    assert_eq!(Zone::from_tzif(bytes.clone()).unwrap_err().field(), Some(1));
+    bytes.truncate(60);
+    let wrong = Zone::from_tzif(bytes).unwrap_err();
+    assert_eq!((wrong.start(), wrong.end()), (44, 60));
+    assert_eq!(format!("{:?}", zone("HST10")), "Zone(\"HST10\")");
+}
+
+#[test]
+fn zone_fault_text() {
+    for (text, sentence) in [
+        ("EST5EDT", "the days of daylight time are missing"),
+        ("EST", "an offset is missing"),
+        ("XXX24", "the offset is a day or more"),
+        ("TZif", "the file is cut off"),
+    ] {
+        assert_eq!(text.parse::<Zone>().unwrap_err().to_string(), sentence);
+    }
+}
+
+#[test]
+fn zone_offset_at() {
+    let berlin = zone(BERLIN);
+    let changes = [1_711_846_799, 1_711_846_800, 1_729_990_799, 1_729_990_800];
+    assert_eq!(
+        changes.map(|it| berlin.offset_at(it)),
+        [3_600, 7_200, 7_200, 3_600]
+    );
+    let file = Zone::from_tzif(small_file()).unwrap();
+    assert_eq!([59, 60].map(|it| file.offset_at(it)), [0, 3_600]);
+    assert_eq!(
+        text(berlin.at(moment("2024-03-31T00:59:59.5"))),
+        "2024-03-31T01:59:59.500+01:00"
+    );
+    assert_eq!(
+        text(zone("LMT-0:53:28").at(moment("1890-01-01T00:00:00"))),
+        "1890-01-01T00:53:28+00:53:28"
+    );
+    assert_eq!(zone("HST10").at(moment("-262143-01-01T00:00:00")), None);
+}
+
+#[test]
+fn zone_offsets_of_local() {
+    let berlin = zone(BERLIN);
+    for (local, offsets) in [
+        ("2024-03-31T01:59:59", LocalOffsets::One(3_600)),
+        ("2024-03-31T02:00:00", LocalOffsets::None),
+        ("2024-03-31T02:59:59", LocalOffsets::None),
+        ("2024-03-31T03:00:00", LocalOffsets::One(7_200)),
+        ("2024-10-27T01:59:59", LocalOffsets::One(7_200)),
+        ("2024-10-27T02:00:00", LocalOffsets::Two(7_200, 3_600)),
+        ("2024-10-27T02:59:59.9", LocalOffsets::Two(7_200, 3_600)),
+        ("2024-10-27T03:00:00", LocalOffsets::One(3_600)),
+    ] {
+        assert_eq!(berlin.offsets_of_local(moment(local)), offsets, "{local}");
+        let ends = berlin.ends_of_local(moment(local));
+        assert_eq!(
+            ends.map(|it| it.map(|it| Some(it.offset()))),
+            offsets
+                .earliest()
+                .map(|_| [offsets.earliest(), offsets.latest()])
+        );
+        assert_eq!(
+            berlin.of_local(moment(local)).map(|it| it.offset()),
+            offsets.single()
+        );
+    }
+}
+
+#[test]
+fn zone_holds_until() {
+    assert_eq!(zone(BERLIN).holds_until(1_711_846_800), 1_729_990_800);
+    assert_eq!(zone("HST10").holds_until(0), i64::MAX);
+    assert_eq!(Zone::from_tzif(small_file()).unwrap().holds_until(0), 60);
+}
+
+#[test]
+fn zone_schedule_next() {
+    let (berlin, nightly, hourly) = (zone(BERLIN), schedule("30 2 * * *"), schedule("30 * * * *"));
+    let start = |local| berlin.of_local(moment(local)).unwrap();
+    assert_eq!(
+        text(nightly.next_in_zone(start("2024-03-30T12:00:00"))),
+        "2024-03-31T03:00:00+02:00"
+    );
+    assert_eq!(
+        text(nightly.next_in_zone(start("2024-03-31T03:00:00"))),
+        "2024-04-01T02:30:00+02:00"
+    );
+    assert_eq!(
+        text(nightly.next_in_zone(start("2024-10-27T01:00:00"))),
+        "2024-10-27T02:30:00+02:00"
+    );
+    let [first, _] = berlin.ends_of_local(moment("2024-10-27T02:30:00")).unwrap();
+    assert_eq!(
+        text(nightly.next_in_zone(first)),
+        "2024-10-28T02:30:00+01:00"
+    );
+    assert_eq!(
+        text(hourly.next_in_zone(first)),
+        "2024-10-27T02:30:00+01:00"
+    );
+    assert_eq!(schedule("0 0 30 2 *").next_in_zone(first), None);
 }

@@ -1,0 +1,18 @@
+-- When a schedule fires next in a zone.
+use Rattle.std.specs.Prelude.{ℤ, Option, IfSome, IfNone}
+use Rattle.chrono_datetime.specs.Moment.{Moment, IsBefore}
+use Rattle.chrono_cron.specs.declared.field_sets.FieldSets.{FieldSets}
+use Rattle.zoned_cron.specs.Fires.{FiresAt, FollowsClock, NotFiringAfter, NotFiringBetween, as_shown, once_each}
+use Rattle.zoned_cron.specs.declared.policy.Policy.{Policy}
+
+-- what is found after a moment of UTC: the first at which the schedule fires by a policy, and none if there is none
+pub record IsNextBy (s : FieldSets) (ahead : ℤ → ℤ) (p : Policy) (start : Moment) (found : Option Moment) : Type 0 where
+  pub fires : IfSome found (λ m. FiresAt s ahead p m)
+  pub later : IfSome found (λ m. IsBefore start m)
+  pub least : IfSome found (λ m. NotFiringBetween s ahead p start m)
+  pub none : IfNone found (NotFiringAfter s ahead p start)
+
+-- by the policy of Vixie's cron: a schedule that lists every minute or every hour goes by what the clock shows, and another fires once each
+pub record IsNextFiring (s : FieldSets) (ahead : ℤ → ℤ) (start : Moment) (found : Option Moment) : Type 0 where
+  pub clock : FollowsClock s → IsNextBy s ahead as_shown start found
+  pub fixed : ¬ FollowsClock s → IsNextBy s ahead once_each start found

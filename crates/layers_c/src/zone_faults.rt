@@ -1,0 +1,132 @@
+//! What is wrong with bytes that hold no zone.
+ghost use Rattle.std.specs.Prelude.{◌≡◌, ◌≤◌, true, false, length};
+ghost use Rattle.zone.specs.Parts.{ZoneParts};
+ghost use Rattle.layers_c.specs.Zones.{HoldsZone, IsWithin};
+
+use crate::faults::CalendarFault;
+use crate::part_end::part_end;
+use crate::zone_bytes::{NoZone, row_room, zone_of};
+use numbers_c::{NONE, write_over};
+use zone::ZoneFault;
+use zone_file::{ZoneFileFault, ZoneRowsError};
+use zone_text::ZoneTextFault;
+
+// No sentence of a fault is longer.
+const LONGEST: usize = 64;
+
+/// Returns whether bytes hold a zone: those of a TZif file, or the text of a rule. If they hold none, fills in what is wrong.
+#[unsafe(no_mangle)]
+pub extern "C" fn calendar_zone_check(zone: &[u8], fault: &mut CalendarFault) -> bool
+    ensures read { result ≡ true → (z : ZoneParts) × HoldsZone zone.now z }
+    ensures every { (z : ZoneParts) → HoldsZone zone.now z → result ≡ true }
+    ensures place { result ≡ false → IsWithin fault.new.byte fault.new.end (length zone.now) }
+    ensures no_fault { result ≡ true → fault.new ≡ fault.old }
+{
+    let mut room = row_room();
+    match zone_of(zone, &mut room) {
+        Ok(_) => true,
+        Err(reason) => {
+            *fault = fault_of(zone, reason);
+            false
+        }
+    }
+}
+
+/// Writes what a fault of a zone says over the first bytes, if they are enough, and returns how many it took.
+#[unsafe(no_mangle)]
+pub extern "C" fn calendar_zone_fault_text(fault: &CalendarFault, text: &mut [u8]) -> i32 {
+    let sentence = sentence_of(fault.code).as_bytes();
+    if sentence.is_empty() || sentence.len() > LONGEST {
+        return NONE;
+    }
+    write_over(text, sentence)
+}
+
+// The numbers of what is wrong with bytes.
+fn fault_of(bytes: &[u8], reason: NoZone) -> CalendarFault
+    ensures { IsWithin result.byte result.end (length bytes.now) }
+{
+    match reason {
+        NoZone::File(error) => in_file(bytes, file_code(error.fault), 0, error.byte),
+        NoZone::FirstKind => in_file(bytes, 7, 0, 0),
+        NoZone::Rows(ZoneRowsError::NoRow(place)) => in_file(bytes, 8, row_number(place), 0),
+        NoZone::Rows(ZoneRowsError::NoRoom(_)) => in_file(bytes, 9, 0, 0),
+        NoZone::Rule(start, error) => {
+            let byte = start.saturating_add(error.byte).min(bytes.len());
+            let end = part_end(bytes, byte);
+            numbers(text_code(error.fault), 0, byte, end)
+        }
+        NoZone::Parts(ZoneFault::Unordered(place)) => in_file(bytes, 15, row_number(place), 0),
+        NoZone::Parts(ZoneFault::NotJoined) => in_file(bytes, 16, 0, 0),
+    }
+}
+
+// What is wrong from a byte of a file on.
+fn in_file(bytes: &[u8], code: u32, row: u32, byte: usize) -> CalendarFault
+    ensures { IsWithin result.byte result.end (length bytes.now) }
+{
+    numbers(code, row, byte.min(bytes.len()), bytes.len())
+}
+
+// The numbers of a fault.
+fn numbers(code: u32, field: u32, byte: usize, end: usize) -> CalendarFault
+    ensures { result ≡ record { code = code; field = field; byte = byte; end = end } }
+{
+    CalendarFault {
+        code,
+        field,
+        byte,
+        end,
+    }
+}
+
+// The number of a row, from 1. No more than 512 are looked at.
+fn row_number(place: usize) -> u32 {
+    place.min(512) as u32 + 1
+}
+
+// The number of what is wrong with a file.
+fn file_code(fault: ZoneFileFault) -> u32 {
+    match fault {
+        ZoneFileFault::NoHeader => 1,
+        ZoneFileFault::UnknownVersion => 2,
+        ZoneFileFault::CutOff => 3,
+        ZoneFileFault::WrongCounts => 4,
+        ZoneFileFault::LeapSeconds => 5,
+        ZoneFileFault::WrongFooter => 6,
+    }
+}
+
+// The number of what is wrong with the text of a rule.
+fn text_code(fault: ZoneTextFault) -> u32 {
+    match fault {
+        ZoneTextFault::NoName => 10,
+        ZoneTextFault::NoOffset => 11,
+        ZoneTextFault::OffsetOfDay => 12,
+        ZoneTextFault::NoDays => 13,
+        ZoneTextFault::NoChange => 14,
+    }
+}
+
+// What a fault says, or nothing if there is no such fault.
+fn sentence_of(code: u32) -> &'static str {
+    match code {
+        1 => "no header of a TZif file stands there",
+        2 => "an unknown version of TZif",
+        3 => "the file is cut off",
+        4 => "the counts of the header are wrong",
+        5 => "the file counts leap seconds",
+        6 => "the footer is wrong",
+        7 => "no local time is named to begin with",
+        8 => "a row names no local time",
+        9 => "more than 512 rows",
+        10 => "a name of three letters or more is missing",
+        11 => "an offset is missing",
+        12 => "the offset is a day or more",
+        13 => "the days of daylight time are missing",
+        14 => "no day stands there on which the clock is set",
+        15 => "a row does not follow the one before it",
+        16 => "the rule does not go on from the last row",
+        _ => "",
+    }
+}
