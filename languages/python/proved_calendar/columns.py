@@ -47,8 +47,8 @@ _ROLLS = (
     "unadjusted", "following", "preceding", "modified_following", "modified_preceding", "nearest_isda", "nearest_quantlib",
 )
 _DAY_COUNTS = ("actual_actual_isda", "actual_360", "actual_365_fixed", "thirty_360", "thirty_e_360")
-# Where times are counted from.
-_EPOCH = _datetime.datetime(1970, 1, 1, tzinfo=_datetime.timezone.utc)
+# The first and the last second of datetime's years, since 1970.
+_FIRST_SECOND, _LAST_SECOND = -62_135_596_800, 253_402_300_799
 # The bytes of a date-time's text in a column.
 _TIME_TEXT = 32
 
@@ -494,11 +494,15 @@ def offsets(times: Any, zone: _datetime.tzinfo) -> Any:
 
 def _offset_at(zone: _datetime.tzinfo, second: int) -> int:
     """The seconds by which a clock is ahead at a second since 1970, or NAT."""
+    if not _FIRST_SECOND <= second <= _LAST_SECOND:
+        return NAT
     try:
-        ahead = (_EPOCH + _datetime.timedelta(seconds=second)).astimezone(zone).utcoffset()
+        ahead = _datetime.datetime.fromtimestamp(second, zone).utcoffset()
     except OverflowError:
         return NAT
-    return NAT if ahead is None else round(ahead.total_seconds())
+    if ahead is None or ahead.microseconds:
+        return NAT if ahead is None else round(ahead.total_seconds())
+    return ahead.days * 86_400 + ahead.seconds
 
 
 def time_texts(times: Any) -> Any:

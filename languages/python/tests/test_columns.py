@@ -415,6 +415,7 @@ class Times(Columns):
         change = numpy.array([["2024-03-31T00:59:59.999", "2024-03-31T01:00"], ["NaT", "1880-01-01T00:00"]], "M8[ms]")
         self.assertEqual(columns.offsets(change, berlin).astype("i8").tolist(), [[3_600, 7_200], [NAT, 3_208]])
         self.assertEqual(columns.offsets(change[:, ::-1], timezone(timedelta(hours=-3))).astype("i8")[0].tolist(), [-10_800, -10_800])
+        self.assertEqual(columns.offsets(change[:1, :1], timezone(timedelta(milliseconds=3_600))).astype("i8").tolist(), [[4]])
         self.assertEqual(columns.offsets(change[:0], utc).shape, (0, 2))
         self.assertRaises(TypeError, columns.offsets, change, "Europe/Berlin")
         self.assertRaises(TypeError, columns.offsets, change.astype("M8[D]"), utc)
