@@ -488,7 +488,7 @@ def offsets(times: Any, zone: _datetime.tzinfo) -> Any:
         # (an hour further away is of no year of four digits)
         seconds = part // (unit // 86_400) if unit >= 86_400 else _np.clip(part, -(2**40), 2**40) * (86_400 // unit)
         different, places = _np.unique(_np.where(part == NAT, NAT, seconds), return_inverse=True)
-        out[piece] = _np.array([_offset_at(zone, int(it)) for it in different], "m8[s]")[places]
+        out[piece] = _np.array([_offset_at(zone, it) for it in different.tolist()], _np.int64).view("m8[s]")[places]
     return out.reshape(column.shape)
 
 
