@@ -272,6 +272,7 @@ test("sets of rules", () => {
   const march = ["2024-03-01", "2024-03-08", "2024-03-13", "2024-03-15", "2024-03-22", "2024-03-31"];
   assert.deepEqual(texts(MEETINGS.iterate({ until: "2024-03-31" })), march);
   assert.deepEqual(texts(MEETINGS.iterate({ from: "2024-03-13", until: "2024-03-22" })), march.slice(2, 5));
+  assert.deepEqual(texts(MEETINGS.iterate({ until: "2024-03-13" })), march.slice(0, 3));
   assert.deepEqual(texts(MEETINGS.iterate({ from: "2024-03-14", until: "2024-03-14" })), []);
   assert.deepEqual(march.map((it) => MEETINGS.includes(it)), march.map(() => true));
   assert.deepEqual(["2024-03-29", "2024-03-02", "2024-02-29"].map((it) => MEETINGS.includes(it)), [false, false, false]);

@@ -737,6 +737,7 @@ fn rule_sets() {
     assert_eq!(march(set.instances_between(Date::MIN, last)), wanted);
     let [from, until] = ["2024-03-13", "2024-03-22"].map(date);
     assert_eq!(march(set.instances_between(from, until)), [13, 15, 22]);
+    assert_eq!(march(set.instances_between(first, from)), [1, 8, 13]);
     assert_eq!(set.instances_between(until, from).next(), None);
     for day in first.number()..=last.number() {
         let day = Date::from_number(day).unwrap();
