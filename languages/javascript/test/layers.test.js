@@ -289,6 +289,7 @@ test("sets of rules with an end", () => {
   assert.deepEqual(texts(set), ["2024-03-02"]);
   assert.deepEqual([set.nextAfter("2024-03-02"), set.includes("2024-03-01"), set.includes("2024-03-02")], [undefined, false, true]);
   assert.deepEqual(texts(new RuleSet({ dates: ["2024-03-04", "2024-03-01", "2024-03-04"] })), ["2024-03-01", "2024-03-04"]);
+  assert.equal(`${new RuleSet({ dates: ["2024-03-04", "2024-03-01"] }).previousBefore("2024-03-05")}`, "2024-03-04");
   assert.deepEqual([texts(new RuleSet()), new RuleSet().nextAfter("2024-03-01"), new RuleSet({}).previousBefore("2024-03-01")], [[], undefined, undefined]);
   assert.deepEqual([texts(MEETINGS.dates), texts(MEETINGS.exceptDates), MEETINGS.rules.length, set.exceptRules.length], [["2024-03-13", "2024-03-31"], ["2024-03-29"], 2, 1]);
   set.rules.pop();
