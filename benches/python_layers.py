@@ -138,10 +138,11 @@ def time_zones(ours, rounds):
     of_theirs = nanos(lambda: [it.astimezone(zone).utcoffset() for it in theirs], count, rounds)
     tell("`astimezone`", nanos(lambda: [it.astimezone(zone) for it in moments], count, rounds), nanos(lambda: [it.astimezone(zone) for it in theirs], count, rounds))
     tell("`columns.offsets`, all different", nanos(lambda: columns.offsets(column, zone), count, rounds), of_theirs)
-    often = numpy.repeat(column[:500], 20)
-    many = [it for it in theirs[:500] for _ in range(20)]
-    mine = nanos(lambda: columns.offsets(often, zone), count, rounds)
-    tell("`columns.offsets`, each time 20 times", mine, nanos(lambda: [it.astimezone(zone).utcoffset() for it in many], count, rounds))
+    for name, step in (("each hour", 3_600), ("each minute", 60)):
+        often = column[:1] + numpy.arange(count) * numpy.timedelta64(step, "s")
+        many = [it.replace(tzinfo=utc) for it in often.tolist()]
+        mine = nanos(lambda often=often: columns.offsets(often, zone), count, rounds)
+        tell(f"`columns.offsets`, {name}", mine, nanos(lambda many=many: [it.astimezone(zone).utcoffset() for it in many], count, rounds))
 
 
 def main():
