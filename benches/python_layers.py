@@ -16,6 +16,7 @@ import sys
 import tempfile
 import time
 import zipfile
+import zoneinfo
 
 TOP = os.path.dirname(os.path.dirname(os.path.abspath(__file__)))
 sys.path.insert(0, os.path.join(TOP, "tools"))
@@ -123,12 +124,33 @@ def time_open_days(ours, rounds):
         tell(f"{name}, with {len(calendar.holidays)} holidays", mine, nanos(lambda: [their_call(it) for it in their_starts], 1000, rounds))
 
 
+def time_zones(ours, rounds):
+    """Times of UTC by New York's clock, one by one and as a column, and their offsets."""
+    from proved_calendar import columns
+
+    zone, utc, count = zoneinfo.ZoneInfo("America/New_York"), datetime.timezone.utc, 10_000
+    column = numpy.datetime64("1970", "s") + numpy.arange(count) * 210_971
+    theirs = [it.replace(tzinfo=utc) for it in column.tolist()]
+    moments = [ours.DateTime.from_datetime(it) for it in theirs]
+    wanted("astimezone", [it.astimezone(zone) for it in moments], [it.astimezone(zone) for it in theirs])
+    offsets = [it.astimezone(zone).utcoffset() for it in theirs]
+    wanted("offsets", columns.offsets(column, zone).tolist(), offsets)
+    of_theirs = nanos(lambda: [it.astimezone(zone).utcoffset() for it in theirs], count, rounds)
+    tell("`astimezone`", nanos(lambda: [it.astimezone(zone) for it in moments], count, rounds), nanos(lambda: [it.astimezone(zone) for it in theirs], count, rounds))
+    tell("`columns.offsets`, all different", nanos(lambda: columns.offsets(column, zone), count, rounds), of_theirs)
+    for name, step in (("each hour", 3_600), ("each minute", 60)):
+        often = column[:1] + numpy.arange(count) * numpy.timedelta64(step, "s")
+        many = [it.replace(tzinfo=utc) for it in often.tolist()]
+        mine = nanos(lambda often=often: columns.offsets(often, zone), count, rounds)
+        tell(f"`columns.offsets`, {name}", mine, nanos(lambda many=many: [it.astimezone(zone).utcoffset() for it in many], count, rounds))
+
+
 def main():
     rounds = int(sys.argv[1]) if len(sys.argv) > 1 else 7
     with tempfile.TemporaryDirectory(prefix="python-layers-") as folder:
         ours = install(folder)
         print("| Call | Ours, ns | Theirs, ns | Ratio |\n|---|---|---|---|")
-        for it in (time_schedules, time_rules, time_open_days):
+        for it in (time_schedules, time_rules, time_open_days, time_zones):
             it(ours, rounds)
     return 0
 

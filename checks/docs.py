@@ -51,8 +51,8 @@ ABSENT = {
     "of the kit: its words, its tactics and its std": """IfSome_then SomeIff agree_below agree_below_at jiff_tz num_traits omega refl subst
         unfoldable view_is ensures """,
     "of pandas and Dask": "NA OutOfBoundsDatetime Client compute",
-    "of Python": "OverflowError TypeError ValueError datetime timedelta __slots__ __getstate__",
-    "of JavaScript": "BigInt calendarName PlainTime ZonedDateTime iso8601 RangeError Temporal overflow wasm-opt",
+    "of Python": "Unpickler OverflowError TypeError ValueError datetime timedelta __slots__ __getstate__",
+    "of JavaScript": "BigInt Int32Array calendarName PlainTime ZonedDateTime iso8601 RangeError Temporal overflow wasm-opt",
     "of earlier versions": "check_rule check_schedule Roll::Nearest",
     "of SQL, and of texts that it is given": "timestamptz STRICT IMMUTABLE STABLE nearest-isda nearest-quantlib nearest_quantlib",
     "of C": "int32_t memcpy",

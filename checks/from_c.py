@@ -6,6 +6,7 @@ import shutil
 import subprocess
 import sys
 
+import cells
 from results import LANGUAGES, TOP, example, read, run, succeeds
 
 sys.path.insert(0, f"{TOP}/tools")
@@ -128,6 +129,14 @@ def test_example(results, room, prefix):
         results.count(is_told, f"the example in C prints {printed}")
 
 
+def test_cells(results, room, prefix):
+    """The example of each layer."""
+    words = [*COMPILERS["cc"], f"-I{prefix}/include", cells.FILES["C"][0]]
+    words += [f"{prefix}/lib/lib{it}.a" for it in (packages.LAYERS, packages.CALENDAR)]
+    if succeeds(results, [*words, "-o", f"{room}/cells"]) is not None:
+        cells.run(results, "C", [f"{room}/cells"])
+
+
 def test(results, room, library, layers, names):
     """Installs the package to a prefix and runs the tests there."""
     room = f"{room}/c"
@@ -135,6 +144,7 @@ def test(results, room, library, layers, names):
     prefix = install(room, library, layers)
     compare_shared(results, prefix, names)
     test_example(results, room, prefix)
+    test_cells(results, room, prefix)
     test_by_pkg_config(results, room, prefix)
     test_by_cmake(results, room, prefix)
     test_memory(results, room, prefix)

@@ -8,6 +8,7 @@ import shutil
 import subprocess
 import sys
 
+import cells
 from results import LANGUAGES, TOP, read, run, succeeds
 from wrong_lines import edits, planted
 
@@ -22,7 +23,7 @@ COUNTS = (r"\.\.\. ok()$", r"\.\.\. (?:FAIL|ERROR)()$")
 DEBIAN = "/usr/bin/python3"
 ALONE = ("test_calls.py", "test_habits.py", "test_like_datetime.py", "test_layers.py", "test_zoned.py")
 # The test that finds wrong lines soonest, by what stands in the path of a file.
-NEAREST = {"schedule": "test_layers.py", "business": "test_layers.py", "rule": "test_layers.py", "_zoned": "test_zoned.py"}
+NEAREST = {"pattern": "test_layers.py", "schedule": "test_layers.py", "business": "test_layers.py", "rule": "test_layers.py", "_zoned": "test_zoned.py"}
 # The tests and the pages that need other packages, which Debian's Python may have, and those packages.
 BESIDE = {"test_columns.py": ("numpy",), "test_pandas.py": ("numpy", "pandas"), "test_dask.py": ("numpy", "pandas", "dask.dataframe")}
 PAGES = {"columns.md": ("numpy",), "pandas.md": ("numpy", "pandas"), "dask.md": ("numpy", "pandas", "dask.dataframe")}
@@ -55,11 +56,22 @@ def test_examples(results, room, program, with_numpy, page="README.md"):
     run(results, f"the examples of {page}", [program, "-m", "doctest", "-v", f"{room}/example.txt"], counts, env=QUIET)
 
 
+def test_cells(results, room, program, leave_out=()):
+    """The example of each layer, but for some layers, which stand last."""
+    text = read(cells.FILES["Python"][0])
+    for layer in leave_out:
+        text = text.partition(f"# == {layer}\n")[0]
+    with open(f"{room}/cells.py", "w", encoding="utf-8") as it:
+        it.write(text)
+    cells.run(results, "Python", [program, f"{room}/cells.py"], leave_out, env=QUIET)
+
+
 def test_installed(results, room, program):
     """The tests that need no other package, and the examples of README that need none."""
     for name in (*ALONE, "test_days.py"):
         run(results, name, [program, f"{TESTS}/{name}", "-v"], COUNTS, env=QUIET)
     test_examples(results, room, program, False)
+    test_cells(results, room, program, ("columns",))
 
 
 def test_versions(results, room, wheel):
@@ -101,6 +113,8 @@ def test_beside_others(results, room, wheel):
     if program:
         test_examples(results, room, program, True)
         test_stubs(results, room, program)
+    if program and debian_has(*BESIDE["test_dask.py"]):
+        test_cells(results, room, program)
     if program and debian_has("croniter", "dateutil"):
         test_peers(results, program)
 

@@ -14,6 +14,7 @@ import subprocess
 import sys
 import tarfile
 
+import cells
 import chrono_docs
 import layers_c
 from results import is_older, read, run
@@ -150,6 +151,13 @@ def test_bare(results, room, package):
     results.count(ran.returncode == 0, f"a build with no feature says:\n{ran.stderr[-2000:]}")
 
 
+def test_cells(results, room, package):
+    """The example of each layer."""
+    project = make_project(f"{room}/cells", package, ("cells",))
+    os.rename(f"{project}/tests/cells.rs", f"{project}/src/main.rs")
+    cells.run(results, "Rust", ["cargo", "run", "--offline", "--quiet"], cwd=project, env=environment(room))
+
+
 def test_missing(results, room, package):
     """A build with no library says what to run."""
     os.rename(f"{package}/lib", f"{package}/lib-away")
@@ -204,5 +212,6 @@ def test(results, room, library, layers):
     chrono_docs.test(results, room, package, environment(room))
     test_peers(results, room, package)
     test_bare(results, room, package)
+    test_cells(results, room, package)
     test_missing(results, room, package)
     try_wrong_lines(results, room, built)

@@ -4,9 +4,9 @@
     checks/javascript.py
     checks/javascript.py --picture FILE      (only takes a picture of the page, as docs/page.png is one)
 
-The package is made as `tools/dist javascript` makes it, in a temporary folder. The exports of its two modules have to be
-those of calendar.h, but for those that C alone has, and those of calendar_layers.h. Each is called by the wrapper and has a test
-of its name. checks/peer_answers.py draws cases of the layers, with the answers of other programs. In a
+The package is made as `tools/dist javascript` makes it, in a temporary folder. The exports of its three modules have to be
+those of calendar.h, with columns apart, but for those that C alone has, and those of calendar_layers.h. Each is called by the wrapper and has
+a test of its name, but for columns that change in place. checks/peer_answers.py draws cases of the layers, with the answers of other programs. In a
 project of its own, to which the package is put as npm puts it, node runs the tests, the example of the README and,
 where there is a tsc, a file of types. Ten wrong lines are then planted in the wrapper, one at a time, and the tests
 have to fail on each.
@@ -28,6 +28,7 @@ import subprocess
 import sys
 import tempfile
 
+import cells
 import chromium
 import counted
 import fuzz
@@ -44,7 +45,7 @@ from packages import javascript  # noqa: E402
 
 FOLDER = f"{TOP}/languages/javascript"
 # How many bytes each module has at most.
-LARGEST = {"module": 22_000, "layers_module": 180_000}
+LARGEST = {"module": 22_000, "columns_module": 9_000, "layers_module": 180_000}
 # Zones on whose changes the browser's database and the machine's agree. (Not Dublin, whose day of 1925-10-04 begins otherwise in Chromium
 # than in Python.)
 ZONES = ("Europe/Berlin", "America/New_York", "Australia/Lord_Howe", "America/Sao_Paulo", "Asia/Beirut", "Asia/Kathmandu", "Pacific/Apia",
@@ -141,12 +142,18 @@ def exports_of(module):
     return imports, sorted(it["name"] for it in exports if it["kind"] == "function")
 
 
+# What changes columns in place, which is of no use where a copy of them lies in the module's memory.
+IN_PLACE = "_in_place"
+
+
 def wanted_exports():
-    """Of each module the functions that it has to have, how the wrapper calls one, and the tests that are named after them."""
+    """Of each module the functions that it has to have, how the wrapper calls one, and the files of tests that are named after them."""
     text = re.sub(r"/\*.*?\*/", "", read(layers_c.HEADER), flags=re.S)
+    header = languages.of_header()
     return {
-        "module": ([it for it in languages.of_header() if not re.fullmatch(languages.COLUMNS, it)], "library", "calls"),
-        "layers_module": ([it for it in layers_c.functions_of_header(text) if not it.startswith("calendar_column_")], "layers", "layers"),
+        "module": ([it for it in header if not re.fullmatch(languages.COLUMNS, it)], "library", ("calls",)),
+        "columns_module": ([it for it in header if it.startswith("calendar_column_")], "library", ("columns",)),
+        "layers_module": (layers_c.functions_of_header(text), "layers", ("layers", "columns")),
     }
 
 
@@ -157,8 +164,8 @@ def compare_exports(results, bytes_of_modules):
         imports, exports = exports_of(bytes_of_modules[source])
         results.equal(imports, [], f"imports of {source}")
         results.equal(exports, sorted(wanted), f"functions of {source}")
-        tests = read(f"{FOLDER}/test/{tests}.test.js")
-        for name in wanted:
+        tests = "\n".join(read(f"{FOLDER}/test/{it}.test.js") for it in tests)
+        for name in (it for it in wanted if not it.endswith(IN_PLACE)):
             results.count(re.search(rf"\b{held_by}\.{name}\b", wrapper), f"the wrapper does not call {name}")
             short = name.removeprefix("calendar_")
             results.count(re.search(rf'test\("{short}"|^const FIELDS = .*\b{short}:', tests, re.M), f"no test is named {short}")
@@ -245,6 +252,7 @@ def in_node(results, room, package, bytes_of_modules):
     if failed:
         print(printed[-4000:], flush=True)
     compare_example(results, project)
+    cells.run(results, "JavaScript", ["node", "test/cells.js"], cwd=project)
     compare_size(results, bytes_of_modules)
     check_types(results, project)
     compare_peers(results, project)

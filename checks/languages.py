@@ -13,7 +13,8 @@ with one another and with the library's instructions; the same of the second lib
 compiler that is found. The packages for C and Python are made by the modules of tools/packages in a temporary folder, installed as
 their users would, and tested there by checks/from_c.py and checks/from_python.py, and so is that for Rust by checks/from_rust.py. Each export
 has to be called in C's tests, and to have a test of its name in the other two, but for columns and what belongs to them, which
-Python's module of columns calls. The examples of the READMEs are run too, and the uses that README.md shows have to stand in them.
+Python's module of columns calls. The examples of the READMEs are run too, and the uses that README.md shows have to stand in them. checks/cells.py has an
+example of each cell of the table of layers.
 """
 import os
 import re
@@ -24,6 +25,7 @@ import tempfile
 
 TOP = os.path.dirname(os.path.dirname(os.path.abspath(__file__)))
 sys.path.insert(0, f"{TOP}/tools")
+import cells  # noqa: E402
 import from_c  # noqa: E402
 import from_python  # noqa: E402
 import from_rust  # noqa: E402
@@ -290,6 +292,7 @@ def compare_sources(results):
     compare_uses(results, header)
     compare_processors(results)
     compare_examples(results)
+    cells.compare(results)
     compare_versions(results)
     compile_header(results)
     return header

@@ -361,6 +361,37 @@ export class Rule implements Iterable<PlainDate> {
   readonly [Symbol.toStringTag]: "Rule";
 }
 
+/** What a set of rules is made of. */
+export interface RuleSetParts {
+  rules?: Iterable<Rule>;
+  /** Dates that are added (RDATE). */
+  dates?: Iterable<DateLike>;
+  exceptRules?: Iterable<Rule>;
+  /** Dates that are left out (EXDATE). */
+  exceptDates?: Iterable<DateLike>;
+}
+
+/** The instances of some rules and some dates, but for those of other rules and other dates. Each day comes once. */
+export class RuleSet implements Iterable<PlainDate> {
+  constructor(parts?: RuleSetParts);
+  readonly rules: Rule[];
+  /** The dates that are added, in order, each once. */
+  readonly dates: PlainDate[];
+  readonly exceptRules: Rule[];
+  /** The dates that are left out, in order, each once. */
+  readonly exceptDates: PlainDate[];
+  /** The first instance after a date; undefined if there is none. */
+  nextAfter(date: DateLike): PlainDate | undefined;
+  /** The last instance before a date; undefined if there is none. */
+  previousBefore(date: DateLike): PlainDate | undefined;
+  /** Whether a date is an instance. */
+  includes(date: DateLike): boolean;
+  /** The instances in order, from a date on and up to another; both count. */
+  iterate(options?: { from?: DateLike; until?: DateLike }): IterableIterator<PlainDate>;
+  [Symbol.iterator](): IterableIterator<PlainDate>;
+  readonly [Symbol.toStringTag]: "RuleSet";
+}
+
 /** A pattern, such as `%d.%m.%Y`, by the specifiers of chrono's `format`, with English names. */
 export class Pattern {
   /** Throws a TextError if the text is no pattern. */
@@ -496,4 +527,52 @@ export class ZonedDateTime {
   toLocaleString(locales?: string | string[], options?: Intl.DateTimeFormatOptions): string;
   valueOf(): never;
   readonly [Symbol.toStringTag]: "ZonedDateTime";
+}
+
+/**
+ * Columns of dates: an `Int32Array` of day numbers, each as `PlainDate.dayNumber` has it. Nothing is thrown for an element: `NO_DATE`
+ * stands for no date, year or number of days, and 0 for no month, day, week or weekday. RangeError for columns of different lengths.
+ */
+export declare namespace columns {
+  /** The number of no date: -2147483648. */
+  const NO_DATE: number;
+  function years(dates: Int32Array): Int32Array;
+  /** From 1 to 366. */
+  function daysOfYear(dates: Int32Array): Uint16Array;
+  /** From 1 for Monday to 7. */
+  function daysOfWeek(dates: Int32Array): Uint8Array;
+  function fields(dates: Int32Array): { years: Int32Array; months: Uint8Array; days: Uint8Array };
+  /** The ISO weeks, and the years that they belong to. */
+  function isoWeeks(dates: Int32Array): { yearsOfWeek: Int32Array; weeksOfYear: Uint8Array };
+  /** How many elements are dates. */
+  function countDates(dates: Int32Array): number;
+  /** The text of each date, such as `2024-02-29`; the empty text for a year outside 0 to 9999. */
+  function texts(dates: Int32Array): string[];
+  /** The same as ten bytes each; ten zeros for a year outside 0 to 9999. */
+  function textBytes(dates: Int32Array): Uint8Array;
+  /** The date of each text such as `2024-02-29`, in an array or as ten bytes each. What is another text, or none, is no date. */
+  function fromTexts(texts: readonly (string | null | undefined)[] | Uint8Array): Int32Array;
+  /** The date of each year, month and day of the month. */
+  function fromFields(years: Int32Array, months: Uint8Array, days: Uint8Array): Int32Array;
+  /** The date so many days later: as many for each, or a column of them. */
+  function addDays(dates: Int32Array, days: number | Int32Array): Int32Array;
+  /** The date so many months later. If that month is too short, it is its last day. */
+  function addMonths(dates: Int32Array, months: number): Int32Array;
+  /** The days from each base to the date at its place; the bases are a column, or one date. */
+  function daysBetween(dates: Int32Array, bases: Int32Array | DateLike): Int32Array;
+  /** The first date from each on, itself counted, that falls on one of the weekdays. */
+  function firstOn(dates: Int32Array, ...daysOfWeek: number[]): Int32Array;
+  /** The days from 1 January 1970 to each date, as Arrow's date32 has them. */
+  function unixDays(dates: Int32Array): Int32Array;
+  /** The same as numbers of 64 bits, of which the least stands for no date. */
+  function unixDays64(dates: Int32Array): BigInt64Array;
+  function fromUnixDays(days: Int32Array | BigInt64Array): Int32Array;
+  /** Whether each element is an open day, as 1 or 0. */
+  function isOpen(dates: Int32Array, calendar: BusinessCalendar): Uint8Array;
+  /** The n-th open day after each date, as `BusinessCalendar.add` finds it. */
+  function addOpenDays(dates: Int32Array, n: number, calendar: BusinessCalendar): Int32Array;
+  /** How many days are open from each date on and before the other at its place; the others are a column, or one date. */
+  function openDaysBetween(from: Int32Array, to: Int32Array | DateLike, calendar: BusinessCalendar): Int32Array;
+  /** The date that each date goes to by a roll. */
+  function roll(dates: Int32Array, roll: Roll, calendar: BusinessCalendar): Int32Array;
 }

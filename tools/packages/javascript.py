@@ -1,4 +1,4 @@
-"""The package for JavaScript: two modules of WebAssembly, the wrapper over them, and a page that needs nothing else.
+"""The package for JavaScript: three modules of WebAssembly, the wrapper over them, and a page that needs nothing else.
 
 Each module is made of the sources of a crate for C, as a crate of the kind wasm64 in a repository of its own, over what is
 proved of the libraries below: a repository has one kind of each crate. Binaryen then gives it a memory of 32-bit addresses,
@@ -17,16 +17,22 @@ import urllib.parse
 
 from . import LICENCES, Missing, version
 
-# A module of WebAssembly: the crate that it is made of, where it is kept, and what only C has a use for: modules of the crate, and the
-# libraries below them. (`rt lib` of the static library takes away a module of the crate's own name.)
-Module = collections.namedtuple("Module", "crate kept c_alone below_c_alone")
-# By the source that holds it. C alone uses columns, and a date's names as a struct.
+# A module of WebAssembly: the crate that it is made of, where it is kept, and what it leaves out: modules of the crate, and the libraries
+# below them. (`rt lib` of the static library takes away a module of the crate's own name.)
+Module = collections.namedtuple("Module", "crate kept left_out below_left_out")
+# By the source that holds it. C alone uses a date's names as a struct, and who uses no columns loads none of them.
 MODULES = {
     "module": Module("calendar_c", "crates/calendar_c/out/calendar.wasm", ("columns", "split"), ("chrono_columns",)),
-    "layers_module": Module("layers_c", "crates/layers_c/out/layers.wasm", ("open_day_columns",), ()),
+    "columns_module": Module(
+        "calendar_c", "crates/calendar_c/out/columns.wasm", ("date_times", "fields", "moves", "names", "split", "texts", "weekdays"), ()
+    ),
+    "layers_module": Module("layers_c", "crates/layers_c/out/layers_with_columns.wasm", (), ()),
 }
 SOURCES = ("instantiate", "moments", "numbers", "rounding", "calendar", "texts", "library", "duration", "plain_date", "plain_date_time",
-           "instant", "layers", "text_error", "schedule", "rule", "pattern", "business_calendar", "zone", "zoned_date_time", "index")
+           "instant", "column_room", "layers", "text_error", "schedule", "rule", "rule_set", "pattern", "business_calendar", "columns", "zone",
+           "zoned_date_time", "index")
+# What of the package the page has no use for.
+NOT_ON_PAGE = ("columns", "columns_module", "rule_set")
 PAGE = ("answers", "words", "parts", "layer_parts", "page")
 
 
@@ -43,7 +49,7 @@ def write(path, text):
 
 
 def leave_out(crate, names):
-    """Takes what only C has a use for out of a copy of the crate: some of its modules."""
+    """Takes some of its modules out of a copy of the crate."""
     root = read(f"{crate}/src/lib.rt")
     for name in names:
         root = root.replace(f"mod {name};\n", "")
@@ -64,10 +70,10 @@ def build_module(top, room, wanted):
 
     crates, crate = listed_crates(), wanted.crate
     line = line_of(crate, crates)
-    crates[line] = [it for it in crates[line] if it not in wanted.below_c_alone]
+    crates[line] = [it for it in crates[line] if it not in wanted.below_left_out]
     *libraries, _ = below(line, crates)
     copy_crates(room, [*libraries, crate])
-    leave_out(f"{room}/crates/{crate}", wanted.c_alone)
+    leave_out(f"{room}/crates/{crate}", wanted.left_out)
     with open(f"{room}/crates.txt", "w", encoding="utf-8") as it:
         it.writelines(f"{name}: {' '.join(crates[name])}\n" for name in libraries)
         it.write(f"{crate} wasm64: {' '.join(crates[line])}\n")
@@ -129,6 +135,9 @@ def page_of(folder, module_texts):
     """The page with its styles and all modules inside, so that it is one file that a browser opens from anywhere."""
     texts = {**module_texts, **{it: read(f"{folder}/src/{it}.js") for it in SOURCES}}
     texts.update({it: read(f"{folder}/page/{it}.js") for it in PAGE})
+    for name in NOT_ON_PAGE:
+        texts.pop(name)
+        texts["index"] = re.sub(rf'^export .* from "\./{name}\.js";\n', "", texts["index"], flags=re.M)
     listed = json.dumps({"imports": {name: address(text) for name, text in texts.items()}}, indent=1)
     scripts = f'  <script type="importmap">\n{listed}\n  </script>\n  <script type="module">import "page";</script>\n'
     page = read(f"{folder}/page/index.html")

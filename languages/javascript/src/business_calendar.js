@@ -6,7 +6,7 @@ import { clipped, integer, isInt32, optionsOf } from "./numbers.js";
 import { PlainDate, setOf } from "./plain_date.js";
 
 /** Where a closed date goes, in the order of the library (ISDA 2006, section 4.12). */
-const ROLLS = [
+export const ROLLS = [
   "unadjusted", "following", "preceding", "modifiedFollowing", "modifiedPreceding", "nearestIsda", "nearestQuantLib",
 ];
 
@@ -23,7 +23,7 @@ const MOST_DAYS = 2 ** 31;
 const USUAL_WEEKEND = [6, 7];
 
 /** The number of a name in a list; RangeError if it is not there. */
-function placeOf(name, names, what) {
+export function placeOf(name, names, what) {
   const place = names.indexOf(name);
   if (place < 0) {
     throw new RangeError(`${what} ${String(name)}: it is one of ${names.join(", ")}`);
@@ -31,10 +31,22 @@ function placeOf(name, names, what) {
   return place;
 }
 
+/** The weekend of a calendar and its holidays, as the library takes them; a TypeError for what is no calendar. */
+export let closedOf;
+
 /** A calendar of open days: each day but those of a weekend and holidays. */
 export class BusinessCalendar {
   #weekend;
   #holidays;
+
+  static {
+    closedOf = (calendar) => {
+      if (!(calendar instanceof BusinessCalendar)) {
+        throw new TypeError("a BusinessCalendar is wanted");
+      }
+      return calendar.#days;
+    };
+  }
 
   /**
    * The calendar of a weekend, which is a list of weekdays from 1 for Monday to 7, and of holidays. It is Saturday and Sunday, and no

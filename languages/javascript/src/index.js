@@ -3,6 +3,7 @@
  */
 
 export { BusinessCalendar, dayCount, easter } from "./business_calendar.js";
+export * as columns from "./columns.js";
 export { Duration } from "./duration.js";
 export { Instant } from "./instant.js";
 export { version } from "./layers.js";
@@ -10,6 +11,7 @@ export { Pattern } from "./pattern.js";
 export { daysUntil, isLeapYear, PlainDate } from "./plain_date.js";
 export { PlainDateTime } from "./plain_date_time.js";
 export { Rule } from "./rule.js";
+export { RuleSet } from "./rule_set.js";
 export { Schedule } from "./schedule.js";
 export { TextError } from "./text_error.js";
 export { Zone } from "./zone.js";

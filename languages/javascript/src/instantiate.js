@@ -6,7 +6,7 @@ export function instantiate(text) {
   try {
     return new WebAssembly.Instance(new WebAssembly.Module(bytes)).exports;
   } catch (cause) {
-    const hosts = "Chromium 115, Firefox 78, Safari 15 or node 20";
+    const hosts = "Chromium 115, Firefox 93, Safari 16.4 or node 20";
     throw new Error(`the module does not load here: it needs WebAssembly as ${hosts} have it`, { cause });
   }
 }

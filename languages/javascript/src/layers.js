@@ -4,6 +4,7 @@
  * They take what lies in memory behind all that the module itself uses: texts, patterns, schedules, holidays, date-times and zones.
  */
 
+import { callInPieces, ROOM_PAGES } from "./column_room.js";
 import { instantiate } from "./instantiate.js";
 import { MODULE } from "./layers_module.js";
 import { NONE } from "./library.js";
@@ -16,7 +17,7 @@ const PAGE = 65_536;
 /** Where things lie in the room: what is wrong, two date-times, an answer, a schedule, date-times, holidays, a text, a pattern, a zone. */
 const [FAULT, FIRST, SECOND, ANSWER, SCHEDULE, DUE, HOLIDAYS, TEXT, PATTERN, ZONE] = [0, 32, 48, 64, 128, 1_024, 2_048, 8_192, PAGE, 2 * PAGE];
 
-/** How many bytes the room has. */
+/** How many bytes the room has. That of columns lies behind it. */
 const ROOM = 3 * PAGE;
 
 /** A text, or a pattern, has at most so many bytes. */
@@ -55,7 +56,7 @@ let opened;
 function open() {
   if (opened === undefined) {
     const layers = instantiate(MODULE);
-    const start = layers.memory.grow(ROOM / PAGE) * PAGE;
+    const start = layers.memory.grow(ROOM / PAGE + ROOM_PAGES) * PAGE;
     const { buffer } = layers.memory;
     opened = { layers, start, view: new DataView(buffer, start, ROOM), bytes: new Uint8Array(buffer, start, ROOM) };
   }
@@ -205,6 +206,17 @@ export function openDaysBetween(calendar, from, to) {
 export function rolled(calendar, date, roll) {
   const room = open();
   return room.layers.calendar_roll(...putCalendar(room, calendar), date, roll);
+}
+
+/** Calls a function of columns, which `choose` finds, for so many elements. */
+export function callOnColumns(count, choose, ...given) {
+  const { layers, start } = open();
+  callInPieces({ memory: layers.memory, start: start + ROOM }, count, choose(layers), ...given);
+}
+
+/** The same of a function of a calendar. */
+export function callOnOpenDays(calendar, count, choose, ...given) {
+  callOnColumns(count, choose, ...putCalendar(open(), calendar), ...given);
 }
 
 /** The part of a year from one date to another by a day count, as two numbers. */

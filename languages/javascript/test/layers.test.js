@@ -9,7 +9,7 @@ import { inspect } from "node:util";
 import { test } from "node:test";
 
 import {
-  BusinessCalendar, dayCount, easter, Pattern, PlainDate, PlainDateTime, Rule, Schedule, TextError, version, Zone, ZonedDateTime,
+  BusinessCalendar, dayCount, easter, Pattern, PlainDate, PlainDateTime, Rule, RuleSet, Schedule, TextError, version, Zone, ZonedDateTime,
 } from "proved-calendar";
 
 const refused = (call) => assert.throws(call, RangeError);
@@ -262,6 +262,48 @@ test("rule_instances", () => {
   assert.deepEqual(texts(new Rule("FREQ=WEEKLY;COUNT=3", "2024-02-01")), ["2024-02-01", "2024-02-08", "2024-02-15"]);
   assert.deepEqual(texts(new Rule("FREQ=DAILY", "+262142-12-31")), ["+262142-12-31"]);
   refused(() => daily.iterate({ from: "2024-02-30" }));
+});
+
+/** Fridays and the last day of each month, from March 2024 on; 13 March is added, and the 29th left out. */
+const MEETINGS = new RuleSet({
+  rules: [new Rule("FREQ=WEEKLY;BYDAY=FR", "2024-03-01"), new Rule("FREQ=MONTHLY;BYMONTHDAY=-1", "2024-03-01")],
+  dates: ["2024-03-31", "2024-03-13", "2024-03-13"],
+  exceptDates: ["2024-03-29"],
+});
+
+test("sets of rules", () => {
+  const march = ["2024-03-01", "2024-03-08", "2024-03-13", "2024-03-15", "2024-03-22", "2024-03-31"];
+  assert.deepEqual(texts(MEETINGS.iterate({ until: "2024-03-31" })), march);
+  assert.deepEqual(texts(MEETINGS.iterate({ from: "2024-03-13", until: "2024-03-22" })), march.slice(2, 5));
+  assert.deepEqual(texts(MEETINGS.iterate({ until: "2024-03-13" })), march.slice(0, 3));
+  assert.deepEqual(texts(MEETINGS.iterate({ from: "2024-03-14", until: "2024-03-14" })), []);
+  assert.deepEqual(march.map((it) => MEETINGS.includes(it)), march.map(() => true));
+  assert.deepEqual(["2024-03-29", "2024-03-02", "2024-02-29"].map((it) => MEETINGS.includes(it)), [false, false, false]);
+  assert.deepEqual(march.slice(0, -1).map((it) => `${MEETINGS.nextAfter(it)}`), march.slice(1));
+  assert.deepEqual(march.slice(1).map((it) => `${MEETINGS.previousBefore(it)}`), march.slice(0, -1));
+  assert.equal(MEETINGS.previousBefore("2024-03-01"), undefined);
+  const walk = MEETINGS[Symbol.iterator]();
+  assert.deepEqual([walk.next(), walk.next()].map((it) => `${it.value}`), march.slice(0, 2));
+});
+
+test("sets of rules with an end", () => {
+  const rules = [new Rule("FREQ=DAILY;COUNT=4", "2024-03-01")];
+  const set = new RuleSet({ rules, exceptRules: [new Rule("FREQ=DAILY;INTERVAL=2", "2024-03-01")], exceptDates: ["2024-03-04"] });
+  assert.deepEqual(texts(set), ["2024-03-02"]);
+  assert.deepEqual([set.nextAfter("2024-03-02"), set.includes("2024-03-01"), set.includes("2024-03-02")], [undefined, false, true]);
+  assert.deepEqual(texts(new RuleSet({ dates: ["2024-03-04", "2024-03-01", "2024-03-04"] })), ["2024-03-01", "2024-03-04"]);
+  assert.equal(`${new RuleSet({ dates: ["2024-03-04", "2024-03-01"] }).previousBefore("2024-03-05")}`, "2024-03-04");
+  assert.deepEqual([texts(new RuleSet()), new RuleSet().nextAfter("2024-03-01"), new RuleSet({}).previousBefore("2024-03-01")], [[], undefined, undefined]);
+  assert.deepEqual([texts(MEETINGS.dates), texts(MEETINGS.exceptDates), MEETINGS.rules.length, set.exceptRules.length], [["2024-03-13", "2024-03-31"], ["2024-03-29"], 2, 1]);
+  set.rules.pop();
+  assert.deepEqual([set.rules.length, `${set.rules[0]}`, Object.prototype.toString.call(set)], [1, "FREQ=DAILY;COUNT=4", "[object RuleSet]"]);
+  for (const options of [{ rules: ["FREQ=DAILY"] }, { exceptRules: [7] }, { dates: [7] }, 7, { rules: 7 }]) {
+    assert.throws(() => new RuleSet(options), TypeError);
+  }
+  refused(() => new RuleSet({ dates: ["2024-02-30"] }));
+  refused(() => set.includes("2024-02-30"));
+  refused(() => set.iterate({ from: "" }));
+  assert.throws(() => set.iterate({ until: null }), TypeError);
 });
 
 /** What a text that is wrong throws: where, and why. */

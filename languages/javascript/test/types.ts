@@ -1,4 +1,7 @@
-import { BusinessCalendar, dayCount, daysUntil, Duration, easter, Instant, isLeapYear, Pattern, PlainDate, PlainDateTime, Rule, Schedule, TextError, Zone, ZonedDateTime } from "proved-calendar";
+import {
+  BusinessCalendar, columns, dayCount, daysUntil, Duration, easter, Instant, isLeapYear, Pattern, PlainDate, PlainDateTime, Rule, RuleSet, Schedule,
+  TextError, Zone, ZonedDateTime,
+} from "proved-calendar";
 
 const due: PlainDate = new PlainDate(2024, 2, 29).add({ years: 1 }, { overflow: "constrain" });
 const weeks: number = due.until("2026-01-01", { largestUnit: "weeks" }).weeks;
@@ -18,7 +21,11 @@ const place = (wrong: TextError): [number, number, string] => [wrong.start, wron
 const seconds: Duration = Instant.from("2024-02-29T12:00Z").until(new Instant(0n), { largestUnit: "hours" });
 const ruleDays: PlainDate[] = [...new Rule("FREQ=DAILY;COUNT=3", due)];
 const patterns: [string, PlainDate, PlainDateTime] = [new Pattern("%F").format(due), new Pattern("%F").parseDate("2024-02-29"), new Pattern("%s").parseDateTime("0")];
-export const more = [patterns, ruleDays, known, next, third, seconds, part, place, calendar.add(due, 2).dayNumber];
+const set: PlainDate | undefined = new RuleSet({ rules: [new Rule("FREQ=DAILY", due)], exceptDates: ["2024-03-01"] }).nextAfter(due);
+const column: Int32Array = columns.addMonths(columns.fromTexts(["2024-01-31", null]), 1);
+const told: [Uint8Array, string[], number] = [columns.fields(column).months, columns.texts(column), columns.NO_DATE];
+const open: Int32Array = columns.openDaysBetween(columns.roll(column, "following", calendar), due, calendar);
+export const more = [set, told, open, patterns, ruleDays, known, next, third, seconds, part, place, calendar.add(due, 2).dayNumber];
 const timeZone = new Zone("CET-1CEST,M3.5.0,M10.5.0/3", "Europe/Berlin");
 const nightly: ZonedDateTime | undefined = new Schedule("30 2 * * *").nextInZone(ZonedDateTime.from(due, { timeZone, disambiguation: "later" }));
 export const zoned = [nightly?.with({ hour: 3 }).offset, ZonedDateTime.from({ year: 2024, month: 2, day: 29, timeZone }).hoursInDay];

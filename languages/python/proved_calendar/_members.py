@@ -203,7 +203,8 @@ class DateTime:
         >>> print(DateTime.fromisoformat('2024-07-01T10:00:00Z').astimezone(berlin))
         2024-07-01T12:00:00+02:00
         """
-        utc = utc_of(self)
+        is_utc = self.tzinfo is datetime.timezone.utc and not self.fold
+        utc = self if is_utc and wanted(tz) is not None else utc_of(self)
         zone = local_zone(utc) if wanted(tz) is None else tz
         return self if zone is self.tzinfo else from_utc(utc, zone)
 

@@ -110,6 +110,35 @@ def nanoseconds_of_text(text: str) -> int:
     return -whole if found["sign"] == "-" else whole
 
 
+# ---- the bytes that datetime pickles
+
+
+def _bytes_of(state: Any, length: int) -> bytes | None:
+    """The bytes that datetime pickles, of which Python 2 made a text; None for other bytes and texts."""
+    try:
+        found: bytes = state.encode("latin-1") if isinstance(state, str) else state
+    except UnicodeEncodeError:
+        return None
+    return found if len(found) == length else None
+
+
+def date_of_state(kind: Any, arguments: tuple[Any, ...]) -> Any:
+    """The date of a type that datetime pickled as these arguments, or None if they are no such."""
+    found = _bytes_of(arguments[0], 4)
+    if len(arguments) > 1 or not found or not 1 <= found[2] <= 12:
+        return None
+    return kind(int.from_bytes(found[:2], "big"), found[2], found[3])
+
+
+def date_time_of_state(kind: Any, arguments: tuple[Any, ...]) -> Any:
+    """The date-time of a type that datetime pickled as these arguments, or None if they are no such. The highest digit of the month is the fold."""
+    found = _bytes_of(arguments[0], 10)
+    if len(arguments) > 2 or not found or not 1 <= found[2] % 128 <= 12:
+        return None
+    parts = int.from_bytes(found[:2], "big"), found[2] % 128, *found[3:7], int.from_bytes(found[7:], "big")
+    return kind(*parts, *arguments[1:], fold=found[2] // 128)
+
+
 # ---- parts of a sequence of instances
 
 

@@ -12,12 +12,13 @@ _DAY = Duration(days=1)
 _DAY_SECONDS = 86_400
 
 
-def _theirs(moment: Any) -> datetime.datetime:
-    """The datetime with the same zone that shows the same time, without what is below a microsecond."""
+def _theirs(moment: Any, zone: Any, fold: int) -> datetime.datetime:
+    """The datetime of a zone that shows the same time, without what is below a microsecond."""
+    date = moment.date
+    if not 1 <= date.year <= 9999:
+        raise OverflowError(f"year {date.year}: a time zone is asked about the years 1 to 9999")
     clock = moment.hour, moment.minute, min(moment.second, 59), moment.microsecond
-    if not 1 <= moment.year <= 9999:
-        raise OverflowError(f"year {moment.year}: a time zone is asked about the years 1 to 9999")
-    return datetime.datetime(moment.year, moment.month, moment.day, *clock, tzinfo=moment.tzinfo, fold=moment.fold)
+    return datetime.datetime(date.year, date.month, date.day, *clock, zone, fold=fold)
 
 
 def asked(moment: Any, name: str) -> Any:
@@ -25,7 +26,7 @@ def asked(moment: Any, name: str) -> Any:
     zone = moment.tzinfo
     if zone is None:
         return None
-    return getattr(zone, name)(None if isinstance(zone, datetime.timezone) else _theirs(moment))
+    return getattr(zone, name)(None if isinstance(zone, datetime.timezone) else _theirs(moment, zone, moment.fold))
 
 
 def length_asked(moment: Any, name: str) -> Duration | None:
@@ -65,14 +66,13 @@ def _of_offsets(moment: Any, zone: Any) -> Any:
 
 
 def from_utc(moment: Any, zone: Any) -> Any:
-    """The date-time of a zone at the instant at which UTC shows a date-time without one."""
+    """The date-time of a zone at the instant at which UTC shows a date-time, which has no other zone."""
     if isinstance(zone, datetime.timezone):
         return (moment + zone.utcoffset(None)).replace(tzinfo=zone)
     if type(zone).fromutc is datetime.tzinfo.fromutc:
         return _of_offsets(moment, zone)
-    theirs = zone.fromutc(_theirs(moment.replace(tzinfo=zone)))
-    shown = type(moment).from_datetime(theirs)
-    return shown.replace(nanosecond=moment.nanosecond)
+    shown = type(moment).from_datetime(zone.fromutc(_theirs(moment, zone, 0)))
+    return shown if shown.nanosecond == moment.nanosecond else shown.replace(nanosecond=moment.nanosecond)
 
 
 # ---- the clock of this machine

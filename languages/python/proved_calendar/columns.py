@@ -27,6 +27,7 @@ from __future__ import annotations
 import ctypes
 import datetime as _datetime
 import functools
+import zoneinfo as _zoneinfo
 from collections.abc import Callable, Iterable
 from typing import Any, NamedTuple, SupportsIndex
 
@@ -47,8 +48,8 @@ _ROLLS = (
     "unadjusted", "following", "preceding", "modified_following", "modified_preceding", "nearest_isda", "nearest_quantlib",
 )
 _DAY_COUNTS = ("actual_actual_isda", "actual_360", "actual_365_fixed", "thirty_360", "thirty_e_360")
-# Where times are counted from.
-_EPOCH = _datetime.datetime(1970, 1, 1, tzinfo=_datetime.timezone.utc)
+# The first and the last second of datetime's years, since 1970.
+_FIRST_SECOND, _LAST_SECOND = -62_135_596_800, 253_402_300_799
 # The bytes of a date-time's text in a column.
 _TIME_TEXT = 32
 
@@ -476,8 +477,9 @@ def next_due(times: Any, schedule: Any) -> Any:
 def offsets(times: Any, zone: _datetime.tzinfo) -> Any:
     """Returns how far the clock of a time zone is ahead of UTC at each time of UTC, as timedelta64[s].
 
-    zone is a tzinfo, such as ZoneInfo('Europe/Berlin'). It is asked once for each different second of 32,768 times. Where its clock
-    shows no year from 1 to 9999, the offset is NaT.
+    zone is a tzinfo, such as ZoneInfo('Europe/Berlin'). It is asked at most once for each different second of 32,768 times. A ZoneInfo
+    is asked at the first and the last of them in each day; only if it then answers differently, so that its clock is changed in between,
+    it is asked at all. No zone changes its clock twice in a day. Where a clock shows no year from 1 to 9999, the offset is NaT.
     """
     column = _times_of(times)
     if not isinstance(zone, _datetime.tzinfo):
@@ -488,17 +490,41 @@ def offsets(times: Any, zone: _datetime.tzinfo) -> Any:
         # (an hour further away is of no year of four digits)
         seconds = part // (unit // 86_400) if unit >= 86_400 else _np.clip(part, -(2**40), 2**40) * (86_400 // unit)
         different, places = _np.unique(_np.where(part == NAT, NAT, seconds), return_inverse=True)
-        out[piece] = _np.array([_offset_at(zone, int(it)) for it in different], "m8[s]")[places]
+        out[piece] = _offsets_at(zone, different).view("m8[s]")[places]
     return out.reshape(column.shape)
+
+
+def _offsets_at(zone: _datetime.tzinfo, seconds: Any) -> Any:
+    """The same at each of some seconds, which rise."""
+    if type(zone) is not _zoneinfo.ZoneInfo or seconds.size == 0:
+        return _asked_at(zone, seconds)
+    days = seconds // 86_400
+    firsts = _np.flatnonzero(_np.append(True, days[1:] != days[:-1]))
+    ends = _np.append(firsts[1:], seconds.size)
+    at_first = _asked_at(zone, seconds[firsts])
+    found = _np.repeat(at_first, ends - firsts)
+    several = _np.flatnonzero(ends - firsts > 1)
+    for day in several[_asked_at(zone, seconds[ends[several] - 1]) != at_first[several]].tolist():
+        found[firsts[day]:ends[day]] = _asked_at(zone, seconds[firsts[day]:ends[day]])
+    return found
+
+
+def _asked_at(zone: _datetime.tzinfo, seconds: Any) -> Any:
+    """The same, for which the zone is asked at each second."""
+    return _np.array([_offset_at(zone, it) for it in seconds.tolist()], _np.int64)
 
 
 def _offset_at(zone: _datetime.tzinfo, second: int) -> int:
     """The seconds by which a clock is ahead at a second since 1970, or NAT."""
+    if not _FIRST_SECOND <= second <= _LAST_SECOND:
+        return NAT
     try:
-        ahead = (_EPOCH + _datetime.timedelta(seconds=second)).astimezone(zone).utcoffset()
+        ahead = _datetime.datetime.fromtimestamp(second, zone).utcoffset()
     except OverflowError:
         return NAT
-    return NAT if ahead is None else round(ahead.total_seconds())
+    if ahead is None or ahead.microseconds:
+        return NAT if ahead is None else round(ahead.total_seconds())
+    return ahead.days * 86_400 + ahead.seconds
 
 
 def time_texts(times: Any) -> Any:

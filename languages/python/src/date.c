@@ -66,8 +66,11 @@ int32_t number_of_name(int64_t year, int64_t month, int64_t day)
 
 static PyObject *date_new(PyTypeObject *kind, PyObject *arguments, PyObject *keywords)
 {
-    PyObject *parts[PARTS];
+    PyObject *parts[PARTS], *made;
     int64_t year, month, day;
+    if (is_made_of_state(kind, arguments, keywords, "date_of_state", &made)) {
+        return made;
+    }
     if (!take_tuple(&of_name, arguments, keywords, parts) || !read_whole(parts[0], &year) || !read_whole(parts[1], &month)
         || !read_whole(parts[2], &day)) {
         return NULL;

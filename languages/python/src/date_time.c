@@ -256,10 +256,14 @@ static bool begins_with_year(PyObject *arguments, PyObject *keywords)
 
 static PyObject *date_time_new(PyTypeObject *kind, PyObject *arguments, PyObject *keywords)
 {
+    PyObject *made;
     int32_t number;
     int64_t clock[CLOCK] = {0};
     calendar_date_time moment;
     Zoning zoning = {0};
+    if (is_made_of_state(kind, arguments, keywords, "date_time_of_state", &made)) {
+        return made;
+    }
     bool is_read = begins_with_year(arguments, keywords) ? read_named(arguments, keywords, &number, clock, &zoning)
                                                          : read_dated(arguments, keywords, &number, clock, &zoning);
     return is_read && moment_at(number, clock, &moment) ? with_zoning(new_date_time(kind, moment, number), zoning) : NULL;

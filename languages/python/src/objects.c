@@ -112,6 +112,21 @@ PyObject *reduced(PyObject *self, PyObject *maker, PyObject *arguments)
     return result;
 }
 
+bool is_made_of_state(PyTypeObject *kind, PyObject *arguments, PyObject *keywords, const char *name, PyObject **made)
+{
+    bool has_keywords = keywords && PyDict_Size(keywords) > 0;
+    PyObject *first = PyTuple_Size(arguments) > 0 && !has_keywords ? PyTuple_GetItem(arguments, 0) : NULL;
+    if (!first || !(PyBytes_Check(first) || PyUnicode_Check(first))) {
+        return false;
+    }
+    *made = by_python(name, "(OO)", (PyObject *)kind, arguments);
+    if (*made == Py_None) {
+        Py_CLEAR(*made);
+        return false;
+    }
+    return true;
+}
+
 /* Whether a format has a percent sign; -1 with an error if it is no text. */
 static int has_percent(PyObject *format)
 {

@@ -148,6 +148,10 @@ static inline Py_hash_t hash_of(int64_t seconds, uint32_t nanos)
 /* What pickle keeps of an object: how it is made again, and the attributes that a user's class gave it. Takes both references. */
 PyObject *reduced(PyObject *self, PyObject *maker, PyObject *arguments);
 
+/* Whether the arguments of a type are the bytes that datetime pickles for its values, or a text of them. A function of the package makes
+ * the value: None if they are no such bytes, and null with an error if they are those of no value. */
+bool is_made_of_state(PyTypeObject *kind, PyObject *arguments, PyObject *keywords, const char *name, PyObject **made);
+
 /* The text of an object in a width, as `format` has it for texts; or by its strftime, if the format has a percent sign. */
 PyObject *formatted(PyObject *self, PyObject *format);
 
@@ -239,8 +243,9 @@ bool take_moment(PyObject *it, calendar_date_time *moment);
 /* The last date-time of the calendar. */
 calendar_date_time last_moment(void);
 
-/* ---- schedules, rules and open days (schedule.c, rule.c, business.c) */
+/* ---- patterns, schedules, rules and open days (pattern.c, schedule.c, rule.c, business.c) */
 
+bool make_pattern_type(PyObject *module);
 bool make_schedule_types(PyObject *module);
 bool make_rule_types(PyObject *module);
 bool make_business_type(PyObject *module);

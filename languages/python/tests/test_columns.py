@@ -8,8 +8,8 @@ import random
 import threading
 import tracemalloc
 import unittest
-from datetime import date, datetime, timedelta, timezone
-from zoneinfo import ZoneInfo
+from datetime import date, datetime, timedelta, timezone, tzinfo
+from zoneinfo import ZoneInfo, available_timezones
 
 try:
     import numpy
@@ -415,9 +415,43 @@ class Times(Columns):
         change = numpy.array([["2024-03-31T00:59:59.999", "2024-03-31T01:00"], ["NaT", "1880-01-01T00:00"]], "M8[ms]")
         self.assertEqual(columns.offsets(change, berlin).astype("i8").tolist(), [[3_600, 7_200], [NAT, 3_208]])
         self.assertEqual(columns.offsets(change[:, ::-1], timezone(timedelta(hours=-3))).astype("i8")[0].tolist(), [-10_800, -10_800])
+        self.assertEqual(columns.offsets(change[:1, :1], timezone(timedelta(milliseconds=3_600))).astype("i8").tolist(), [[4]])
         self.assertEqual(columns.offsets(change[:0], utc).shape, (0, 2))
         self.assertRaises(TypeError, columns.offsets, change, "Europe/Berlin")
         self.assertRaises(TypeError, columns.offsets, change.astype("M8[D]"), utc)
+
+    def test_offsets_of_all_zones(self):
+        """Seconds of a few days each, so that many are in one day: beside changes of the clock, and anywhere."""
+        chance = random.Random(11)
+        for name in sorted(available_timezones()):
+            zone = ZoneInfo(name)
+            starts = [chance.randrange(-3 * 10**9, 5 * 10**9) for _ in range(3)] + [year * 31_556_952 + 86_400 * chance.randrange(60, 330) for year in (40, 54)]
+            seconds = sorted(start + chance.randrange(12 * 86_400) for start in starts for _ in range(60))
+            wanted = [datetime.fromtimestamp(it, zone).utcoffset() for it in seconds]
+            times = numpy.array(seconds, "M8[s]")
+            self.assertEqual(columns.offsets(times, zone).astype("O").tolist(), wanted, name)
+
+    def test_asks_of_a_zone(self):
+        """A ZoneInfo is asked twice a day, but for days in which its clock changes; another zone at each second."""
+        class Counted(tzinfo):
+            count = 0
+
+            def fromutc(self, moment):
+                Counted.count += 1
+                return berlin.fromutc(moment.replace(tzinfo=berlin))
+
+        berlin, asked = ZoneInfo("Europe/Berlin"), columns._offset_at
+        times = numpy.arange("2024-03-30", "2024-04-01", 3_600, dtype="M8[s]")
+        columns.offsets(times, Counted())
+        self.assertEqual(Counted.count, 48)
+        seen = []
+        columns._offset_at = lambda zone, it: (seen.append(it), asked(zone, it))[1]
+        try:
+            found = columns.offsets(times, berlin)
+        finally:
+            columns._offset_at = asked
+        self.assertEqual(found.astype("i8").tolist(), [3_600] * 25 + [7_200] * 23)
+        self.assertEqual(len(seen), 4 + 24)
 
     def test_next_due(self):
         for unit in UNITS:

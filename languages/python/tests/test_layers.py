@@ -10,7 +10,7 @@ import threading
 import unittest
 from fractions import Fraction
 
-from proved_calendar import BusinessCalendar, Date, DateTime, Duration, Rule, RuleSet, Schedule, TextError, Weekday, day_count, easter
+from proved_calendar import BusinessCalendar, Date, DateTime, Duration, Pattern, Rule, RuleSet, Schedule, TextError, Weekday, day_count, easter
 
 MON, TUE, WED, THU, FRI, SAT, SUN = Weekday
 GOOD_FRIDAY, EASTER_MONDAY = Date(2024, 3, 29), Date(2024, 4, 1)
@@ -431,6 +431,67 @@ class OpenDays(unittest.TestCase):
         self.assertRaises(AttributeError, setattr, EASTER, "weekend", (1,))
 
 
+class Patterns(unittest.TestCase):
+    def wrong(self, call, text, start, end, said):
+        """A call refuses a part of a text."""
+        with self.assertRaises(TextError) as found:
+            call(text)
+        error = found.exception
+        self.assertEqual((error.text, error.start, error.end, str(error)), (text, start, end, said))
+
+    def test_writing(self):
+        day, moment = Date(2024, 2, 29), DateTime(2024, 3, 1, 13, nanosecond=500_000_000)
+        for text, value, wanted in (
+            ("%d.%m.%Y", day, "29.02.2024"), ("%A %-e %B, week %V of %G", day, "Thursday 29 February, week 09 of 2024"), ("", day, ""),
+            ("%-d. M\u00e4rz \U0001f600 100%%", day, "29. M\u00e4rz \U0001f600 100%"), ("x" * 1_000, day, "x" * 1_000), ("%F", moment, "2024-03-01"),
+            ("%I:%M:%S%.f %p, %s", moment, "01:00:00.500 PM, 1709298000"), ("%Y", Date(-1, 3, 1), "-0001"),
+            ("%F", datetime.date(2024, 2, 29), "2024-02-29"), ("%F %T", datetime.datetime(2024, 2, 29, 12), "2024-02-29 12:00:00"),
+        ):
+            self.assertEqual(Pattern(text).format(value), wanted)
+        for text, value in (("%F %H", day), ("%z", day), ("%T %z", moment), ("x" * 1_001, day)):
+            self.assertRaisesRegex(ValueError, "^'.*' asks for what 2024-0", Pattern(text).format, value)
+        self.assertRaises(ValueError, Pattern("%F").format, moment.replace(tzinfo=datetime.timezone.utc))
+        for value in ("2024-02-29", None, 1):
+            self.assertRaises(TypeError, Pattern("%F").format, value)
+
+    def test_reading(self):
+        self.assertEqual(Pattern("%d %b %Y").parse_date("29 feb 2024"), Date(2024, 2, 29))
+        self.assertEqual(Pattern("%F %R").parse_date_time("2024-03-01 13:00"), DateTime(2024, 3, 1, 13))
+        self.assertEqual(Pattern("%FT%T%.f").parse_date_time("2024-02-29T23:59:60.5"), DateTime(2024, 2, 29, 23, 59, 60, 500_000))
+        self.assertEqual(Pattern("%s").parse_date_time("0"), DateTime(1970, 1, 1))
+        pattern, moment = Pattern("%d.%m.%Y"), Pattern("%F %R")
+        for text, start, said in (
+            ("29.", 3, "the text ends before its pattern"), ("29.2.2024x", 9, "the text goes on behind its pattern"),
+            ("29-2", 2, "not of the pattern"), ("29.13", 3, "a number that is out of range"), ("29.2.2023", 9, "no such day or time"),
+        ):
+            self.wrong(pattern.parse_date, text, start, len(text), said)
+        self.wrong(Pattern("%d.%m.").parse_date, "29.2.", 5, 5, "too few fields for a day or a time")
+        self.wrong(moment.parse_date_time, "2024-03-01 25:00", 11, 16, "a number that is out of range")
+        # (places are characters, and not bytes)
+        self.wrong(Pattern("\U0001f600\u00e9%F").parse_date, "\U0001f600\u00e82024-02-29", 1, 12, "not of the pattern")
+        for call in (pattern.parse_date, moment.parse_date_time):
+            self.assertRaises(TypeError, call, b"29.2.2024")
+            self.assertRaises(UnicodeEncodeError, call, "\ud800")
+
+    def test_wrong_patterns(self):
+        self.wrong(Pattern, "%Y-%Q", 3, 5, "no such specifier")
+        self.wrong(Pattern, "\u00e4 100%", 5, 6, "the pattern ends within a specifier")
+        for wrong in (None, b"%F", 1):
+            self.assertRaises(TypeError, Pattern, wrong)
+        self.assertRaises(TypeError, Pattern)
+
+    def test_values(self):
+        for text in ("%d.%m.%Y", "", "M\u00e4rz"):
+            it = Pattern(text)
+            self.assertEqual((it.text, str(it), repr(it)), (text, text, f"Pattern({text!r})"))
+            for again in (eval(repr(it)), copy.copy(it), copy.deepcopy(it), pickle.loads(pickle.dumps(it))):
+                self.assertEqual((again, hash(again)), (it, hash(it)))
+        self.assertEqual(len({Pattern("%F"), Pattern("%F"), Pattern("%D")}), 2)
+        self.assertTrue(Pattern("%F") != Pattern("%D") and Pattern("%F") != "%F")
+        self.assertRaises(TypeError, lambda: Pattern("%F") < Pattern("%D"))
+        self.assertRaises(AttributeError, setattr, Pattern("%F"), "text", "%D")
+
+
 class DayCounts(unittest.TestCase):
     def test_day_count(self):
         start, end = Date(2003, 11, 1), Date(2004, 5, 1)
@@ -463,7 +524,9 @@ class Memory(unittest.TestCase):
             EASTER.add(GOOD_FRIDAY, 3), EASTER.roll(GOOD_FRIDAY, "following"), day_count(GOOD_FRIDAY, EASTER_MONDAY, "actual_360")
             [*TIMED], TIMED[-1], TIMED[1:2], next(iter(FRIDAYS)), FRIDAYS.between(JANUARY, Date(2025, 1, 1)), FRIDAYS.after(JANUARY)
             pickle.loads(pickle.dumps((TIMED, FRIDAYS))), hash(TIMED), repr(TIMED), TIMED.before(DateTime.max), TIMED.start, TIMED.text
-            for wrong in (lambda: Rule("x", JANUARY), lambda: FRIDAYS.after(1), lambda: TIMED[9], lambda: TIMED["1"], lambda: Schedule("x"), lambda: BusinessCalendar([1]), lambda: EASTER.roll(GOOD_FRIDAY, "x"),
+            pattern = pickle.loads(pickle.dumps(Pattern("%F")))
+            pattern.parse_date(pattern.format(JANUARY)), pattern.text, repr(pattern), hash(pattern), Pattern("%F %T").format(DateTime.max)
+            for wrong in (lambda: Pattern("%"), lambda: pattern.parse_date("x"), lambda: pattern.parse_date_time("2024-02-29"), lambda: pattern.format(1), lambda: Rule("x", JANUARY), lambda: FRIDAYS.after(1), lambda: TIMED[9], lambda: TIMED["1"], lambda: Schedule("x"), lambda: BusinessCalendar([1]), lambda: EASTER.roll(GOOD_FRIDAY, "x"),
                           lambda: EASTER.add(GOOD_FRIDAY, 10**10), lambda: BusinessCalendar([], [9])):
                 try:
                     wrong()

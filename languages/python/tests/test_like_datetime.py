@@ -3,6 +3,7 @@
 timestamps, formats, durations that are multiplied and divided, times of day, and values that are equal with equal hashes."""
 import datetime
 import doctest
+import io
 import math
 import os
 import pickle
@@ -19,7 +20,7 @@ except ImportError:
     pandas = None
 
 import proved_calendar
-from proved_calendar import BusinessCalendar, Date, DateTime, Duration, Instant, Rule, RuleSet, Schedule, Time
+from proved_calendar import BusinessCalendar, Date, DateTime, Duration, Instant, Pattern, Rule, RuleSet, Schedule, Time
 
 COUNT = 500
 MICROSECOND = timedelta(microseconds=1)
@@ -55,6 +56,54 @@ class Cases(unittest.TestCase):
         """A whole number or a float, near to 0 or far."""
         whole = self.chance.choice((-1, 1)) * self.chance.randrange(10 ** self.chance.randint(1, 7))
         return self.chance.choice((whole, whole / 8, whole / 7, whole * 1e-9))
+
+
+class Ours(pickle.Unpickler):
+    """Reads the pickles of datetime as values of ours."""
+
+    def find_class(self, module, name):
+        found = {"date": Date, "datetime": DateTime}
+        return found[name] if module == "datetime" and name in found else super().find_class(module, name)
+
+
+class PickledByDatetime(Cases):
+    def read(self, data):
+        return Ours(io.BytesIO(data), encoding="latin-1").load()
+
+    def test_values(self):
+        zone = datetime.timezone(timedelta(hours=-3))
+        for _ in range(COUNT):
+            moment = self.a_moment()
+            both = moment.replace(tzinfo=zone), moment.replace(fold=1), moment.replace(tzinfo=zone, fold=1)
+            for it in (self.a_date(), moment, *both):
+                for protocol in range(pickle.HIGHEST_PROTOCOL + 1):
+                    found = self.read(pickle.dumps(it, protocol))
+                    self.assertEqual(found, it)
+                    self.assertNotIsInstance(found, type(it))
+                    # (before protocol 4 datetime keeps no fold)
+                    wanted = getattr(it, "fold", None) if protocol > 3 else getattr(pickle.loads(pickle.dumps(it, protocol)), "fold", None)
+                    self.assertEqual((getattr(found, "tzinfo", None), getattr(found, "fold", None)), (getattr(it, "tzinfo", None), wanted))
+
+    def test_texts_of_python_2(self):
+        self.assertEqual(self.read(b"cdatetime\ndate\n(S'\\x07\\xdf\\x0b\\x1b'\ntR."), Date(2015, 11, 27))
+        moment = self.read(b"cdatetime\ndatetime\n(S'\\x07\\xdf\\x0b\\x1b\\x14;\\x01\\x00\\x10\\x00'\ntR.")
+        self.assertEqual(moment, DateTime(2015, 11, 27, 20, 59, 1, 4_096))
+
+    def test_other_bytes(self):
+        class Day(Date):
+            pass
+
+        day = Day(b"\x07\xdf\x0b\x1b")
+        self.assertEqual((type(day), day), (Day, Date(2015, 11, 27)))
+        for state in (b"", b"1995", "1995", b"\x07\xdf\0\x1b", b"\x07\xdf\r\x1b", b"\x07\xdf\x0b\x1b\0", "\u20ac\x07\x0b\x1b"):
+            self.assertRaises(TypeError, Date, state)
+        for state in (b"1995-03-25", "2024-02-29", b"\x07\xdf\x0b\x1b", b"\x07\xdf\0\x1b\x14;\x01\0\x10\0", b"\x07\xdf\x8d\x1b\x14;\x01\0\x10\0"):
+            self.assertRaises(TypeError, DateTime, state)
+        self.assertRaises(TypeError, Date, b"\x07\xdf\x0b\x1b", None)
+        self.assertRaises(TypeError, DateTime, b"\x07\xdf\x0b\x1b\x14;\x01\0\x10\0", None, None)
+        self.assertRaises(TypeError, DateTime, b"\x07\xdf\x0b\x1b\x14;\x01\0\x10\0", "EST")
+        self.assertRaises(ValueError, Date, b"\x07\xdf\x0b\x1f")
+        self.assertRaises(ValueError, DateTime, b"\x07\xdf\x0b\x1b\x18;\x01\0\x10\0")
 
 
 @unittest.skipIf(sys.version_info < (3, 11), "datetime reads these forms from Python 3.11 on")
@@ -402,7 +451,7 @@ class Examples(unittest.TestCase):
         """Each example in a docstring gives what stands there."""
         names = {name: getattr(proved_calendar, name) for name in proved_calendar.__all__}
         members = {
-            f"{kind.__name__}.{name}": it.__doc__ for kind in (Date, DateTime, Duration, Time, Instant, Schedule, Rule, RuleSet, BusinessCalendar) for name, it in
+            f"{kind.__name__}.{name}": it.__doc__ for kind in (Date, DateTime, Duration, Time, Instant, Pattern, Schedule, Rule, RuleSet, BusinessCalendar) for name, it in
             ((name, getattr(kind, name)) for name in dir(kind)) if name not in ("__doc__", "__class__")
         }
         documented = {**members, **{name: it.__doc__ for name, it in names.items()}}

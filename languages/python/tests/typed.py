@@ -3,7 +3,7 @@ import datetime
 from fractions import Fraction
 
 from proved_calendar import (
-    BusinessCalendar, Date, DateTime, Duration, Instant, Rule, RuleSet, Schedule, TextError, Time, Weekday, day_count, days_in_month, days_until, easter,
+    BusinessCalendar, Date, DateTime, Duration, Instant, Pattern, Rule, RuleSet, Schedule, TextError, Time, Weekday, day_count, days_in_month, days_until, easter,
     is_leap_year,
 )
 
@@ -40,6 +40,10 @@ count: int = half // Duration(seconds=1) + divmod(half, Duration(1))[0] + half.d
 is_same: bool = day == theirs and day < datetime.date.max and noon <= standard and half > delta
 shown: str = noon.isoformat(" ", "minutes") + f"{day:%d/%m/%Y}" + noon.strftime("%H") + half.isoformat() + clock.isoformat("seconds")
 ends: list[DateTime] = [DateTime.min, DateTime.max, DateTime.min + DateTime.resolution]
+
+pattern: Pattern = Pattern("%d.%m.%Y")
+read: Date = pattern.parse_date(pattern.format(day) or pattern.format(standard) or pattern.text)
+read_time: DateTime = Pattern("%F %T").parse_date_time(f"{day} 12:30:00")
 
 daily: Schedule = Schedule("@daily")
 due: list[DateTime] = list(daily.iterate(moment, standard)) if daily.is_due(moment) else []

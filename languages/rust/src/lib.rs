@@ -21,6 +21,8 @@ mod parse_error;
 mod pattern;
 #[cfg(feature = "alloc")]
 mod rule;
+#[cfg(feature = "alloc")]
+mod rule_set;
 mod schedule;
 mod text_error;
 mod weekday;
@@ -52,6 +54,8 @@ pub use parse_error::ParseError;
 pub use pattern::Pattern;
 #[cfg(feature = "alloc")]
 pub use rule::{Rule, RuleDays};
+#[cfg(feature = "alloc")]
+pub use rule_set::{RuleSet, RuleSetDays};
 pub use schedule::{Schedule, ScheduleTimes};
 pub use text_error::TextError;
 pub use weekday::Weekday;

@@ -3,7 +3,7 @@
 
 use proved_calendar::{
     columns, BusinessCalendar, Date, DateTime, DayCount, KnownCalendar, LocalOffsets, Pattern,
-    Roll, Rule, Schedule, Weekday, WeekdaySet, Zone,
+    Roll, Rule, RuleSet, Schedule, Weekday, WeekdaySet, Zone,
 };
 use Weekday::{Fri, Sat, Sun};
 
@@ -850,4 +850,62 @@ fn zone_schedule_next() {
         "2024-10-27T02:30:00+01:00"
     );
     assert_eq!(schedule("0 0 30 2 *").next_in_zone(first), None);
+}
+
+/// Fridays and the last day of each month, from March 2024 on; 13 March is added, and the 29th left out.
+fn meetings() -> RuleSet {
+    let start = date("2024-03-01");
+    RuleSet::new()
+        .with_rule(rule("FREQ=WEEKLY;BYDAY=FR"), start)
+        .with_rule(rule("FREQ=MONTHLY;BYMONTHDAY=-1"), start)
+        .with_date(date("2024-03-31"))
+        .with_date(date("2024-03-13"))
+        .with_date(date("2024-03-13"))
+        .without_date(date("2024-03-29"))
+}
+
+fn march(days: impl Iterator<Item = Date>) -> Vec<u32> {
+    days.map(|it| it.day()).collect()
+}
+
+#[test]
+fn rule_sets() {
+    let set = meetings();
+    let wanted = [1, 8, 13, 15, 22, 31];
+    let [first, last] = ["2024-03-01", "2024-03-31"].map(date);
+    assert_eq!(march(set.instances().take(6)), wanted);
+    assert_eq!(march(set.instances_between(Date::MIN, last)), wanted);
+    let [from, until] = ["2024-03-13", "2024-03-22"].map(date);
+    assert_eq!(march(set.instances_between(from, until)), [13, 15, 22]);
+    assert_eq!(march(set.instances_between(first, from)), [1, 8, 13]);
+    assert_eq!(set.instances_between(until, from).next(), None);
+    for day in first.number()..=last.number() {
+        let day = Date::from_number(day).unwrap();
+        assert_eq!(set.is_instance(day), wanted.contains(&day.day()), "{day}");
+        let next = wanted.iter().copied().find(|it| *it > day.day());
+        assert_eq!(set.next_after(day).unwrap().day(), next.unwrap_or(5));
+        let previous = wanted.iter().rev().copied().find(|it| *it < day.day());
+        assert_eq!(set.prev_before(day).map(|it| it.day()), previous);
+    }
+    assert_eq!(set.next_after(Date::MAX), None);
+}
+
+#[test]
+fn rule_sets_with_an_end() {
+    let [start, left_out] = ["2024-03-01", "2024-03-04"].map(date);
+    let daily = RuleSet::new().with_rule(rule("FREQ=DAILY;COUNT=4"), start);
+    let set = daily
+        .clone()
+        .without_rule(rule("FREQ=DAILY;INTERVAL=2"), start)
+        .without_date(left_out);
+    assert_eq!(march(set.instances()), [2]);
+    assert_eq!(set.next_after(date("2024-03-02")), None);
+    assert_eq!(text(set.prev_before(Date::MAX)), "2024-03-02");
+    assert!(!set.is_instance(start) && !set.is_instance(left_out));
+    let none = RuleSet::new();
+    let mut days = none.instances();
+    assert_eq!((days.next(), days.next()), (None, None));
+    let ends = none.clone().with_date(Date::MAX).with_date(Date::MIN);
+    assert_eq!(ends, none.with_date(Date::MIN).with_date(Date::MAX));
+    assert!(daily != set && daily.clone() == daily);
 }

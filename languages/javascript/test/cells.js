@@ -1,0 +1,35 @@
+/** An example of each layer in JavaScript. What stands behind `=` is what its line prints. checks/cells.py looks for these parts. */
+
+import { BusinessCalendar, columns, dayCount, easter, Pattern, PlainDate, Rule, RuleSet, Schedule, Zone, ZonedDateTime } from "proved-calendar";
+
+// == patterns
+console.log(new Pattern("%d.%m.%Y").format(new PlainDate(2024, 2, 29))); // = 29.02.2024
+
+// == schedules
+console.log(`${new Schedule("30 4 1,15 * fri").nextAfter("2024-02-09T04:30")}`); // = 2024-02-15T04:30:00
+
+// == recurrence rules
+const fridays = new Rule("FREQ=MONTHLY;BYDAY=-1FR", "2024-01-01");
+console.log(`${fridays.nextAfter("2024-01-01")}`); // = 2024-01-26
+const set = new RuleSet({ rules: [fridays], dates: ["2024-02-01"], exceptDates: ["2024-01-26"] });
+console.log([...set.iterate({ until: "2024-02-29" })].join(" ")); // = 2024-02-01 2024-02-23
+
+// == open days
+console.log(`${new BusinessCalendar({ holidays: ["2024-03-29", "2024-04-01"] }).add("2024-03-28", 2)}`); // = 2024-04-03
+
+// == holidays
+console.log(`${BusinessCalendar.of("target", 2024, 2024).holidays[1]}`); // = 2024-03-29
+
+// == Easter
+console.log(`${easter(2024)}`); // = 2024-03-31
+
+// == day counts
+console.log(dayCount("actual360", "2024-01-31", "2024-03-01")); // = { numerator: 30, denominator: 360 }
+
+// == columns
+const dates = columns.fromTexts(["2024-01-31", "2024-02-30"]);
+console.log(columns.texts(columns.addMonths(dates, 1))); // = [ '2024-02-29', '' ]
+
+// == zones
+const timeZone = new Zone("CET-1CEST,M3.5.0,M10.5.0/3", "Europe/Berlin");
+console.log(`${ZonedDateTime.from("2024-03-31T02:30", { timeZone })}`); // = 2024-03-31T03:30:00+02:00[Europe/Berlin]

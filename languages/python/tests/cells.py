@@ -1,0 +1,59 @@
+"""An example of each layer in Python. What stands behind `=` is what its line prints. checks/cells.py looks for these parts."""
+from proved_calendar import Date, DateTime
+
+# == patterns
+from proved_calendar import Pattern
+
+print(Pattern("%d.%m.%Y").format(Date(2024, 2, 29)))  # = 29.02.2024
+print(Date(2024, 2, 29).strftime("%d.%m.%Y"))  # = 29.02.2024
+
+# == schedules
+from proved_calendar import Schedule
+
+print(Schedule("30 4 1,15 * fri").next_after(DateTime(2024, 2, 9, 4, 30)))  # = 2024-02-15T04:30:00
+
+# == recurrence rules
+from proved_calendar import Rule, RuleSet
+
+fridays = Rule("FREQ=MONTHLY;BYDAY=-1FR", Date(2024, 1, 1))
+print(fridays.after(Date(2024, 1, 1)))  # = 2024-01-26
+print(*RuleSet([fridays], [Date(2024, 2, 1)], except_dates=[Date(2024, 1, 26)])[:2])  # = 2024-02-01 2024-02-23
+
+# == open days
+from proved_calendar import BusinessCalendar
+
+print(BusinessCalendar([Date(2024, 3, 29), Date(2024, 4, 1)]).add(Date(2024, 3, 28), 2))  # = 2024-04-03
+
+# == holidays
+print(*BusinessCalendar.known("target", 2024, 2024).holidays[1:3])  # = 2024-03-29 2024-04-01
+
+# == Easter
+from proved_calendar import easter
+
+print(easter(2024))  # = 2024-03-31
+
+# == day counts
+from proved_calendar import day_count
+
+print(day_count(Date(2024, 1, 31), Date(2024, 3, 1), "actual_360"))  # = 1/12
+
+# == zones
+import datetime
+import zoneinfo
+
+berlin: datetime.tzinfo = zoneinfo.ZoneInfo("Europe/Berlin")
+print(DateTime.fromisoformat("2024-07-01T10:00:00Z").astimezone(berlin))  # = 2024-07-01T12:00:00+02:00
+
+# == columns
+import numpy
+import proved_calendar.dask
+import proved_calendar.pandas
+from dask import dataframe
+from pandas import Series
+from proved_calendar import columns
+
+dates = numpy.array(["2024-01-31", "NaT"], "M8[D]")
+print(*columns.add_months(dates, 1))  # = 2024-02-29 NaT
+series = Series(dates.astype("M8[ns]"))
+print(*series.proved.add_months(1).dt.date)  # = 2024-02-29 NaT
+print(*dataframe.from_pandas(series, npartitions=1).proved.add_months(1).compute().dt.date)  # = 2024-02-29 NaT

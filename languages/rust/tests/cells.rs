@@ -1,0 +1,55 @@
+//! An example of each layer in Rust. What stands behind `=` is what its line prints. checks/cells.py looks for these parts.
+
+use proved_calendar::{columns, easter, BusinessCalendar, Date, DateTime, DayCount, KnownCalendar};
+use proved_calendar::{Pattern, Rule, RuleSet, Schedule, Weekday, WeekdaySet, Zone};
+
+fn main() {
+    let date = |text: &str| text.parse::<Date>().unwrap();
+    let weekend = WeekdaySet::from([Weekday::Sat, Weekday::Sun]);
+
+    // == patterns
+    let pattern: Pattern = "%d.%m.%Y".parse().unwrap();
+    println!("{}", pattern.format_date(date("2024-02-29")).unwrap()); // = 29.02.2024
+
+    // == schedules
+    let schedule: Schedule = "30 4 1,15 * fri".parse().unwrap();
+    let start: DateTime = "2024-02-09T04:30:00".parse().unwrap();
+    println!("{}", schedule.next_after(start).unwrap()); // = 2024-02-15T04:30:00
+
+    // == recurrence rules
+    let fridays: Rule = "FREQ=MONTHLY;BYDAY=-1FR".parse().unwrap();
+    let start = date("2024-01-01");
+    println!("{}", fridays.next_after(start, start).unwrap()); // = 2024-01-26
+    let set = RuleSet::new().with_rule(fridays, start);
+    let later = set.with_date(date("2024-02-01")).next_after(date("2024-01-26"));
+    println!("{}", later.unwrap()); // = 2024-02-01
+
+    // == open days
+    let days = [date("2024-03-29"), date("2024-04-01")];
+    let calendar = BusinessCalendar::new(weekend, &days).unwrap();
+    println!("{}", calendar.add_open_days(date("2024-03-28"), 2).unwrap()); // = 2024-04-03
+
+    // == holidays
+    let mut found = [Date::MIN; 20];
+    let holidays = KnownCalendar::Target
+        .holidays(2024..=2024, weekend, &mut found)
+        .unwrap();
+    println!("{}", holidays[1]); // = 2024-03-29
+
+    // == Easter
+    println!("{}", easter(2024).unwrap()); // = 2024-03-31
+
+    // == day counts
+    let part = DayCount::Actual360.fraction(date("2024-01-31"), date("2024-03-01"));
+    println!("{}/{}", part.numerator, part.denominator); // = 30/360
+
+    // == columns
+    let mut moved = [0];
+    columns::add_months(&[date("2024-01-31")], 1, &mut moved);
+    println!("{}", Date::from_number(moved[0]).unwrap()); // = 2024-02-29
+
+    // == zones
+    let berlin: Zone = "CET-1CEST,M3.5.0,M10.5.0/3".parse().unwrap();
+    let local: DateTime = "2024-10-27T02:30:00".parse().unwrap();
+    println!("{:?}", berlin.offsets_of_local(local)); // = Two(7200, 3600)
+}
