@@ -26,12 +26,13 @@ pub front-filled : {X : Type 0} (n : ℕ) (now rest all : List X) → now ≡ al
 front-filled n now rest all e long = take_at now rest n (rw e long) ∙ e
 
 -- the names of the date at a place
-record Named (dates years : List ℤ) (months days : List ℕ) (i : ℕ) : Type 0 where
-  year : get_or years i (pos 0) ≡ year_entry (get_or dates i (pos 0))
-  month : get_or months i 0 ≡ month_entry (get_or dates i (pos 0))
-  day : get_or days i 0 ≡ day_entry (get_or dates i (pos 0))
+pub record Named (dates years : List ℤ) (months days : List ℕ) (i : ℕ) : Type 0 where
+  pub year : get_or years i (pos 0) ≡ year_entry (get_or dates i (pos 0))
+  pub month : get_or months i 0 ≡ month_entry (get_or dates i (pos 0))
+  pub day : get_or days i 0 ≡ day_entry (get_or dates i (pos 0))
 
-named_at : (dates years : List ℤ) (months days : List ℕ) → years ≡ map year_entry dates → months ≡ map month_entry dates → days ≡ map day_entry dates → (i : ℕ) → i < length dates → Named dates years months days i
+-- the names of dates, place by place
+pub named_at : (dates years : List ℤ) (months days : List ℕ) → years ≡ map year_entry dates → months ≡ map month_entry dates → days ≡ map day_entry dates → (i : ℕ) → i < length dates → Named dates years months days i
 named_at dates years months days p q r i h = record {
   year = ap (λ l. get_or l i (pos 0)) p ∙ get_or-map year_entry dates i (pos 0) (pos 0) h;
   month = ap (λ l. get_or l i 0) q ∙ get_or-map month_entry dates i (pos 0) 0 h;

@@ -1,7 +1,7 @@
--- Lemmas that other crates cite stand in this module.
+-- Lemmas that other crates cite stand in these modules.
+pub mod Blocks
 pub mod TenBytes
 -- The rest serve this crate's own proofs alone.
-mod Blocks
 mod Entries
 mod InPlace
 mod MonthTests

@@ -45,3 +45,4 @@ pub use occasions::first_on;
 pub use texts::{read_dates, write_dates};
 pub use unix::{from_unix_days, to_unix_days};
 pub use week::{iso_weeks, weekdays};
+pub use written::text_of_name_entry;

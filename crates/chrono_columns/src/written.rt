@@ -40,8 +40,16 @@ fn text_of_name(year: u32, month: u32, day: u32) -> [u8; 10]
 }
 
 /// Returns the text of a year from 0 to 9999, a month and a day. For another year it returns ten zero bytes.
+///
+/// With [`split_dates`](crate::split_dates) it computes one element of [`write_dates`](crate::write_dates), for loops that use the text.
+/// Requires a month and a day below 100.
+///
+/// ```
+/// text_of_name_entry(2024, 2, 29) == *b"2024-02-29" // true
+/// text_of_name_entry(10_000, 1, 1) // [0, 0, 0, 0, 0, 0, 0, 0, 0, 0]
+/// ```
 #[inline]
-pub(crate) fn text_of_name_entry(year: i32, month: u8, day: u8) -> [u8; 10]
+pub fn text_of_name_entry(year: i32, month: u8, day: u8) -> [u8; 10]
     requires month { month < 100 }
     requires day { day < 100 }
     ensures { result ≡ name_text_entry year month day }

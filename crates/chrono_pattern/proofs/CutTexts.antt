@@ -7,7 +7,7 @@ use Rattle.chrono_text.proofs.TextLemmas.{front_is}
 use Rattle.chrono_text.specs.Text.{all_digits}
 use Rattle.chrono_datetime.specs.Moment.{Moment, moment}
 use Rattle.chrono_datetime.specs.Time.{TimeOfDay, second_of}
-use Rattle.chrono_pattern.specs.CutFractions.{as_written, cut_time, places_from, places_of}
+use Rattle.chrono_pattern.specs.CutFractions.{as_written, cut_time, places_from, places_written}
 use Rattle.chrono_pattern.specs.DateParts.{is_present}
 use Rattle.chrono_pattern.specs.NamedParts.{with_group, with_named, with_number_field, word_part}
 use Rattle.chrono_pattern.specs.Parts.{no_parts}
@@ -159,7 +159,7 @@ CutSame item m x k = text_of_item item m x ≡ text_of_item item (moment m.date 
 whole_same : (item : Item) (m : Moment) (x : ℤ) (k : ℕ) → 9 ≤ k → CutSame item m x k
 whole_same item m x k many = ap (λ (t : TimeOfDay). text_of_item item (moment m.date t) x) (sym (uncut_time k m.time many))
 
-any_number_cut : (field : NumberField) (padding : Padding) (m : Moment) (x : ℤ) (k : ℕ) → places_of (Number field padding) ≤ k → CutSame (Number field padding) m x k
+any_number_cut : (field : NumberField) (padding : Padding) (m : Moment) (x : ℤ) (k : ℕ) → places_written (Number field padding) ≤ k → CutSame (Number field padding) m x k
 any_number_cut Year padding m x k enough = number_cut Year padding m x k refl
 any_number_cut Century padding m x k enough = number_cut Century padding m x k refl
 any_number_cut YearOfCentury padding m x k enough = number_cut YearOfCentury padding m x k refl
@@ -191,7 +191,7 @@ any_word_cut WeekdayLetters m x k = word_cut WeekdayLetters m x k refl
 any_word_cut Half m x k = word_cut Half m x k refl
 any_word_cut SmallHalf m x k = word_cut SmallHalf m x k refl
 
-item_cut : (item : Item) (m : Moment) (x : ℤ) (k : ℕ) → places_of item ≤ k → CutSame item m x k
+item_cut : (item : Item) (m : Moment) (x : ℤ) (k : ℕ) → places_written item ≤ k → CutSame item m x k
 item_cut Empty m x k enough = refl
 item_cut (Byte c) m x k enough = refl
 item_cut (Number field padding) m x k enough = any_number_cut field padding m x k enough
@@ -206,10 +206,10 @@ item_cut (Zoned Iso8601) m x k enough = whole_same (Zoned Iso8601) m x k enough
 -- ---- a pattern
 
 places-more : (s : State) (c : ℕ) (bytes : List ℕ) (next : State × Item) → pattern_step s c ≡ Some next
-    → places_from s (c ∷ bytes) ≡ max (places_of next.1) (places_from next.0 bytes)
+    → places_from s (c ∷ bytes) ≡ max (places_written next.1) (places_from next.0 bytes)
 unfolding places_from
 places-more s c bytes next e =
-    ap (λ (o : Option (State × Item)). elim o as (λ _. ℕ) [ None ↦ 0 | Some n ↦ max (places_of n.1) (places_from n.0 bytes) ]) e
+    ap (λ (o : Option (State × Item)). elim o as (λ _. ℕ) [ None ↦ 0 | Some n ↦ max (places_written n.1) (places_from n.0 bytes) ]) e
 
 abbrev FromSame : List ℕ → Moment → ℤ → ℕ → Type 0
 FromSame bytes m x k = (s : State) → places_from s bytes ≤ k → text_from s bytes m x ≡ text_from s bytes (moment m.date (cut_time k m.time)) x
@@ -220,7 +220,7 @@ step_cut c bytes m x k rest s None e enough = text_from-none s c bytes m x e ∙
 step_cut c bytes m x k rest s (Some next) e enough =
     let cut = moment m.date (cut_time k m.time) in
     let most = places-more s c bytes next e in
-    let first : places_of next.1 ≤ k = omega (arith, enough, most) in
+    let first : places_written next.1 ≤ k = omega (arith, enough, most) in
     let behind : places_from next.0 bytes ≤ k = omega (arith, enough, most) in
     text_from-more s c bytes m x next e
     ∙ ap (λ (l : List ℕ). l ++ text_from next.0 bytes m x) (item_cut next.1 m x k first)

@@ -42,9 +42,6 @@ digits_of_minutes text p t h =
       written = sym (take-append-drop count text) ∙ ap (λ (l : List ℕ). take count text ++ l) two.is;
     }
 
-zero_is : (n : ℕ) → (n == 0) ≡ true → n ≡ 0
-zero_is n e = same_byte n 0 e
-
 minutes_by : (missing : Bool) (text : List ℕ) (p : Parsed) (t : ℕ × Progress) → (b : Bool) → (missing && class_len Digit (behind_colons text) == 0) ≡ b
     → (if b then Ok (0, at_rest text p) else two_taken 59 (at_rest (behind_colons text) p)) ≡ Ok t → TakesMinutes missing text p t
 minutes_by missing text p t true e h =
@@ -55,7 +52,7 @@ minutes_by missing text p t true e h =
         both.0,
         record {
           zero = sym (ap (λ (u : ℕ × Progress). u.0) same);
-          ends = zero_is _ both.1;
+          ends = same_byte _ 0 both.1;
           same = sym (ap (λ (u : ℕ × Progress). u.1.rest) same);
         },
       );

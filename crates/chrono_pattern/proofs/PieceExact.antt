@@ -20,7 +20,7 @@ use Rattle.chrono_pattern.specs.OffsetReads.{at_rest}
 use Rattle.chrono_pattern.specs.Parts.{put}
 use Rattle.chrono_pattern.specs.Progress.{Progress, behind_blanks, byte_read, class_len, is_of, is_pattern_blank, literal_read, progress, stopped}
 use Rattle.chrono_pattern.specs.SubsecondReads.{fixed_read, places_read, places_value, point_behind, subsecond_read}
-use Rattle.chrono_pattern.specs.TextPieces.{AllOf, AreDigits, IsByte, IsNothing, NoneOf, ReadsBlank, ReadsByte, ReadsHalf, ReadsMonth, ReadsNumber, ReadsPlaces, ReadsPoint, ReadsSubsecond, ReadsWeekday, ReadsWord, SkipsAll, is_below, may_have, most_with, sign_text}
+use Rattle.chrono_pattern.specs.TextPieces.{AllOf, AreFrontDigits, IsByte, IsNothing, NoneOf, ReadsBlank, ReadsByte, ReadsHalf, ReadsMonth, ReadsNumber, ReadsPlaces, ReadsPoint, ReadsSubsecond, ReadsWeekday, ReadsWord, SkipsAll, is_below, may_have, most_with, sign_text}
 use Rattle.chrono_pattern.specs.WordReads.{half_behind, half_of, half_read, least_letters, letters_read, month_behind, month_read, name_len, weekday_behind, weekday_read, word_read}
 use Rattle.chrono_pattern.specs.declared.class.Class.{Class}
 use Rattle.chrono_pattern.specs.declared.class.Class.TheVariants.{Blank, Digit}
@@ -161,7 +161,7 @@ numeral most n ds h =
 pub record GivesDigits (field : NumberField) (most : ℕ) (negative : Bool) (text : List ℕ) (p : Parsed) (q : Progress) : Type 0 where
   pub digits : List ℕ
   pub n : ℕ
-  pub are : AreDigits most digits q.rest n
+  pub are : AreFrontDigits most digits q.rest n
   pub written : text ≡ digits ++ q.rest
   pub given : number_put field (signed negative n) p ≡ Ok q.parsed
 
@@ -205,7 +205,7 @@ record GivesSigned (field : NumberField) (text : List ℕ) (p : Parsed) (q : Pro
   digits : List ℕ
   n : ℕ
   may : may_have field sign ≡ true
-  are : AreDigits (most_with field sign) digits q.rest n
+  are : AreFrontDigits (most_with field sign) digits q.rest n
   written : text ≡ sign_text sign ++ (digits ++ q.rest)
   given : number_put field (signed (is_below sign) n) p ≡ Ok q.parsed
 
@@ -281,7 +281,7 @@ pub behind_signed : (blanks : List ℕ) (sign : Option Bool) (ds rest : List ℕ
 behind_signed blanks sign ds rest n space are = blanks_go blanks (sign_text sign ++ (ds ++ rest)) space ∙ signed_stay sign ds rest n are
 
 number_by_sign : (field : NumberField) (sign : Option Bool) (n : ℕ) (ds : List ℕ) (p : Parsed) (q : Progress) → may_have field sign ≡ true
-    → AreDigits (most_with field sign) ds q.rest n → number_put field (signed (is_below sign) n) p ≡ Ok q.parsed → (b : Bool) → has_sign field ≡ b
+    → AreFrontDigits (most_with field sign) ds q.rest n → number_put field (signed (is_below sign) n) p ≡ Ok q.parsed → (b : Bool) → has_sign field ≡ b
     → (if b then signed_read field (sign_text sign ++ (ds ++ q.rest)) p else digits_read field (most_digits field) false (sign_text sign ++ (ds ++ q.rest)) p) ≡ Ok q
 number_by_sign field None n ds p q may are given true e =
     unsigned_digits field ds q.rest n p (numeral (most_digits field) n ds are.value).0

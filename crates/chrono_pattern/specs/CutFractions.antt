@@ -22,19 +22,19 @@ places_of_zoned Iso8601 = 9
 places_of_zoned _ = 0
 
 -- how many digits of the fraction of a second an item may write
-abbrev pub places_of : Item → ℕ
-places_of Empty = 0
-places_of (Byte c) = 0
-places_of (Number field padding) = places_of_number field
-places_of (Word word) = 0
-places_of (Group group) = 0
-places_of (Subsecond point count) = if count == 0 then 9 else min count 9
-places_of (Zoned field) = places_of_zoned field
+abbrev pub places_written : Item → ℕ
+places_written Empty = 0
+places_written (Byte c) = 0
+places_written (Number field padding) = places_of_number field
+places_written (Word word) = 0
+places_written (Group group) = 0
+places_written (Subsecond point count) = if count == 0 then 9 else min count 9
+places_written (Zoned field) = places_of_zoned field
 
 -- the most of the items of the bytes
 unfoldable pub places_from : State → List ℕ → ℕ
 places_from s [] = 0
-places_from s (c ∷ bytes) = elim (pattern_step s c) [ None ↦ 0 | Some next ↦ max (places_of next.1) (places_from next.0 bytes) ]
+places_from s (c ∷ bytes) = elim (pattern_step s c) [ None ↦ 0 | Some next ↦ max (places_written next.1) (places_from next.0 bytes) ]
 
 -- the time of day with the first digits alone of its fraction
 abbrev pub cut_time : ℕ → TimeOfDay → TimeOfDay

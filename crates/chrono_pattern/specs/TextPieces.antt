@@ -87,7 +87,7 @@ most_with field None = most_digits field
 most_with field (Some negative) = 9
 
 -- One digit or more, at most so many, in front of the rest: their number is n. All that stand there are taken, as far as they may be.
-pub record AreDigits (most : ℕ) (digits rest : List ℕ) (n : ℕ) : Type 0 where
+pub record AreFrontDigits (most : ℕ) (digits rest : List ℕ) (n : ℕ) : Type 0 where
   pub value : digits_of most digits ≡ Some n
   pub ends : length digits < most → NoneOf Digit rest
 
@@ -99,7 +99,7 @@ pub record ReadsNumber (field : NumberField) (r q : Progress) : Type 0 where
   pub n : ℕ
   pub space : AllOf Blank blanks
   pub may : may_have field sign ≡ true
-  pub are : AreDigits (most_with field sign) digits q.rest n
+  pub are : AreFrontDigits (most_with field sign) digits q.rest n
   pub written : r.rest ≡ blanks ++ (sign_text sign ++ (digits ++ q.rest))
   pub given : number_put field (signed (is_below sign) n) r.parsed ≡ Ok q.parsed
 

@@ -6,10 +6,10 @@ use Rattle.std.proofs.lemmas.List.Edits.{get_or-between, length-between}
 use Rattle.std.proofs.lemmas.Slice.{take-put_mid}
 use Rattle.std.specs.List.{between}
 use borrow.Rule.Slice.PartMut.{put_mid}
-use Rattle.chrono_columns.specs.Columns.{IsTextEntry, text_entry}
-use Rattle.pattern_columns.specs.Layouts.{IsEntryBy, IsLaidOut, NamesSame, entry_by, layout_text}
-use Rattle.pattern_columns.specs.declared.layout.DateLayout.{DateLayout}
-use Rattle.pattern_columns.proofs.LayoutEntries.{entry-renamed, entry-rewritten}
+use Rattle.chrono_columns.specs.Columns.{IsTextEntry, day_entry, month_entry, year_entry}
+use Rattle.chrono_columns.proofs.Blocks.{named_at}
+use Rattle.pattern_columns.specs.Layouts.{AreNameTexts, IsEntryBy, NamesSame, entry_by, name_text_by}
+use Rattle.pattern_columns.proofs.LayoutEntries.{entry-named, entry-renamed}
 
 -- one element more is written
 pub more-written : {X Y : Type 0} (p : X → Y → Type 0) (x : X) (y : Y) (xs : List X) (out : List Y) (i : ℕ) (z : Y) → i < length out → ((k : ℕ) → k < i → p (get_or xs k x) (get_or out k y))
@@ -17,6 +17,16 @@ pub more-written : {X Y : Type 0} (p : X → Y → Type 0) (x : X) (y : Y) (xs :
 more-written p x y xs out i z within before now k below = elim (cases_lt k i) [
   | inl less ↦ rw (get_or-set_other out i k z y (omega (arith, less))) (before k less)
   | inr more ↦ let same : k ≡ i = omega (arith, more, below) in rw (same, get_or-set_same out i z y within) now
+]
+
+-- the text of one name more
+pub more-named : (size : ℕ) (f : ℤ → ℕ → ℕ → List ℕ) (years : List ℤ) (months days : List ℕ) (texts : List (List ℕ)) (i : ℕ) (z : List ℕ) → i < length texts
+    → ((k : ℕ) → k < i → get_or texts k [] ≡ name_text_by size f (get_or years k (pos 0)) (get_or months k 0) (get_or days k 0))
+    → z ≡ name_text_by size f (get_or years i (pos 0)) (get_or months i 0) (get_or days i 0)
+    → (k : ℕ) → k < i + 1 → get_or (slice_set texts i z) k [] ≡ name_text_by size f (get_or years k (pos 0)) (get_or months k 0) (get_or days k 0)
+more-named size f years months days texts i z within before now k below = elim (cases_lt k i) [
+  | inl less ↦ get_or-set_other texts i k z [] (omega (arith, less)) ∙ before k less
+  | inr more ↦ let same : k ≡ i = omega (arith, more, below) in rw (same, get_or-set_same texts i z [] within) now
 ]
 
 -- one block more is written
@@ -46,13 +56,14 @@ all-written size f dates texts long each =
     ext_get_or [] texts (map (entry_by size f) dates) (long ∙ sym (length-map dates (entry_by size f)))
     (λ k h. let here : k < length dates = omega (arith, h, long) in each k here ∙ sym (get_or-map (entry_by size f) dates k (pos 0) [] here))
 
--- the ISO texts of a block at the front of their room
-pub front-written : (dates : List ℤ) (iso rest : List (List ℕ)) → iso ≡ map text_entry dates
-    → (i : ℕ) → i < length dates → get_or (iso ++ rest) i [] ≡ text_entry (get_or dates i (pos 0))
-front-written dates iso rest e i h =
-    get_or_append_left iso rest [] i (omega (arith, h, ap (λ (l : List (List ℕ)). length l) e, length-map dates text_entry))
-    ∙ ap (λ l. get_or l i []) e
-    ∙ get_or-map text_entry dates i (pos 0) [] h
+-- the texts of a block by its names
+pub names-laid_out : (size : ℕ) (f : ℤ → ℕ → ℕ → List ℕ) (dates years : List ℤ) (months days : List ℕ) (texts : List (List ℕ)) → years ≡ map year_entry dates
+    → months ≡ map month_entry dates → days ≡ map day_entry dates → AreNameTexts size f years months days texts
+    → (i : ℕ) → i < length dates → get_or texts i [] ≡ entry_by size f (get_or dates i (pos 0))
+names-laid_out size f dates years months days texts p q r each i h =
+    let name = named_at dates years months days p q r i h in
+    let within : i < length years = omega (arith, h, ap (λ (l : List ℤ). length l) p, length-map dates year_entry) in
+    each i within ∙ rw (name.year, name.month, name.day) (entry-named size f (get_or dates i (pos 0)))
 
 -- the dates of a block, by its ISO texts at the front of their room
 pub front-read : (f : ℤ → ℕ → ℕ → List ℕ) (texts iso rest : List (List ℕ)) (out : List ℤ) (n : ℕ) → length texts ≡ n → length iso ≡ n
@@ -63,14 +74,3 @@ front-read f texts iso rest out n long also same read i h =
     let front : take n (iso ++ rest) ≡ iso = take_at iso rest n also in
     let here = (rw front at read) i (omega (arith, h, long, also)) in
     entry-renamed f (get_or texts i []) (get_or iso i []) (get_or out i (pos 0)) (same i h) here
-
--- the texts of a block in a layout, by its ISO texts at the front of their room
-pub front-laid_out : (layout : DateLayout) (dates : List ℤ) (iso rest texts : List (List ℕ)) (n : ℕ) → length dates ≡ n → iso ≡ map text_entry dates
-    → ((i : ℕ) → i < length (take n (iso ++ rest)) → IsLaidOut layout (get_or (take n (iso ++ rest)) i []) (get_or texts i []))
-    → (i : ℕ) → i < length dates → get_or texts i [] ≡ entry_by 10 (layout_text layout) (get_or dates i (pos 0))
-front-laid_out layout dates iso rest texts n long e each i h =
-    let also : length iso ≡ n = ap (λ (l : List (List ℕ)). length l) e ∙ length-map dates text_entry ∙ long in
-    let front : take n (iso ++ rest) ≡ iso = take_at iso rest n also in
-    let here = (rw front at each) i (omega (arith, h, long, also)) in
-    entry-rewritten 10 (layout_text layout) (get_or dates i (pos 0)) (get_or iso i []) (get_or texts i [])
-    (ap (λ l. get_or l i []) e ∙ get_or-map text_entry dates i (pos 0) [] h) here.date here.none

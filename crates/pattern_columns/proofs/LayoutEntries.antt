@@ -1,11 +1,11 @@
 -- What stands in a column for the text of a date, and for such a text, by what stands there for the ISO text.
 use Rattle.std.proofs.Common.{◌≡◌, ℕ, ℤ, Bool, true, false, cond, List, replicate, Option, Some, None, ap, sym, refl, ◌∙◌}
-use Rattle.std.specs.Option.{option_and_then}
+use Rattle.std.specs.Option.{option_and_then, option_map}
 use Rattle.chrono_calendar.specs.Days.{date_of_day, date_of_ymd, year_of, month_of, day_of}
 use Rattle.chrono_calendar.proofs.NamedDates.{date_of_ymd-name}
 use Rattle.chrono_text.specs.Text.{calendar_text}
-use Rattle.chrono_columns.specs.Columns.{IsTextEntry, bytes_entry, has_four_digits, text_entry}
-use Rattle.pattern_columns.specs.Layouts.{IsEntryBy, NamesSame, entry_by, text_or_zeros}
+use Rattle.chrono_columns.specs.Columns.{IsTextEntry, bytes_entry, count_entry, day_entry, has_four_digits, month_entry, name_text_entry, number_entry, year_entry}
+use Rattle.pattern_columns.specs.Layouts.{IsEntryBy, NamesSame, entry_by, name_text_by, text_or_zeros}
 
 -- the text of a date, if its year has four digits
 if_short : (ℤ → ℕ → ℕ → List ℕ) → ℤ → Option (List ℕ)
@@ -15,16 +15,21 @@ by_test : (b : Bool) (size : ℕ) (iso other t r : List ℕ) → t ≡ bytes_ent
 by_test true size iso other t r e date none = sym (date (sym e))
 by_test false size iso other t r e date none = none e
 
-by_date : (size : ℕ) (f : ℤ → ℕ → ℕ → List ℕ) (o : Option ℤ) (t r : List ℕ) → t ≡ bytes_entry (option_and_then (if_short calendar_text) o)
-    → ((y : ℤ) → (m : ℕ) → (d : ℕ) → calendar_text y m d ≡ t → f y m d ≡ r) → (t ≡ replicate 10 0 → r ≡ replicate size 0) → r ≡ text_or_zeros size (option_and_then (if_short f) o)
-unfolding if_short
-by_date size f None t r e date none = none e
-by_date size f (Some d) t r e date none = by_test (has_four_digits (year_of d)) size _ _ t r e (date (year_of d) (month_of d) (day_of d)) none
+-- the text of a name by its ISO text
+pub name-rewritten : (size : ℕ) (f : ℤ → ℕ → ℕ → List ℕ) (y : ℤ) (m d : ℕ) (t r : List ℕ) → t ≡ name_text_entry y m d
+    → ((z : ℤ) → (k : ℕ) → (j : ℕ) → calendar_text z k j ≡ t → f z k j ≡ r) → (t ≡ replicate 10 0 → r ≡ replicate size 0) → r ≡ name_text_by size f y m d
+name-rewritten size f y m d t r e date none = by_test (has_four_digits y) size (calendar_text y m d) (f y m d) t r e (date y m d) none
 
-pub entry-rewritten : (size : ℕ) (f : ℤ → ℕ → ℕ → List ℕ) (n : ℤ) (t r : List ℕ) → t ≡ text_entry n
-    → ((y : ℤ) → (m : ℕ) → (d : ℕ) → calendar_text y m d ≡ t → f y m d ≡ r) → (t ≡ replicate 10 0 → r ≡ replicate size 0) → r ≡ entry_by size f n
-unfolding text_entry entry_by if_short
-entry-rewritten size f n t r e date none = by_date size f (date_of_day n) t r e date none
+-- the text of a date is that of its names
+of_names : (size : ℕ) (f : ℤ → ℕ → ℕ → List ℕ) (o : Option ℤ)
+    → name_text_by size f (number_entry (option_map year_of o)) (count_entry (option_map month_of o)) (count_entry (option_map day_of o)) ≡ text_or_zeros size (option_and_then (if_short f) o)
+unfolding if_short
+of_names size f None = refl
+of_names size f (Some n) = refl
+
+pub entry-named : (size : ℕ) (f : ℤ → ℕ → ℕ → List ℕ) (n : ℤ) → name_text_by size f (year_entry n) (month_entry n) (day_entry n) ≡ entry_by size f n
+unfolding entry_by year_entry month_entry day_entry if_short
+entry-named size f n = of_names size f (date_of_day n)
 
 -- the date of the ISO text is that of the other text
 pub entry-renamed : (f : ℤ → ℕ → ℕ → List ℕ) (t iso : List ℕ) (z : ℤ) → NamesSame f t iso → IsTextEntry iso z → IsEntryBy f t z

@@ -1,5 +1,5 @@
 -- The texts of dates in layouts of fixed width, and what stands in a column for a date and for such a text.
-use Rattle.std.specs.Prelude.{◌≡◌, ◌≢◌, ◌↔◌, ℕ, ℤ, if◌then◌else◌, List, ◌∷◌, ◌++◌, codes, replicate, Option, Some, None}
+use Rattle.std.specs.Prelude.{◌≡◌, ◌≢◌, ◌↔◌, ℕ, ◌<◌, ℤ, pos, if◌then◌else◌, List, [], ◌∷◌, ◌++◌, codes, length, replicate, slice_index, slice_index_or, Option, Some, None}
 use Rattle.std.specs.Option.{option_and_then}
 use Rattle.chrono_calendar.specs.Days.{date_of_day, date_of_ymd, year_of, month_of, day_of}
 use Rattle.chrono_text.specs.Text.{calendar_text, two_digits, year_text}
@@ -52,7 +52,15 @@ pub record IsEntryBy (f : ℤ → ℕ → ℕ → List ℕ) (text : List ℕ) (n
 abbrev pub NamesSame : (ℤ → ℕ → ℕ → List ℕ) → List ℕ → List ℕ → Type 0
 NamesSame f text iso = (y : ℤ) → (m d : ℕ) → (calendar_text y m d ≡ iso) ↔ (f y m d ≡ text)
 
--- the text in a layout for the ISO text of a date, and zero bytes for zero bytes
-pub record IsLaidOut (layout : DateLayout) (iso text : List ℕ) : Type 0 where
-  pub date : (y : ℤ) → (m d : ℕ) → calendar_text y m d ≡ iso → layout_text layout y m d ≡ text
-  pub none : iso ≡ replicate 10 0 → text ≡ replicate 10 0
+-- what f writes for a year, a month and a day, if the year has four digits
+abbrev pub name_text_by : ℕ → (ℤ → ℕ → ℕ → List ℕ) → ℤ → ℕ → ℕ → List ℕ
+name_text_by size f y m d = text_or_zeros size (if has_four_digits y then Some (f y m d) else None)
+
+-- each text is that of the year, the month and the day at its place
+abbrev pub AreNameTexts : ℕ → (ℤ → ℕ → ℕ → List ℕ) → List ℤ → List ℕ → List ℕ → List (List ℕ) → Type 0
+AreNameTexts size f years months days texts =
+    (i : ℕ) → i < length years
+    → slice_index_or texts i [] ≡ name_text_by size f (slice_index_or years i (pos 0)) (slice_index months i) (slice_index days i)
+
+abbrev pub AreLaidOut : DateLayout → List ℤ → List ℕ → List ℕ → List (List ℕ) → Type 0
+AreLaidOut layout years months days texts = AreNameTexts 10 (layout_text layout) years months days texts

@@ -1,10 +1,10 @@
 //! Between a column of dates and one of their texts of eight digits.
-ghost use Rattle.std.specs.Prelude.{◌≡◌, ℕ, ℤ, ◌<◌, ◌≤◌, [], length, map, pos, replicate, slice_index_or};
+ghost use Rattle.std.specs.Prelude.{◌≡◌, ℕ, ℤ, ◌<◌, ◌≤◌, [], length, map, pos, replicate, slice_index, slice_index_or};
 ghost use Rattle.chrono_text.specs.Text.{calendar_text};
-ghost use Rattle.pattern_columns.specs.Layouts.{IsEntryBy, NamesSame, compact_text, entry_by};
+ghost use Rattle.pattern_columns.specs.Layouts.{AreNameTexts, IsEntryBy, NamesSame, compact_text, entry_by};
 
 use crate::texts::BLOCK;
-use chrono_columns::{read_dates, write_dates};
+use chrono_columns::{read_dates, split_dates, text_of_name_entry};
 
 // The eight digits of an ISO text. For ten zero bytes it returns eight of them.
 #[inline]
@@ -27,7 +27,20 @@ fn iso_of_digits(text: [u8; 8]) -> [u8; 10]
     ]
 }
 
-// The text of each date of a block, by the ISO texts of all of them.
+// The text of each year, month and day.
+fn write_compact_names(years: &[i32], months: &[u8], days: &[u8], texts: &mut [[u8; 8]])
+    requires months { length months.now ≡ length years.now }
+    requires days { length days.now ≡ length years.now }
+    requires texts { length texts.old ≡ length years.now }
+    requires two_digits { (i : ℕ) → i < length years.now → (slice_index months.now i < 100) × (slice_index days.now i < 100) }
+    ensures { AreNameTexts 8 compact_text years.now months.now days.now texts.new }
+{
+    for i in 0..years.len() {
+        texts[i] = digits_of_iso(text_of_name_entry(years[i], months[i], days[i]));
+    }
+}
+
+// The text of each date of a block, by the names of all of them.
 fn write_compact_block(dates: &[i32], texts: &mut [[u8; 8]])
     requires few { length dates.now ≤ 256 }
     requires texts { length texts.old ≡ length dates.now }
@@ -35,11 +48,16 @@ fn write_compact_block(dates: &[i32], texts: &mut [[u8; 8]])
         → slice_index_or texts.new i [] ≡ entry_by 8 compact_text (slice_index_or dates.now i (pos 0)) }
 {
     let count = dates.len();
-    let mut iso = [[0; 10]; BLOCK];
-    write_dates(dates, &mut iso[..count]);
-    for i in 0..count {
-        texts[i] = digits_of_iso(iso[i]);
-    }
+    let mut years = [0; BLOCK];
+    let mut months = [0; BLOCK];
+    let mut days = [0; BLOCK];
+    split_dates(
+        dates,
+        &mut years[..count],
+        &mut months[..count],
+        &mut days[..count],
+    );
+    write_compact_names(&years[..count], &months[..count], &days[..count], texts);
 }
 
 /// Writes the text of each of `dates` in eight digits, such as `20240229`: the pattern `%Y%m%d`.

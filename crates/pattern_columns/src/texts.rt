@@ -1,48 +1,60 @@
 //! Between a column of dates and one of their texts in a layout, of ten bytes each.
-ghost use Rattle.std.specs.Prelude.{◌≡◌, ℕ, ◌<◌, ◌≤◌, [], length, map, pos, slice_index_or};
-ghost use Rattle.pattern_columns.specs.Layouts.{IsEntryBy, IsLaidOut, NamesSame, entry_by, layout_text};
+ghost use Rattle.std.specs.Prelude.{◌≡◌, ℕ, ◌<◌, ◌≤◌, [], length, map, pos, slice_index, slice_index_or};
+ghost use Rattle.pattern_columns.specs.Layouts.{AreLaidOut, IsEntryBy, NamesSame, entry_by, layout_text};
 
 use crate::arranged::{from_iso, to_iso};
 use crate::layout::{DateLayout, DateOrder};
-use chrono_columns::{read_dates, write_dates};
+use chrono_columns::{read_dates, split_dates, text_of_name_entry};
 
-// How many ISO texts are kept beside the column at once.
+// How many dates are named before their texts are written, and how many ISO texts are kept beside the column.
 pub(crate) const BLOCK: usize = 256;
 
-// The text in a layout for each ISO text.
+// The text in a layout for each year, month and day.
 #[inline]
-fn lay_out_each(layout: DateLayout, iso: &[[u8; 10]], texts: &mut [[u8; 10]])
-    requires { length texts.old ≡ length iso.now }
-    ensures { (i : ℕ) → i < length iso.now → IsLaidOut layout (slice_index_or iso.now i []) (slice_index_or texts.new i []) }
+fn write_each(layout: DateLayout, years: &[i32], months: &[u8], days: &[u8], texts: &mut [[u8; 10]])
+    requires months { length months.now ≡ length years.now }
+    requires days { length days.now ≡ length years.now }
+    requires texts { length texts.old ≡ length years.now }
+    requires two_digits { (i : ℕ) → i < length years.now → (slice_index months.now i < 100) × (slice_index days.now i < 100) }
+    ensures { AreLaidOut layout years.now months.now days.now texts.new }
 {
-    for i in 0..iso.len() {
-        texts[i] = from_iso(layout, iso[i]);
+    for i in 0..years.len() {
+        texts[i] = from_iso(layout, text_of_name_entry(years[i], months[i], days[i]));
     }
 }
 
 // The same by a loop for each order, which does not ask for the order.
-fn lay_out_texts(layout: DateLayout, iso: &[[u8; 10]], texts: &mut [[u8; 10]])
-    requires { length texts.old ≡ length iso.now }
-    ensures { (i : ℕ) → i < length iso.now → IsLaidOut layout (slice_index_or iso.now i []) (slice_index_or texts.new i []) }
+fn write_names(
+    layout: DateLayout,
+    years: &[i32],
+    months: &[u8],
+    days: &[u8],
+    texts: &mut [[u8; 10]],
+)
+    requires months { length months.now ≡ length years.now }
+    requires days { length days.now ≡ length years.now }
+    requires texts { length texts.old ≡ length years.now }
+    requires two_digits { (i : ℕ) → i < length years.now → (slice_index months.now i < 100) × (slice_index days.now i < 100) }
+    ensures { AreLaidOut layout years.now months.now days.now texts.new }
 {
     let separator = layout.separator;
     match layout.order {
         DateOrder::YearMonthDay => {
             let order = DateOrder::YearMonthDay;
-            lay_out_each(DateLayout { order, separator }, iso, texts);
+            write_each(DateLayout { order, separator }, years, months, days, texts);
         }
         DateOrder::DayMonthYear => {
             let order = DateOrder::DayMonthYear;
-            lay_out_each(DateLayout { order, separator }, iso, texts);
+            write_each(DateLayout { order, separator }, years, months, days, texts);
         }
         DateOrder::MonthDayYear => {
             let order = DateOrder::MonthDayYear;
-            lay_out_each(DateLayout { order, separator }, iso, texts);
+            write_each(DateLayout { order, separator }, years, months, days, texts);
         }
     }
 }
 
-// The text of each date of a block, by the ISO texts of all of them.
+// The text of each date of a block, by the names of all of them.
 fn write_block(layout: DateLayout, dates: &[i32], texts: &mut [[u8; 10]])
     requires few { length dates.now ≤ 256 }
     requires texts { length texts.old ≡ length dates.now }
@@ -50,9 +62,22 @@ fn write_block(layout: DateLayout, dates: &[i32], texts: &mut [[u8; 10]])
         → slice_index_or texts.new i [] ≡ entry_by 10 (layout_text layout) (slice_index_or dates.now i (pos 0)) }
 {
     let count = dates.len();
-    let mut iso = [[0; 10]; BLOCK];
-    write_dates(dates, &mut iso[..count]);
-    lay_out_texts(layout, &iso[..count], texts);
+    let mut years = [0; BLOCK];
+    let mut months = [0; BLOCK];
+    let mut days = [0; BLOCK];
+    split_dates(
+        dates,
+        &mut years[..count],
+        &mut months[..count],
+        &mut days[..count],
+    );
+    write_names(
+        layout,
+        &years[..count],
+        &months[..count],
+        &days[..count],
+        texts,
+    );
 }
 
 /// Writes the text of each of `dates` in a layout, such as `29/02/2024`.

@@ -1,13 +1,23 @@
-use Rattle.std.proofs.Common.{◌≡◌, [], pos, get_or, rules}
-use Rattle.pattern_columns.specs.Layouts.{compact_text, entry_by}
-use Rattle.pattern_columns.proofs.ColumnBlocks.{front-written, more-written}
-use Rattle.pattern_columns.proofs.LayoutEntries.{entry-rewritten}
+use Rattle.std.proofs.lemmas.List.{length-map}
+use Rattle.chrono_columns.specs.Columns.{day_entry, month_entry, year_entry}
+use Rattle.chrono_columns.proofs.Blocks.{front-filled, names-two_digits}
+use Rattle.pattern_columns.specs.Layouts.{compact_text}
+use Rattle.pattern_columns.proofs.ColumnBlocks.{names-laid_out}
 use Rattle.pattern_columns.proofs.compact.write_compact_block.Goals as goal
 
-pub loop-i-preserved : goal.loop-i-preserved
-loop-i-preserved c =
-    let i = c.loop-i.i in
+pub write_compact_names-requires-clause-two_digits : goal.write_compact_names-requires-clause-two_digits
+write_compact_names-requires-clause-two_digits c =
     let dates = c.args.dates.now in
-    let iso = front-written dates c.write_dates.new.texts _ c.write_dates.ensures i (search rules) in
-    let now = entry-rewritten 8 compact_text (get_or dates i (pos 0)) _ _ iso c.digits_of_iso.ensures.date c.digits_of_iso.ensures.none in
-    more-written (λ n t. t ≡ entry_by 8 compact_text n) (pos 0) [] dates c.loop-i.texts i _ (search rules) c.loop-i.invariant now
+    names-two_digits dates _ _ _
+    (front-filled _ _ _ _ c.split_dates.ensures.years (length-map dates year_entry))
+    (front-filled _ _ _ _ c.split_dates.ensures.months (length-map dates month_entry))
+    (front-filled _ _ _ _ c.split_dates.ensures.days (length-map dates day_entry))
+
+pub returns : goal.returns
+returns c =
+    let dates = c.args.dates.now in
+    names-laid_out 8 compact_text dates _ _ _ c.write_compact_names.new.texts
+    (front-filled _ _ _ _ c.split_dates.ensures.years (length-map dates year_entry))
+    (front-filled _ _ _ _ c.split_dates.ensures.months (length-map dates month_entry))
+    (front-filled _ _ _ _ c.split_dates.ensures.days (length-map dates day_entry))
+    c.write_compact_names.ensures
