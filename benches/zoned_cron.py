@@ -6,7 +6,7 @@
 `naive` is the schedule in local time, `fixed` the same in a zone of one offset, and `rule` in New York by its rule. `next` and `prev` are asked
 at pseudo-random seconds of the years 1970 to 2106, and `run` gives one instant after another from 2024 on, as the iterator does.
 First the instants of 2024 are compared: those of `rule` with a cron over Python's zoneinfo, and those of the other two with the minutes planned.
-The best of seven rounds counts, less the time of making the starts. A small program takes the times itself. `rt run` proves and builds it, here each
+The best of seven rounds counts, less the time of making the starts, which the iterator does not need. A small program takes the times itself. `rt run` proves and builds it, here each
 time, over what `rt lib` has left of the libraries. An unproved build has checks, which take a hundred times as long as the calls.
 """
 import argparse
@@ -153,7 +153,7 @@ def main():
         best[row] = min(nanos / count, best.get(row, nanos / count))
     print("| Call | Schedule | naive, ns | fixed, ns, ratio | rule, ns, ratio |\n|---|---|---|---|---|")
     for call, text in itertools.product(CALLS, TEXTS):
-        taken = [best[call, zone, text] - best["start", zone, text] for zone in ZONES]
+        taken = [best[call, zone, text] - (best["start", zone, text] if call != "run" or zone == "naive" else 0) for zone in ZONES]
         beside = " | ".join(f"{it:.0f}, {it / taken[0]:.2f}" for it in taken[1:])
         print(f"| `{call}` | `{text}` | {taken[0]:.0f} | {beside} |")
 

@@ -2,6 +2,7 @@
 """Holds zoned_rules to dateutil's rules over local times, which two sentences of RFC 5545 lead to instants by Python's zoneinfo.
 
     checks/zoned_rules.py [--zones N] [--years N]      (2 zones of six and 1 year of each, if left out)
+    checks/zoned_rules.py --lines N [--seed N]         (so many questions drawn by chance near changes of all six zones)
 
 dateutil's `rrule` gives the local times of a rule, with no zone. Each stands for an instant by RFC 5545, 3.3.5: the first at which the clock
 shows it, or by the offset before the gap. Instants that are one count once, and those before the start's instant do not count.
@@ -15,6 +16,7 @@ some hours by `is_instance` at each quarter of an hour. `rt try` runs a small pr
 import argparse
 import datetime
 import itertools
+import random
 import tempfile
 import zoneinfo
 
@@ -65,6 +67,10 @@ RULES = (
 )
 # The words of FREQ, each with its seconds.
 UNITS = {"H": ("HOURLY", 3_600), "M": ("MINUTELY", 60), "S": ("SECONDLY", 1)}
+# The years of changes that are drawn, and rules of days for them.
+DRAWN = (2_000, 2_030)
+DAYS = ("FREQ=DAILY", "FREQ=DAILY;INTERVAL=3", "FREQ=WEEKLY;BYDAY=SU", "FREQ=WEEKLY;INTERVAL=2;BYDAY=SA,SU,MO", "FREQ=MONTHLY;BYDAY=1SU,2SU,-1SU", "FREQ=MONTHLY;BYMONTHDAY=1,2,-1,-2",
+        "FREQ=MONTHLY;BYDAY=SU;BYMONTHDAY=8,9,10,11,12,13,14", "FREQ=YEARLY;BYDAY=SU", "FREQ=YEARLY;BYMONTH=3,4,10,11,12;BYDAY=-1SU,-1SA,1SU", "FREQ=DAILY;BYDAY=MO,SU")
 # The starts, as hours, minutes and seconds.
 STARTS = ((2, 30, 0), (0, 0, 0), (3, 0, 1), (1, 45, 59), (23, 15, 0))
 PROGRAM = r'''//! Answers questions on rules in a zone, a line each.
@@ -233,9 +239,14 @@ class Known:
     """The instants of local seconds of a zone, each found once."""
 
     def __init__(self, zone):
-        self.zone, self.found = zone, {}
+        self.zone, self.found, self.steady = zone, {}, {}
 
     def __getitem__(self, local):
+        day = local // DAY
+        if day not in self.steady:
+            self.steady[day] = {ahead(self.zone, it) for it in range((day - 2) * DAY, (day + 3) * DAY, QUARTER)}
+        if len(self.steady[day]) == 1:
+            return local - min(self.steady[day])
         if local not in self.found:
             self.found[local] = stands_for(self.zone, local)
         return self.found[local]
@@ -258,16 +269,16 @@ def instances(known, rule, start, end):
     else:
         own = (f"BYHOUR={start.hour}", f"BYMINUTE={start.minute}", f"BYSECOND={start.second}")
         missing = [it for it, numbers in zip(own, (hours, minutes, seconds)) if not numbers]
-    try:
-        rrule = rrulestr(";".join([text, *parts, *missing]), dtstart=first)
-    except ValueError as error:
-        # (it refuses an interval that never meets a list, where we find no instance)
-        if "empty set" not in str(error):
-            raise
-        return []
     begun = known[seconds_of(start)]
     last = EPOCH + datetime.timedelta(seconds=end + 2 * DAY)
-    found = {known[seconds_of(it)] for it in itertools.takewhile(lambda it: it <= last, rrule)}
+    found = set()
+    try:
+        rrule = rrulestr(";".join([text, *parts, *missing]), dtstart=first)
+        found.update(known[seconds_of(it)] for it in itertools.takewhile(lambda it: it <= last, rrule))
+    except ValueError as error:
+        # (it refuses an interval that never meets a list, where we find no instance)
+        if "empty set" not in str(error) and "empty rule" not in str(error):
+            raise
     return sorted(it for it in found if begun <= it)
 
 
@@ -324,6 +335,49 @@ def of_rule(known, rule, start, change, all_bounds):
             yield line_of(call, low, high, start, bound, number, rule), " ".join(map(str, listed[::-1] if call == "prev" else listed))
 
 
+def changes_of(zone):
+    """The first seconds of a zone's offsets in the years of DRAWN."""
+    first, last = (seconds_of(datetime.datetime(it, 1, 1)) for it in DRAWN)
+    for low, high in itertools.pairwise(range(first, last, DAY // 2)):
+        if ahead(zone, low) != ahead(zone, high):
+            while high - low > 1:
+                middle = (low + high) // 2
+                low, high = (middle, high) if ahead(zone, middle) == ahead(zone, low) else (low, middle)
+            yield high
+
+
+def some_of(draw, numbers, most):
+    """Some of the numbers, between commas."""
+    return ",".join(map(str, sorted(draw.sample(numbers, draw.randint(1, most))))) if draw.random() < 0.6 else ""
+
+
+def drawn_rule(draw):
+    """A rule of RULES, or one drawn by chance."""
+    if draw.random() < 0.2:
+        return draw.choice([it for it in RULES if it[4:] != ("S97",)])
+    hours, minutes, seconds = some_of(draw, range(5), 3), some_of(draw, (0, 15, 29, 30, 31, 45, 59), 3), some_of(draw, (0, 1, 30, 59), 2)
+    if draw.random() < 0.6:
+        return draw.choice(DAYS), hours, minutes, seconds
+    unit, least, most = draw.choice((("H", 1, 50), ("M", 5, 3_000), ("S", 600, 180_000)))
+    text = draw.choice(("FREQ=DAILY", "FREQ=DAILY;BYDAY=SA,SU", "FREQ=DAILY;BYDAY=SU,MO,TU,FR", "FREQ=DAILY;BYMONTH=3,4,9,10,11,12"))
+    return text, hours, minutes, seconds, f"{unit}{draw.randint(least, most)}"
+
+
+def drawn(count, seed):
+    """So many questions around changes, of zones, rules and starts drawn by chance."""
+    draw = random.Random(seed)
+    zones = [(name, Known(zoneinfo.ZoneInfo(name))) for name, _ in ZONES]
+    changes = {name: list(changes_of(known.zone)) for name, known in zones}
+    rows = []
+    while len(rows) < count:
+        name, known = draw.choice(zones)
+        change = draw.choice(changes[name])
+        shown = EPOCH + datetime.timedelta(seconds=change + ahead(known.zone, change), days=-draw.randint(0, 9))
+        start = shown.replace(hour=draw.choice((0, 1, 2, 3, 12, 23)), minute=draw.choice((0, 15, 30, 59)), second=draw.choice((0, 0, 1, 59)))
+        rows += [(f"{name} {it}", run) for it, run in of_rule(known, drawn_rule(draw), start, change, True)]
+    return rows[:count]
+
+
 def line_of(call, low, high, start, bound, number, rule):
     """A question as the program reads it."""
     parts = " ".join(f"{it}," if it else "-" for it in rule[1:4])
@@ -335,8 +389,10 @@ def main():
     parser = argparse.ArgumentParser(description=__doc__.partition("\n")[0])
     parser.add_argument("--zones", type=int, default=2)
     parser.add_argument("--years", type=int, default=1)
+    parser.add_argument("--lines", type=int, help="so many questions drawn by chance, of all zones and changes from 2000 to 2029")
+    parser.add_argument("--seed", type=int, default=1)
     options = parser.parse_args()
-    zones = ZONES[:options.zones]
+    zones = ZONES if options.lines else ZONES[:options.zones]
     restart_without(dateutil)
     if dateutil is None:
         print("not run: checks/zoned_rules.py, which needs dateutil\n0 passed, 0 failed")
@@ -344,7 +400,10 @@ def main():
     if not zoneinfo.available_timezones():
         print("not run: checks/zoned_rules.py, which needs a database of time zones\n0 passed, 0 failed")
         return
-    rows = [(f"{name} {it}", run) for name, first in zones for it, run in questions(name, first, options.years)]
+    if options.lines:
+        rows = drawn(options.lines, options.seed)
+    else:
+        rows = [(f"{name} {it}", run) for name, first in zones for it, run in questions(name, first, options.years)]
     with tempfile.TemporaryDirectory(prefix="zoned_rules-") as room:
         uses = ["chrono_sets", "chrono_datetime", "chrono_instant", "zone_database", "zoned_rules"]
         folder = put_program(room, "instants", uses, PROGRAM)

@@ -63,7 +63,7 @@ earlier-day-unit Hour n d k lt few = omega (arith, casts, lt, few)
 earlier-day-unit Minute n d k lt few = omega (arith, casts, lt, few)
 earlier-day-unit Second n d k lt few = omega (arith, casts, lt, few)
 
-some_interval : (g : ℕ) → 0 < g → cond (g == 0) 1 g ≡ g
+pub some_interval : (g : ℕ) → 0 < g → cond (g == 0) 1 g ≡ g
 some_interval g some = rw (ne_eqb g 0 (λ e. omega (arith, e, some))) refl
 
 pub interval_units-some : (s : ClockSteps) → 0 < interval_units s

@@ -4,6 +4,7 @@ mod Intervals
 mod CountedUnits
 mod ListedTimes
 mod CandidateDays
+mod WeeklyUnits
 mod Reached
 mod Numbered
 mod InstantLists

@@ -81,7 +81,7 @@ pub off_instance : (r : LocalParts) (n : ℤ) (k : ℕ) → is_instance r.days r
 unfolding is_planned_on
 off_instance r n k h = ap (λ b. b && is_counted_time r n k) h
 
-planned_parts : (r : LocalParts) (n : ℤ) (k : ℕ) → is_planned_on r n k ≡ true → (is_instance r.days r.start.date n ≡ true) × (is_counted_time r n k ≡ true)
+pub planned_parts : (r : LocalParts) (n : ℤ) (k : ℕ) → is_planned_on r n k ≡ true → (is_instance r.days r.start.date n ≡ true) × (is_counted_time r n k ≡ true)
 unfolding is_planned_on
 planned_parts r n k h = and_parts (is_instance r.days r.start.date n) (is_counted_time r n k) h
 

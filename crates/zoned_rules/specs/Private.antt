@@ -2,13 +2,17 @@
 use Rattle.std.specs.Prelude.{◌≡◌, ◌==◌, if◌then◌else◌, ℕ, true, ℤ, pos, ◌+ℤ◌, ◌-ℤ◌, ◌*ℤ◌, ◌≤ℤ◌, ◌<ℤ◌, Option, Some, None}
 use Rattle.chrono_datetime.specs.Fields.{unix_epoch_day}
 use Rattle.chrono_datetime.specs.Moment.{IsMoment, Moment}
+use Rattle.chrono_datetime.specs.PassedOver.{PassedNumbers}
+use Rattle.chrono_datetime.specs.Weekday.{days_from_monday}
+use Rattle.chrono_datetime.specs.Weeks.{weekday_of}
+use Rattle.chrono_sets.specs.FiniteSets.{has}
 use Rattle.chrono_instant.specs.Instants.{epoch_second}
 use Rattle.zoned_rules.specs.LocalInstants.{IsSetPast}
 use Rattle.zoned_rules.specs.Recurs.{RecursFor}
 use Rattle.zoned_rules.specs.declared.clock_steps.ClockSteps.{ClockSteps}
 use Rattle.zoned_rules.specs.declared.clock_steps.ClockUnit.{ClockUnit}
 use Rattle.zoned_rules.specs.declared.clock_steps.ClockUnit.TheVariants.{Day, Hour, Minute, Second}
-use Rattle.zoned_rules.specs.LocalTimes.{LocalParts, is_planned}
+use Rattle.zoned_rules.specs.LocalTimes.{LocalParts, is_counted_time, is_planned}
 
 -- the second k of the day n, counted from 1 January 1970
 abbrev pub second_on : ℤ → ℕ → ℤ
@@ -24,6 +28,11 @@ units_of_day Day = 1
 units_of_day Hour = 24
 units_of_day Minute = 1_440
 units_of_day Second = 86_400
+
+-- the weekday of the day j is one that BYDAY lists, but none of the times lies there in a unit that counts
+abbrev pub MissesWeekday : LocalParts → ℕ → Type 0
+MissesWeekday r j =
+    has r.days.weekdays.every (days_from_monday (weekday_of (pos j))) ≡ true → PassedNumbers (is_counted_time r (pos j)) 0 86_400
 
 -- what was found is a local time of the rule
 pub record IsListed (r : LocalParts) (m : Moment) : Type 0 where

@@ -1,5 +1,5 @@
 //! `ClockSteps`: the units of the clock that a rule counts.
-ghost use Rattle.std.specs.Prelude.{◌≡◌, ℤ, ℕ, pos, neg_ℤ, ◌+ℤ◌, ◌-ℤ◌, ◌≤ℤ◌, ◌<ℤ◌, ◌<◌, ◌≤◌, ◌%◌, ◌^◌, ◌-◌};
+ghost use Rattle.std.specs.Prelude.{◌≡◌, ℤ, ℕ, pos, neg_ℤ, ◌+ℤ◌, ◌-ℤ◌, ◌≤ℤ◌, ◌<ℤ◌, ◌<◌, ◌≤◌, ◌*◌, ◌%◌, ◌^◌, ◌-◌};
 ghost use Rattle.std.specs.Int.{IsGcd};
 ghost use Rattle.zoned_rules.specs.LocalTimes.{each_day, is_above_hours, is_above_minutes, is_above_seconds, unit_number};
 ghost use Rattle.zoned_rules.specs.Private.{interval_units, units_of_day};
@@ -70,6 +70,15 @@ impl ClockSteps {
     {
         common_divisor(self.step(), self.unit.units_of_day())
     }
+
+    // A number of units that divides both the interval and a week. In each week the units that lie so many apart are the same.
+    pub(crate) fn weekly_interval(&self) -> u32
+        ensures positive { 0 < result }
+        ensures interval { interval_units self.now % result ≡ 0 }
+        ensures week { (7 * units_of_day self.now.unit) % result ≡ 0 }
+    {
+        common_divisor(self.step(), 7 * self.unit.units_of_day())
+    }
 }
 
 // The greatest common divisor, by Euclid.
@@ -125,7 +134,8 @@ impl ClockUnit {
     // How many of the unit a day has.
     #[tactic(auto, unfolding(crate::specs::Private::units_of_day))]
     fn units_of_day(self) -> u32
-        ensures { result ≡ units_of_day self }
+        ensures value { result ≡ units_of_day self }
+        ensures few { result ≤ 86_400 }
     {
         match self {
             ClockUnit::Day => 1,

@@ -1,18 +1,30 @@
 //! The days on which a local time of a rule may lie.
-ghost use Rattle.std.specs.Prelude.{◌≡◌, true, ◌≤ℤ◌, ◌<ℤ◌, IfNone, IfSome, IsFalse};
+ghost use Rattle.std.specs.Prelude.{◌≡◌, ◌<◌, ℕ, true, ◌≤ℤ◌, ◌<ℤ◌, IfNone, IfSome, IsFalse};
 ghost use Rattle.chrono_datetime.specs.Moment.{Moment};
 ghost use Rattle.chrono_rules.specs.Instances.{is_instance};
-ghost use Rattle.zoned_rules.specs.Private.{IsListed};
+ghost use Rattle.zoned_rules.specs.Private.{IsListed, MissesWeekday};
 
 use crate::clock_steps::{ClockSteps, DAY};
 use crate::local_rule::LocalRule;
-use chrono_datetime::NaiveDate;
+use chrono_datetime::{Datelike, NaiveDate};
+use chrono_rules::law::instances_have_listed_weekdays;
+use chrono_sets::are_empty;
+
+// The days of a week.
+const WEEK: u32 = 7;
 
 impl LocalRule {
     // Whether a listed time of day may lie in a unit that INTERVAL counts, on some day.
+    pub(crate) fn may_recur(&self) -> bool
+        ensures { IsFalse result → (q : Moment) → ¬ IsListed self.now q }
+    {
+        self.may_have_time() && self.may_have_weekday()
+    }
+
+    // The same, whatever the day is.
     //
     // If the interval is a whole part of a day, the same units count on each day. If it is not, none counts but those of a common divisor.
-    pub(crate) fn may_recur(&self) -> bool
+    fn may_have_time(&self) -> bool
         ensures { IsFalse result → (q : Moment) → ¬ IsListed self.now q }
     {
         let steps = ClockSteps {
@@ -21,6 +33,47 @@ impl LocalRule {
         };
         let common = LocalRule { steps, ..*self };
         common.first_time(self.start.date(), 0).is_some()
+    }
+
+    // The same on a weekday that BYDAY lists. By a common divisor of the interval and a week, the same units count in each week.
+    fn may_have_weekday(&self) -> bool
+        ensures { IsFalse result → (q : Moment) → ¬ IsListed self.now q }
+    {
+        let listed = &self.days.weekdays;
+        if listed.every.is_empty() || !are_empty(&listed.front) || !are_empty(&listed.back) {
+            return true;
+        }
+        instances_have_listed_weekdays(&self.days, self.start.date());
+        let steps = ClockSteps {
+            unit: self.steps.unit,
+            interval: self.steps.weekly_interval(),
+        };
+        let common = LocalRule { steps, ..*self };
+        common.meets_weekday()
+    }
+
+    // Whether a listed time lies in a unit that INTERVAL counts, on a weekday that BYDAY lists, in the week from the day with the number 0.
+    fn meets_weekday(&self) -> bool
+        ensures { IsFalse result → (day : ℕ) → day < 7 → MissesWeekday self.now day }
+    {
+        for day in 0..WEEK {
+            if self.meets_day(day) {
+                return true;
+            }
+        }
+        false
+    }
+
+    // The same of the day with that number.
+    fn meets_day(&self, day: u32) -> bool
+        requires { day < 7 }
+        ensures { IsFalse result → MissesWeekday self.now day }
+    {
+        let Some(date) = NaiveDate::from_num_days_from_ce_opt(day as i32) else {
+            return true;
+        };
+        let weekday = date.weekday().num_days_from_monday();
+        self.days.weekdays.every.contains(weekday) && self.first_time(date, 0).is_some()
     }
 
     // The first day after another on which a local time may lie.

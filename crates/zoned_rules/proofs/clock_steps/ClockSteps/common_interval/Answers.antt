@@ -5,4 +5,4 @@ pub returns-clause-interval : goal.returns-clause-interval
 returns-clause-interval c = rw (← c.step.ensures.value) (mod-eq-zero_of_dvd c.common_divisor.result c.common_divisor.ensures.divisor.0)
 
 pub returns-clause-day : goal.returns-clause-day
-returns-clause-day c = rw (← c.units_of_day.ensures) (mod-eq-zero_of_dvd c.common_divisor.result c.common_divisor.ensures.divisor.1)
+returns-clause-day c = rw (← c.units_of_day.ensures.value) (mod-eq-zero_of_dvd c.common_divisor.result c.common_divisor.ensures.divisor.1)

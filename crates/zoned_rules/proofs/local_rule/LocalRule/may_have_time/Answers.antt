@@ -3,7 +3,7 @@ use Rattle.zoned_rules.specs.LocalTimes.{LocalParts}
 use Rattle.zoned_rules.specs.Private.{IsListed}
 use Rattle.zoned_rules.proofs.CandidateDays.{never, none_there}
 use Rattle.zoned_rules.proofs.CountedUnits.{interval_units-some}
-use Rattle.zoned_rules.proofs.local_rule.LocalRule.may_recur.Goals as goal
+use Rattle.zoned_rules.proofs.local_rule.LocalRule.may_have_time.Goals as goal
 
 pub returns : goal.returns
 returns c = λ off q h.
