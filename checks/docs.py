@@ -52,7 +52,7 @@ ABSENT = {
         unfoldable view_is ensures """,
     "of pandas and Dask": "NA OutOfBoundsDatetime Client compute",
     "of Python": "Unpickler OverflowError TypeError ValueError datetime timedelta __slots__ __getstate__",
-    "of JavaScript": "BigInt Int32Array calendarName PlainTime ZonedDateTime iso8601 RangeError Temporal overflow wasm-opt",
+    "of JavaScript": "BigInt Int32Array calendarName PlainTime iso8601 RangeError Temporal overflow resolvedOptions wasm-opt",
     "of earlier versions": "check_rule check_schedule Roll::Nearest",
     "of SQL, and of texts that it is given": "timestamptz STRICT IMMUTABLE STABLE nearest-isda nearest-quantlib nearest_quantlib",
     "of C": "int32_t memcpy",
@@ -66,7 +66,7 @@ ABSENT = {
     "files and modules of chrono": "naive internals ",
     "words of CMake, of the shell and of a line": "find_package cc load_extension pkg-config lcalendar ldconfig LD_LIBRARY_PATH gc-sections",
     "words of the program dates": "MONTH mo us-federal modified-following modified-preceding",
-    "texts and digits of a text": "CEST P0D PT59M59 PT90S PT007S PT1H30M PT5400S PT0S",
+    "texts and digits of a text": "CEST P0D PT59M59 PT90S PT1H30M PT5400S PT0S",
     "made by tools/dist": "SHA256SUMS",
     "in the place of a name, or a part of names": "LAW ARGS condition with_ _milli _micro _nano",
 }
