@@ -6,13 +6,13 @@ import datetime
 import time as c_time
 from typing import Any
 
-from ._calendar import Duration
+from ._calendar import DateTime, Duration
 
 _DAY = Duration(days=1)
 _DAY_SECONDS = 86_400
 
 
-def _theirs(moment: Any, zone: Any, fold: int) -> datetime.datetime:
+def _shown(moment: Any, zone: Any, fold: int) -> datetime.datetime:
     """The datetime of a zone that shows the same time, without what is below a microsecond."""
     date = moment.date
     if not 1 <= date.year <= 9999:
@@ -21,12 +21,21 @@ def _theirs(moment: Any, zone: Any, fold: int) -> datetime.datetime:
     return datetime.datetime(date.year, date.month, date.day, *clock, zone, fold=fold)
 
 
+def _theirs(moment: Any) -> datetime.datetime:
+    """The datetime with the same zone that shows the same time, without what is below a microsecond."""
+    try:
+        found: datetime.datetime = DateTime.to_datetime(moment)
+    except (OverflowError, ValueError):
+        found = _shown(moment, moment.tzinfo, moment.fold)
+    return found
+
+
 def asked(moment: Any, name: str) -> Any:
     """What the zone of a date-time answers to a method of tzinfo; None without a zone."""
     zone = moment.tzinfo
     if zone is None:
         return None
-    return getattr(zone, name)(None if isinstance(zone, datetime.timezone) else _theirs(moment, zone, moment.fold))
+    return getattr(zone, name)(None if isinstance(zone, datetime.timezone) else _theirs(moment))
 
 
 def length_asked(moment: Any, name: str) -> Duration | None:
@@ -71,7 +80,7 @@ def from_utc(moment: Any, zone: Any) -> Any:
         return (moment + zone.utcoffset(None)).replace(tzinfo=zone)
     if type(zone).fromutc is datetime.tzinfo.fromutc:
         return _of_offsets(moment, zone)
-    shown = type(moment).from_datetime(zone.fromutc(_theirs(moment, zone, 0)))
+    shown = type(moment).from_datetime(zone.fromutc(_shown(moment, zone, 0)))
     return shown if shown.nanosecond == moment.nanosecond else shown.replace(nanosecond=moment.nanosecond)
 
 

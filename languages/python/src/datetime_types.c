@@ -79,6 +79,10 @@ static bool find_places(void)
     return !PyErr_Occurred();
 }
 
+/* What values of datetime are asked for, first the parts of a clock. */
+enum { TZINFO = 4, FOLD, TO_ORDINAL, NAMES };
+static PyObject *names[NAMES];
+
 /* Whether datetime's hashes are those of the bytes that its values are made of, as they are in C. */
 static bool hashes_bytes;
 
@@ -150,6 +154,19 @@ static bool look_at_hashes(void)
     return !PyErr_Occurred();
 }
 
+/* Makes the names once; false after an error. */
+static bool take_names(void)
+{
+    static const char *const texts[NAMES] = {"hour", "minute", "second", "microsecond", "tzinfo", "fold", "toordinal"};
+    for (int i = 0; i < NAMES; i++) {
+        names[i] = PyUnicode_InternFromString(texts[i]);
+        if (!names[i]) {
+            return false;
+        }
+    }
+    return true;
+}
+
 bool take_datetime(void)
 {
     PyObject *module = PyImport_ImportModule("datetime");
@@ -157,7 +174,7 @@ bool take_datetime(void)
         && take_class(module, "timedelta", &timedelta_class) && take_class(module, "tzinfo", &tzinfo_class);
     Py_XDECREF(module);
     from_ordinal = is_taken ? PyObject_GetAttrString((PyObject *)date_class, "fromordinal") : NULL;
-    return from_ordinal && take_field(&fields[0]) && take_field(&fields[1]) && take_field(&fields[2])
+    return from_ordinal && take_names() && take_field(&fields[0]) && take_field(&fields[1]) && take_field(&fields[2])
         && find_places() && look_at_hashes();
 }
 
@@ -241,7 +258,7 @@ bool read_timedelta(PyObject *it, int64_t *days, int64_t *seconds, int64_t *nano
 bool read_python_date(PyObject *it, int32_t *number)
 {
     int64_t ordinal;
-    if (!take_whole(PyObject_CallMethod(it, "toordinal", NULL), &ordinal)) {
+    if (!take_whole(PyObject_CallMethodObjArgs(it, names[TO_ORDINAL], NULL), &ordinal)) {
         return false;
     }
     if (ordinal < FIRST_DAY || ordinal > LAST_DAY) {
@@ -254,9 +271,8 @@ bool read_python_date(PyObject *it, int32_t *number)
 
 bool read_python_datetime(PyObject *it, int32_t *number, int64_t clock[4])
 {
-    static const char *const parts[] = {"hour", "minute", "second", "microsecond"};
     for (int i = 0; i < 4; i++) {
-        if (!take_whole(PyObject_GetAttrString(it, parts[i]), &clock[i])) {
+        if (!take_whole(PyObject_GetAttr(it, names[i]), &clock[i])) {
             return false;
         }
     }
@@ -271,8 +287,8 @@ bool read_python_datetime(PyObject *it, int32_t *number, int64_t clock[4])
 bool read_python_zoning(PyObject *it, Zoning *zoning)
 {
     int64_t fold;
-    zoning->zone = PyObject_GetAttrString(it, "tzinfo");
-    if (!zoning->zone || !take_whole(PyObject_GetAttrString(it, "fold"), &fold)) {
+    zoning->zone = PyObject_GetAttr(it, names[TZINFO]);
+    if (!zoning->zone || !take_whole(PyObject_GetAttr(it, names[FOLD]), &fold)) {
         Py_CLEAR(zoning->zone);
         return false;
     }
@@ -321,11 +337,12 @@ PyObject *python_datetime(int32_t number, const int64_t clock[4], Zoning zoning)
     if (!is_day(number)) {
         return NULL;
     }
-    PyObject *parts = Py_BuildValue("(iiiiiiiO)", (int)calendar_year(number), (int)calendar_month(number), (int)calendar_day(number),
-                                    (int)clock[0], (int)clock[1], (int)clock[2], (int)(clock[3] / 1000),
-                                    zoning.zone ? zoning.zone : Py_None);
-    PyObject *named = Py_BuildValue("{si}", "fold", (int)zoning.fold);
-    PyObject *result = parts && named ? PyObject_Call((PyObject *)datetime_class, parts, named) : NULL;
+    calendar_ymd name = calendar_split(number);
+    PyObject *parts = Py_BuildValue("(iiiiiiiO)", (int)name.year, (int)name.month, (int)name.day, (int)clock[0], (int)clock[1],
+                                    (int)clock[2], (int)(clock[3] / 1000), zoning.zone ? zoning.zone : Py_None);
+    /* (a keyword takes a dictionary, and most have no fold) */
+    PyObject *named = zoning.fold ? Py_BuildValue("{Oi}", names[FOLD], 1) : NULL;
+    PyObject *result = parts && !PyErr_Occurred() ? PyObject_Call((PyObject *)datetime_class, parts, named) : NULL;
     Py_XDECREF(parts);
     Py_XDECREF(named);
     return result;
