@@ -1,9 +1,10 @@
 -- The lines that are written for a calendar.
-use Rattle.std.specs.Prelude.{ℕ, List, [], ◌++◌, Option, Some, None, codes}
+use Rattle.std.specs.Prelude.{◌≡◌, ℕ, Bool, true, List, [], ◌∷◌, ◌++◌, Option, Some, None, IfSome, codes, ⊤}
 use Rattle.std.specs.List.{flat_map}
 use Rattle.calendar_text.specs.CalendarTexts.{CalendarParts}
-use Rattle.calendar_text.specs.CalendarTimes.{calendar_time_text}
-use Rattle.calendar_text.specs.Lines.{property_key, text_in}
+use Rattle.calendar_text.specs.CalendarTimes.{CanBeReadBack, calendar_time_text}
+use Rattle.calendar_text.specs.Lines.{is_local, is_of_class, property_key, text_in}
+use Rattle.calendar_text.specs.declared.byte_class.ByteClass.TheVariants.{Safe, Rule as OfRule}
 use Rattle.calendar_text.specs.declared.calendar_lines.CalendarLines.{CalendarLines}
 use Rattle.calendar_text.specs.declared.calendar_time.CalendarTime.{CalendarTime}
 use Rattle.calendar_text.specs.declared.calendar_time.CalendarTime.TheVariants.{Date, Local, Utc}
@@ -53,3 +54,23 @@ calendar_lines c =
 -- the parts of what is written
 abbrev pub parts_written : CalendarLines → CalendarParts
 parts_written c = record { start = c.start; zone = text_in c.zone; rule = text_in c.rule; dates = c.dates.now; exceptions = c.exceptions.now }
+
+-- a time may stand in a list beside a start: a local time has the zone of a start that is local too
+abbrev pub goes_with : CalendarTime → CalendarTime → Bool
+goes_with start (Date d) = true
+goes_with start (Local m) = is_local (Some start)
+goes_with start (Utc m) = true
+
+-- the times of a list can be read back, and go with the start
+abbrev pub AreWritable : CalendarTime → List CalendarTime → Type 0
+AreWritable start [] = ⊤
+AreWritable start (t ∷ ts) = CanBeReadBack t × (goes_with start t ≡ true) × AreWritable start ts
+
+-- what is written of these parts is read as the same parts. Each time can be read back. A zone has a name of safe bytes, and the start is
+-- local. The rule has bytes of rules alone
+pub record AreWritableParts (c : CalendarParts) : Type 0 where
+  pub start : CanBeReadBack c.start
+  pub zone : IfSome c.zone (λ name. (is_of_class Safe name ≡ true) × (is_local (Some c.start) ≡ true))
+  pub rule : IfSome c.rule (λ rule. is_of_class OfRule rule ≡ true)
+  pub dates : AreWritable c.start c.dates
+  pub exceptions : AreWritable c.start c.exceptions

@@ -2,9 +2,10 @@
 ghost use Rattle.std.specs.Prelude.{◌≡◌, ℕ, List, [], ◌∷◌, Some, None, Err, pos, codes, true};
 ghost use Rattle.chrono_datetime.specs.Moment.{moment};
 ghost use Rattle.chrono_datetime.specs.Time.{time_at};
-ghost use Rattle.calendar_text.specs.CalendarTexts.{IsCalendarText, start_read};
+ghost use Rattle.calendar_text.specs.CalendarTexts.{CalendarParts, IsCalendarText, start_read};
 ghost use Rattle.calendar_text.specs.CalendarTimes.{CanBeReadBack, time_of, calendar_time_text};
 ghost use Rattle.calendar_text.specs.Folds.{are_short, folded, may_fold, unfolded};
+ghost use Rattle.calendar_text.specs.WrittenCalendars.{AreWritableParts, calendar_lines};
 ghost use Rattle.calendar_text.specs.Reads.{calendar_error_at};
 ghost use Rattle.calendar_text.specs.declared.calendar_error.CalendarTextFault.TheVariants.{OtherKind, OtherZone, PropertyTwice};
 ghost use Rattle.calendar_text.specs.declared.calendar_time.CalendarTime.{CalendarTime};
@@ -23,6 +24,13 @@ pub fn folded_lines_are_short()
 /// A time that is written is read back, if its year is from 0 to 9999 and it is no fraction of a second.
 pub fn written_times_are_read()
     ensures { (t : CalendarTime) → CanBeReadBack t → time_of (calendar_time_text t) ≡ Some t }
+{}
+
+/// A text that is written for a calendar and folded is read as what it was written from.
+///
+/// Each time can be read back. A zone has a name of safe characters, and the start is local; so is it beside local times of the lists.
+pub fn written_calendars_are_read()
+    ensures { (c : CalendarParts) → AreWritableParts c → IsCalendarText (folded (calendar_lines c)) c }
 {}
 
 /// Texts with lines of RFC 5545 (3.8.5), folded too: a daily rule in New York, three exceptions in UTC, and two dates.

@@ -28,6 +28,10 @@ use chrono_text::{begins_but_for_case, same_but_for_case};
 /// let schedule = read_timed_schedule(Dialect::Seconds, b"*/15 30 4 * * *").ok()?;
 /// (schedule.seconds.contains(45), schedule.seconds.contains(46)) // (true, false)
 /// read_timed_schedule(Dialect::Crontab, b"*/15 30 4 * * *").is_err() // true
+/// let weekdays = read_timed_schedule(Dialect::Quartz, b"0 30 4 ? * MON-FRI 2024-2026").ok()?;
+/// use chrono_datetime::{AndTime, NaiveDate};
+/// weekdays.next_after(NaiveDate::from_ymd_opt(2026, 1, 2)?.and_hms_opt(4, 30, 0)?) // Some(2026-01-05T04:30:00)
+/// weekdays.next_after(NaiveDate::from_ymd_opt(2026, 12, 31)?.and_hms_opt(4, 30, 0)?) // None
 /// ```
 ///
 /// The field of seconds is read as [`read_field`] reads the numbers 0 to 59, without names. The others are read as [`read_schedule`] does.
