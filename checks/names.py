@@ -4,8 +4,9 @@
     checks/names.py
 
 A definition is what a file of `specs/` exports. A type is a public struct, enum or trait of a library. Two lemmas are one if their
-statements differ in the names of variables alone. The crates of tests and measures are left out, since nothing lists them. The check
-then plants a second definition, a second type and a second lemma, and has to find all three.
+statements differ in the names of variables alone. The crates of tests and measures are left out, since nothing lists them. Lemmas of
+TWICE may stand in two crates, and have to. The check then plants a second definition, a second type and a second lemma, and has to find
+all three.
 """
 import collections
 import os
@@ -23,6 +24,10 @@ NODE = "Lib.antt"
 LEMMA = re.compile(r"^(?:pub )?([^\s:(){}]+) : ([({].* : .*(?:\n    .*)*)", re.M)
 BINDER = re.compile(r"[({]([^(){}:]+) : |λ \(?([^\s().:]+)")
 WORD = re.compile(r"[\w'_◌-]+|\S")
+
+# Steps of readers that cut a text into pieces, or know the order of years: each reader has its own, by the name that it has in the second.
+TWICE = {"pieces_more", "pieces_none", "size_more", "cut_size", "cut_whole", "nothing_behind", "earlier_date", "position_is", "before_sep",
+         "after_sep", "sep_stands", "none_is", "pieces_end"}
 
 
 def read_files():
@@ -82,7 +87,10 @@ def main():
     files, lemmas = read_files(), read_lemmas()
     faults = doubled(files)
     same = same_lemmas(lemmas)
-    for those in same.values():
+    known = {key: name for key, those in same.items() for name in [those[-1].partition(" ")[0]] if name in TWICE and len(those) == 2}
+    for name in sorted(TWICE - set(known.values())):
+        print(f"the lemma {name} does not stand twice")
+    for those in (it for key, it in same.items() if key not in known):
         print(f"one lemma stands as {' and as '.join(those)}")
     for (kind, name), those in faults.items():
         print(f"the {kind} {name} stands in {' and '.join(those)}")
@@ -95,7 +103,7 @@ def main():
     if len(same_lemmas({**lemmas, **two})) != len(same) + 1:
         missed.add(("lemma", "two_times"))
         print("the planted second lemma was not found")
-    failed = len(faults) + len(same) + len(missed)
+    failed = len(faults) + len(same) - len(known) + len(TWICE) - len(known) + len(missed)
     names = sum(len((DEFINITION if it.endswith(".antt") else TYPE).findall(text)) for it, text in files.items())
     statements = sum(len(LEMMA.findall(text)) for text in lemmas.values())
     print(f"{names + statements + 3 - failed} passed, {failed} failed")

@@ -7,7 +7,7 @@ use Rattle.std.proofs.lemmas.List.{take_all}
 use Rattle.chrono_text.specs.Lists.{pieces, pieces_behind, stands_in}
 use Rattle.chrono_cron.specs.declared.text.schedule_error.ScheduleFault.{ScheduleFault}
 use Rattle.chrono_sets.specs.FiniteSets.{FiniteSet, with_number}
-use Rattle.timed_cron.specs.DialectFields.{and_then_read, behind, items_read, span_lists, span_read, with_listed}
+use Rattle.timed_cron.specs.DialectFields.{fault_behind, read_then, items_read, span_lists, span_read, with_listed}
 use Rattle.timed_cron.specs.declared.field_form.FieldForm.{FieldForm}
 use Rattle.timed_cron.specs.declared.field_form.Span.{Span}
 
@@ -15,13 +15,13 @@ pub stops : {S : Type 0} (with : S → FieldForm → Span → S) (form : FieldFo
     → span_read form item ≡ Err e → items_read with form set place (item ∷ items) ≡ Err (place + e.0, e.1)
 unfolding items_read
 stops with form set place item items e is =
-    ap (λ r. and_then_read (behind place r) (λ span. items_read with form (with set form span) (place + (length item + 1)) items)) is
+    ap (λ r. read_then (fault_behind place r) (λ span. items_read with form (with set form span) (place + (length item + 1)) items)) is
 
 pub goes_on : {S : Type 0} (with : S → FieldForm → Span → S) (form : FieldForm) (set : S) (place : ℕ) (item : List ℕ) (items : List (List ℕ)) (span : Span)
     → span_read form item ≡ Ok span → items_read with form set place (item ∷ items) ≡ items_read with form (with set form span) (place + (length item + 1)) items
 unfolding items_read
 goes_on with form set place item items span is =
-    ap (λ r. and_then_read (behind place r) (λ span. items_read with form (with set form span) (place + (length item + 1)) items)) is
+    ap (λ r. read_then (fault_behind place r) (λ span. items_read with form (with set form span) (place + (length item + 1)) items)) is
 
 pub ends : {S : Type 0} (with : S → FieldForm → Span → S) (form : FieldForm) (set : S) (place : ℕ) → items_read with form set place [] ≡ Ok set
 unfolding items_read

@@ -18,7 +18,7 @@ use Rattle.chrono_cron.proofs.TextWords.{piece_of, words_of}
 use Rattle.timed_cron.specs.Private.{HasFourWords, IsUnreadFirst, IsWordAt, bytes_of}
 use Rattle.timed_cron.specs.TimedErrors.{error_with_seconds, four_fault}
 use Rattle.timed_cron.specs.TimedTexts.{IsAtSecondZero, IsNicknameText, IsSixFieldText}
-use Rattle.timed_cron.specs.QuartzTexts.{error_in}
+use Rattle.timed_cron.specs.QuartzTexts.{timed_error_in}
 use Rattle.timed_cron.specs.declared.timed_error.TimedError.{TimedError}
 use Rattle.timed_cron.specs.declared.timed_error.TimedError.TheVariants.{Fields as InFields}
 use Rattle.timed_cron.specs.declared.timed_schedule.TimedSchedule.{TimedSchedule}
@@ -221,6 +221,6 @@ pub err_of : {A E : Type 0} (q : Result A E) → IsErr q ↔ ((a : A) → q ≡ 
 err_of (Ok a) = (λ err. absurd (false≢true err), λ none. absurd (none a refl))
 err_of (Err e) = (λ err a same. absurd (false≢true (sym (ap is_error same))), λ none. refl)
 
-pub error_told : (q : Result TimedSchedule TimedError) → IfErr q (λ e. e ≡ error_in q)
+pub error_told : (q : Result TimedSchedule TimedError) → IfErr q (λ e. e ≡ timed_error_in q)
 error_told (Ok s) = tt
 error_told (Err e) = refl

@@ -22,14 +22,14 @@ use Rattle.timed_cron.specs.declared.field_form.Span.{Span}
 -- ---- what is read, or what is wrong behind how many bytes
 
 -- what a next step makes of what was read
-abbrev pub and_then_read : {A B E : Type 0} → Result A E → (A → Result B E) → Result B E
-and_then_read (Ok a) next = next a
-and_then_read (Err e) next = Err e
+abbrev pub read_then : {A B E : Type 0} → Result A E → (A → Result B E) → Result B E
+read_then (Ok a) next = next a
+read_then (Err e) next = Err e
 
 -- what is read behind so many bytes: a fault is so many bytes further on
-abbrev pub behind : {A : Type 0} → ℕ → Result A (ℕ × ScheduleFault) → Result A (ℕ × ScheduleFault)
-behind bytes (Ok a) = Ok a
-behind bytes (Err e) = Err (bytes + e.0, e.1)
+abbrev pub fault_behind : {A : Type 0} → ℕ → Result A (ℕ × ScheduleFault) → Result A (ℕ × ScheduleFault)
+fault_behind bytes (Ok a) = Ok a
+fault_behind bytes (Err e) = Err (bytes + e.0, e.1)
 
 -- a value, or a fault where there is none
 abbrev pub ok_or : {A : Type 0} → Option A → ScheduleFault → Result A (ℕ × ScheduleFault)
@@ -49,18 +49,18 @@ unfoldable pub number_written : FieldForm → List ℕ → Option ℕ
 number_written form text = option_or (digits_of form.digits text) (named_number form.names text)
 
 -- the number, if it is one of the field's
-unfoldable pub number_in : FieldForm → List ℕ → Option ℕ
-number_in form text = option_and_then (if_within form.low form.high) (number_written form text)
+unfoldable pub field_number : FieldForm → List ℕ → Option ℕ
+field_number form text = option_and_then (if_within form.low form.high) (number_written form text)
 
 -- what is wrong with a text that is none: it writes another number, or letters go on behind a name, or it writes none
-unfoldable pub number_fault : FieldForm → List ℕ → ScheduleFault
-number_fault form text =
+unfoldable pub form_number_fault : FieldForm → List ℕ → ScheduleFault
+form_number_fault form text =
     if is_some (number_written form text) || are_digits text then OutOfRange
     else if is_some (named_number form.names (take 3 text)) then LongName
     else unspelled_fault text
 
-unfoldable pub number_read : FieldForm → List ℕ → Result ℕ (ℕ × ScheduleFault)
-number_read form text = ok_or (number_in form text) (number_fault form text)
+unfoldable pub field_number_read : FieldForm → List ℕ → Result ℕ (ℕ × ScheduleFault)
+field_number_read form text = ok_or (field_number form text) (form_number_fault form text)
 
 -- the step behind a `/`: a number from 1 to 999, which is our choice. Quartz refuses a step that is longer than the field
 unfoldable pub step_read : List ℕ → Result ℕ (ℕ × ScheduleFault)
@@ -75,21 +75,21 @@ in_order form place first last = if form.wraps || nat_le first last then Ok (fir
 -- a range by what stands before its `-` and behind it
 unfoldable pub range_read : FieldForm → List ℕ → List ℕ → Result (ℕ × ℕ) (ℕ × ScheduleFault)
 range_read form front back =
-    and_then_read (number_read form front) (λ first.
-    and_then_read (behind (length front + 1) (number_read form back)) (λ last. in_order form (length front + 1) first last))
+    read_then (field_number_read form front) (λ first.
+    read_then (fault_behind (length front + 1) (field_number_read form back)) (λ last. in_order form (length front + 1) first last))
 
 -- the first and the last number of an item: "`*` (all values)", "`-` is used to specify ranges", or a number alone
 unfoldable pub ends_read : FieldForm → List ℕ → Result (ℕ × ℕ) (ℕ × ScheduleFault)
 ends_read form text =
     if is_star text then Ok (form.low, form.high)
     else if stands_in (byte "-") text then range_read form (before_byte (byte "-") text) (behind_byte (byte "-") text)
-    else and_then_read (number_read form text) (λ n. Ok (n, n))
+    else read_then (field_number_read form text) (λ n. Ok (n, n))
 
 -- the same in front of a `/`, where a number alone begins a range to the end of the field: `5/15` in the minutes are 5, 20, 35 and 50
 unfoldable pub stepped_ends_read : FieldForm → List ℕ → Result (ℕ × ℕ) (ℕ × ScheduleFault)
 stepped_ends_read form text =
     if is_star text || stands_in (byte "-") text then ends_read form text
-    else and_then_read (number_read form text) (λ n. Ok (n, form.high))
+    else read_then (field_number_read form text) (λ n. Ok (n, form.high))
 
 -- a first and a last number, by steps
 abbrev pub span_by : ℕ × ℕ → ℕ → Span
@@ -99,21 +99,21 @@ span_by ends step = record { first = ends.0; last = ends.1; step = step }
 unfoldable pub span_read : FieldForm → List ℕ → Result Span (ℕ × ScheduleFault)
 span_read form text =
     if stands_in (byte "/") text
-    then and_then_read (stepped_ends_read form (before_byte (byte "/") text)) (λ ends.
-    and_then_read (behind (length (before_byte (byte "/") text) + 1) (step_read (behind_byte (byte "/") text))) (λ step. Ok (span_by ends step)))
-    else and_then_read (ends_read form text) (λ ends. Ok (span_by ends 1))
+    then read_then (stepped_ends_read form (before_byte (byte "/") text)) (λ ends.
+    read_then (fault_behind (length (before_byte (byte "/") text) + 1) (step_read (behind_byte (byte "/") text))) (λ step. Ok (span_by ends step)))
+    else read_then (ends_read form text) (λ ends. Ok (span_by ends 1))
 
 -- how many numbers a field has
-abbrev pub size_of : FieldForm → ℕ
-size_of form = form.high + 1 - form.low
+abbrev pub field_size : FieldForm → ℕ
+field_size form = form.high + 1 - form.low
 
 -- where a span ends: past the end of the field, if it comes round
 abbrev pub span_end : FieldForm → Span → ℕ
-span_end form s = if nat_le s.first s.last then s.last else s.last + size_of form
+span_end form s = if nat_le s.first s.last then s.last else s.last + field_size form
 
 -- whether a span lists the number k of the field. A number counts as the one a whole round later too
 unfoldable pub span_lists : FieldForm → Span → ℕ → Bool
-span_lists form s k = is_by_steps s.first (span_end form s) s.step k || is_by_steps s.first (span_end form s) s.step (k + size_of form)
+span_lists form s k = is_by_steps s.first (span_end form s) s.step k || is_by_steps s.first (span_end form s) s.step (k + field_size form)
 
 -- ---- sets of numbers, each by its place in the field
 
@@ -124,14 +124,14 @@ with_listed form s set k (suc count) = with_listed form s (if span_lists form s 
 
 -- the members and the numbers that a span lists
 unfoldable pub with_span : FiniteSet → FieldForm → Span → FiniteSet
-with_span set form s = with_listed form s set form.low (size_of form)
+with_span set form s = with_listed form s set form.low (field_size form)
 
 -- the set with the numbers of the items, the first of which begins at a place, or what is wrong with the first that cannot be read.
 -- "`,` is used to specify additional values"
 unfoldable pub items_read : {S : Type 0} → (S → FieldForm → Span → S) → FieldForm → S → ℕ → List (List ℕ) → Result S (ℕ × ScheduleFault)
 items_read with form set place [] = Ok set
 items_read with form set place (item ∷ items) =
-    and_then_read (behind place (span_read form item)) (λ span. items_read with form (with set form span) (place + (length item + 1)) items)
+    read_then (fault_behind place (span_read form item)) (λ span. items_read with form (with set form span) (place + (length item + 1)) items)
 
 -- the numbers that a field lists
 abbrev pub numbers_read : FieldForm → List ℕ → Result FiniteSet (ℕ × ScheduleFault)
@@ -139,18 +139,18 @@ numbers_read form text = items_read with_span form no_numbers 0 (pieces (byte ",
 
 -- known values: every 15th minute from 5 on, hours that go over midnight, and a month by its name
 numbers_read-stepped : numbers_read (record { names = Nothing; digits = 2; low = 0; high = 59; base = 0; wraps = true }) (codes "5/15") ≡ Ok (numbers (5 ∷ 20 ∷ 35 ∷ 50 ∷ []))
-unfolding items_read span_read stepped_ends_read ends_read range_read number_read number_fault number_in number_written named_number step_read span_lists with_span step_of digits_of natural_of month_of_letters weekday_of_letters
+unfolding items_read span_read stepped_ends_read ends_read range_read field_number_read form_number_fault field_number number_written named_number step_read span_lists with_span step_of digits_of natural_of month_of_letters weekday_of_letters
 numbers_read-stepped = refl
 
 numbers_read-over_midnight : numbers_read (record { names = Nothing; digits = 2; low = 0; high = 23; base = 0; wraps = true }) (codes "22-2/2") ≡ Ok (numbers (22 ∷ 0 ∷ 2 ∷ []))
-unfolding items_read span_read stepped_ends_read ends_read range_read number_read number_fault number_in number_written named_number step_read span_lists with_span step_of digits_of natural_of month_of_letters weekday_of_letters
+unfolding items_read span_read stepped_ends_read ends_read range_read field_number_read form_number_fault field_number number_written named_number step_read span_lists with_span step_of digits_of natural_of month_of_letters weekday_of_letters
 numbers_read-over_midnight = refl
 
 numbers_read-months : numbers_read (record { names = Months; digits = 2; low = 1; high = 12; base = 0; wraps = true }) (codes "nov-Feb,6") ≡ Ok (numbers (11 ∷ 12 ∷ 1 ∷ 2 ∷ 6 ∷ []))
-unfolding items_read span_read stepped_ends_read ends_read range_read number_read number_fault number_in number_written named_number step_read span_lists with_span step_of digits_of natural_of month_of_letters weekday_of_letters
+unfolding items_read span_read stepped_ends_read ends_read range_read field_number_read form_number_fault field_number number_written named_number step_read span_lists with_span step_of digits_of natural_of month_of_letters weekday_of_letters
 numbers_read-months = refl
 
 -- what is wrong behind four bytes
 numbers_read-wrong : numbers_read (record { names = Nothing; digits = 2; low = 0; high = 59; base = 0; wraps = true }) (codes "5,7-60") ≡ Err (4, OutOfRange)
-unfolding items_read span_read stepped_ends_read ends_read range_read number_read number_fault number_in number_written named_number step_read span_lists with_span step_of digits_of natural_of month_of_letters weekday_of_letters
+unfolding items_read span_read stepped_ends_read ends_read range_read field_number_read form_number_fault field_number number_written named_number step_read span_lists with_span step_of digits_of natural_of month_of_letters weekday_of_letters
 numbers_read-wrong = refl

@@ -98,8 +98,8 @@ abbrev pub bytes_of : List ℕ → ℕ → ℕ → List ℕ
 bytes_of text place end = take (end - place) (drop place text)
 
 -- a word lies in the text
-abbrev pub IsWithin : List ℕ → Ends → Type 0
-IsWithin text e = (e.place ≤ e.end) × (e.end ≤ length text)
+abbrev pub IsWordOf : List ℕ → Ends → Type 0
+IsWordOf text e = (e.place ≤ e.end) × (e.end ≤ length text)
 
 -- the word with its place
 abbrev pub word_of : List ℕ → Ends → ℕ × List ℕ
@@ -115,16 +115,16 @@ year_words None = []
 year_words (Some word) = word ∷ []
 
 -- the text has these words, and no others
-pub record AreWords (text : List ℕ) (w : Words) : Type 0 where
+pub record AreQuartzWords (text : List ℕ) (w : Words) : Type 0 where
   pub words : placed_words 0 text ≡ word_of text w.second ∷ word_of text w.minute ∷ word_of text w.hour ∷ word_of text w.day ∷ word_of text w.month ∷ word_of text w.weekday
       ∷ year_words (year_word_of text w.year)
-  pub second : IsWithin text w.second
-  pub minute : IsWithin text w.minute
-  pub hour : IsWithin text w.hour
-  pub day : IsWithin text w.day
-  pub month : IsWithin text w.month
-  pub weekday : IsWithin text w.weekday
-  pub year : IfSome w.year (IsWithin text)
+  pub second : IsWordOf text w.second
+  pub minute : IsWordOf text w.minute
+  pub hour : IsWordOf text w.hour
+  pub day : IsWordOf text w.day
+  pub month : IsWordOf text w.month
+  pub weekday : IsWordOf text w.weekday
+  pub year : IfSome w.year (IsWordOf text)
 
 -- the text has five words, of which the first is no field of minutes
 pub record IsUnreadFirst (text : List ℕ) : Type 0 where

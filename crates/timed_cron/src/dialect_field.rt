@@ -4,7 +4,7 @@ ghost use Rattle.std.specs.Str.{byte};
 ghost use Rattle.chrono_text.specs.Lists.{pieces, stands_in};
 ghost use Rattle.chrono_cron.specs.FieldTexts.{before_byte, behind_byte, is_star};
 ghost use Rattle.chrono_cron.specs.ScheduleErrors.{step_fault, unspelled_fault};
-ghost use Rattle.timed_cron.specs.DialectFields.{behind, ends_read, in_order, items_read, named_number, number_fault, number_in, number_read, number_written, range_read, span_read, step_read, stepped_ends_read};
+ghost use Rattle.timed_cron.specs.DialectFields.{fault_behind, ends_read, in_order, items_read, named_number, form_number_fault, field_number, field_number_read, number_written, range_read, span_read, step_read, stepped_ends_read};
 ghost use Rattle.timed_cron.specs.Private.{AreEndsOf, IsForm, IsSpanOf};
 
 use crate::field_form::{FieldForm, Span};
@@ -125,7 +125,7 @@ fn read_range(front: &[u8], back: &[u8], form: FieldForm) -> Result<(u32, u32), 
 #[tactic(auto, unfolding(crate::specs::DialectFields::number_read))]
 pub(crate) fn read_number(text: &[u8], form: FieldForm) -> Result<u32, FieldFault>
     requires { IsForm form }
-    ensures read { result ≡ number_read form text.now }
+    ensures read { result ≡ field_number_read form text.now }
     ensures number { IfOk result (λ n. (form.low ≤ n) × (n ≤ form.high)) }
     ensures within { IfErr result (λ e. e.0 ≡ 0) }
 {
@@ -139,7 +139,7 @@ pub(crate) fn read_number(text: &[u8], form: FieldForm) -> Result<u32, FieldFaul
 #[tactic(auto, unfolding(crate::specs::DialectFields::number_in))]
 pub(crate) fn number_in(text: &[u8], form: FieldForm) -> Option<u32>
     requires { IsForm form }
-    ensures value { result ≡ number_in form text.now }
+    ensures value { result ≡ field_number form text.now }
     ensures low { IfSome result (λ n. form.low ≤ n) }
     ensures high { IfSome result (λ n. n ≤ form.high) }
 {
@@ -155,7 +155,7 @@ pub(crate) fn number_in(text: &[u8], form: FieldForm) -> Option<u32>
 #[tactic(auto, unfolding(crate::specs::DialectFields::number_fault))]
 pub(crate) fn number_fault(text: &[u8], form: FieldForm) -> ScheduleFault
     requires { IsForm form }
-    ensures { result ≡ number_fault form text.now }
+    ensures { result ≡ form_number_fault form text.now }
 {
     if number_written(text, form).is_some() || are_digits(text) {
         ScheduleFault::OutOfRange

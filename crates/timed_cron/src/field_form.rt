@@ -1,7 +1,7 @@
 //! `FieldForm`: the numbers that a field has, and their names. `Span`: what an item of it lists.
 ghost use Rattle.std.specs.Prelude.{◌≡◌, ◌+◌, ◌<◌, ◌≤◌, ℕ};
 ghost use Rattle.chrono_sets.specs.Steps.{is_by_steps};
-ghost use Rattle.timed_cron.specs.DialectFields.{named_number, size_of, span_end, span_lists};
+ghost use Rattle.timed_cron.specs.DialectFields.{named_number, field_size, span_end, span_lists};
 ghost use Rattle.timed_cron.specs.Private.{IsForm, IsSpanOf};
 
 use chrono_datetime::{Month, Weekday};
@@ -49,7 +49,7 @@ impl FieldForm {
     // How many numbers the field has.
     pub(crate) fn size(self) -> u32
         requires { IsForm self }
-        ensures { result ≡ size_of self }
+        ensures { result ≡ field_size self }
     {
         self.high + 1 - self.low
     }

@@ -2,7 +2,7 @@
 ghost use Rattle.std.specs.Prelude.{◌≡◌, ◌<◌, ◌≤◌, ◌+◌, length, IfErr, IfSome, IfNone, Some, None};
 ghost use Rattle.chrono_cron.specs.ScheduleTexts.{before_letter, is_last_workday_text};
 ghost use Rattle.timed_cron.specs.DialectFields.{numbers_read};
-ghost use Rattle.timed_cron.specs.QuartzTexts.{day_fault, days_from_end, days_read, every_day, is_mark, last_weekday, letter_fault, listed_days, listed_unless, named_days, nearest_workday, nth_weekday, weekday_fault, weekdays_read};
+ghost use Rattle.timed_cron.specs.QuartzTexts.{day_fault, days_from_end, days_read, every_quartz_day, is_mark, last_weekday, quartz_letter_fault, listed_days, listed_unless, named_days, nearest_workday, quartz_nth_weekday, quartz_weekday_fault, weekdays_read};
 ghost use Rattle.timed_cron.specs.Private.{IsForm};
 
 use crate::dialect_field::{
@@ -102,7 +102,7 @@ fn read_listed(
 fn every_day(form: FieldForm) -> DaySets
     requires form { IsForm form }
     requires places { form.high < form.base + 64 }
-    ensures { result ≡ every_day form }
+    ensures { result ≡ every_quartz_day form }
 {
     let all = Span {
         first: form.low,
@@ -191,7 +191,7 @@ fn last_weekday(text: &[u8]) -> Option<u32>
 // `6#3` as 7 * (3 - 1) + (6 - 1).
 #[tactic(auto, unfolding(crate::specs::QuartzTexts::nth_weekday))]
 fn nth_weekday(text: &[u8]) -> Option<u32>
-    ensures number { result ≡ nth_weekday text.now }
+    ensures number { result ≡ quartz_nth_weekday text.now }
     ensures small { IfSome result (λ n. n < 64) }
 {
     let Some((front, back)) = split_at_byte(text, b'#') else {
@@ -221,7 +221,7 @@ fn day_fault(text: &[u8]) -> Option<FieldFault>
 // What is wrong around a `#`, or with the number in front of `L`.
 #[tactic(auto, unfolding(crate::specs::QuartzTexts::weekday_fault))]
 fn weekday_fault(text: &[u8]) -> Option<FieldFault>
-    ensures value { result ≡ weekday_fault text.now }
+    ensures value { result ≡ quartz_weekday_fault text.now }
     ensures within { IfSome result (λ e. e.0 ≤ length text.now) }
 {
     let Some((front, back)) = cut_at(text, b'#') else {
@@ -237,7 +237,7 @@ fn weekday_fault(text: &[u8]) -> Option<FieldFault>
 fn letter_fault(text: &[u8], letter: u8, form: FieldForm) -> Option<FieldFault>
     requires letter { 0 < letter }
     requires form { IsForm form }
-    ensures value { result ≡ letter_fault form letter text.now }
+    ensures value { result ≡ quartz_letter_fault form letter text.now }
     ensures within { IfSome result (λ e. e.0 ≡ 0) }
 {
     let Some(number) = before_letter(text, letter) else {

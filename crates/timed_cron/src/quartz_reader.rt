@@ -2,7 +2,7 @@
 ghost use Rattle.std.specs.Prelude.{◌≡◌, ◌+◌, ◌<◌, ◌≤◌, ◌^◌, length, IfOk, IfErr, IfSome, Ok, Err, Some, None};
 ghost use Rattle.chrono_cron.specs.PlacedWords.{placed_words};
 ghost use Rattle.chrono_cron.specs.ScheduleErrors.{front_or, one_word_fault, schedule_error_at};
-ghost use Rattle.timed_cron.specs.Private.{AreWords, IsWithin, IsWordAt, bytes_of, word_of, year_word_of};
+ghost use Rattle.timed_cron.specs.Private.{AreQuartzWords, IsWordOf, IsWordAt, bytes_of, word_of, year_word_of};
 ghost use Rattle.timed_cron.specs.QuartzTexts.{calendar_read, clock_read, fields_read, named_by_both, quartz_read, schedule_of, words_read, years_read};
 ghost use Rattle.timed_cron.specs.TimedErrors.{error_byte};
 ghost use Rattle.timed_cron.specs.declared.timed_error.TimedError.TheVariants.{Fields as InFields};
@@ -44,7 +44,7 @@ pub(crate) fn read_quartz(text: &[u8]) -> Result<TimedSchedule, TimedError>
 
 // The schedule of six words or seven.
 fn read_words(text: &[u8], words: Words) -> Result<TimedSchedule, TimedError>
-    requires { AreWords text.now words }
+    requires { AreQuartzWords text.now words }
     ensures read { result ≡ words_read (length text.now) (placed_words 0 text.now) }
     ensures byte { IfErr result (λ e. error_byte e ≤ length text.now) }
 {
@@ -61,7 +61,7 @@ fn read_words(text: &[u8], words: Words) -> Result<TimedSchedule, TimedError>
 // The schedule of the fields.
 #[tactic(auto, unfolding(crate::specs::QuartzTexts::fields_read))]
 fn read_fields(text: &[u8], words: Words) -> Result<TimedSchedule, TimedError>
-    requires { AreWords text.now words }
+    requires { AreQuartzWords text.now words }
     ensures read { result ≡ fields_read (word_of text.now words.second) (word_of text.now words.minute) (word_of text.now words.hour)
         (word_of text.now words.day) (word_of text.now words.month) (word_of text.now words.weekday) (year_word_of text.now words.year) }
     ensures byte { IfErr result (λ e. error_byte e ≤ length text.now) }
@@ -117,9 +117,9 @@ fn read_clock(
     minute: Ends,
     hour: Ends,
 ) -> Result<(NumberSet, NumberSet, NumberSet), TimedError>
-    requires second { IsWithin text.now second }
-    requires minute { IsWithin text.now minute }
-    requires hour { IsWithin text.now hour }
+    requires second { IsWordOf text.now second }
+    requires minute { IsWordOf text.now minute }
+    requires hour { IsWordOf text.now hour }
     ensures read { result ≡ clock_read (word_of text.now second) (word_of text.now minute) (word_of text.now hour) }
     ensures byte { IfErr result (λ e. error_byte e ≤ length text.now) }
 {
@@ -145,9 +145,9 @@ fn read_calendar(
     month: Ends,
     weekday: Ends,
 ) -> Result<(DaySets, NumberSet, DaySets), TimedError>
-    requires day { IsWithin text.now day }
-    requires month { IsWithin text.now month }
-    requires weekday { IsWithin text.now weekday }
+    requires day { IsWordOf text.now day }
+    requires month { IsWordOf text.now month }
+    requires weekday { IsWordOf text.now weekday }
     ensures read { result ≡ calendar_read (word_of text.now day) (word_of text.now month) (word_of text.now weekday) }
     ensures byte { IfErr result (λ e. error_byte e ≤ length text.now) }
 {
@@ -172,7 +172,7 @@ fn read_calendar(
 // The years.
 #[tactic(auto, unfolding(crate::specs::QuartzTexts::years_read))]
 fn read_years(text: &[u8], year: Option<Ends>) -> Result<Option<YearSet>, TimedError>
-    requires { IfSome year (λ y. IsWithin text.now y) }
+    requires { IfSome year (λ y. IsWordOf text.now y) }
     ensures read { result ≡ years_read (year_word_of text.now year) }
     ensures byte { IfErr result (λ e. error_byte e ≤ length text.now) }
 {
@@ -207,7 +207,7 @@ fn error_at(word: Ends, field: Option<ScheduleField>, fault: FieldFault) -> Sche
 
 // The bytes of a word.
 fn word(text: &[u8], ends: Ends) -> &[u8]
-    requires { IsWithin text.now ends }
+    requires { IsWordOf text.now ends }
     ensures bytes { result.now ≡ bytes_of text.now ends.place ends.end }
     ensures length { ends.place + length result.now ≤ length text.now }
 {
@@ -216,7 +216,7 @@ fn word(text: &[u8], ends: Ends) -> &[u8]
 
 // The words of a text, if they are six or seven. Otherwise what is wrong with their number, and where.
 fn quartz_words(text: &[u8]) -> Result<Words, FieldFault>
-    ensures words { IfOk result (λ w. AreWords text.now w) }
+    ensures words { IfOk result (λ w. AreQuartzWords text.now w) }
     ensures count { IfErr result (λ count. words_read (length text.now) (placed_words 0 text.now)
         ≡ Err (InFields (schedule_error_at None (front_or (placed_words 0 text.now) count)))) }
     ensures within { IfErr result (λ count. count.0 ≤ length text.now) }

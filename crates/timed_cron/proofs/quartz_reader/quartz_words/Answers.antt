@@ -2,7 +2,7 @@ use Rattle.std.proofs.Common.{length, Err, None, refl, sym, ap, ◌∙◌, arith
 use Rattle.std.proofs.Math.Path.{subst}
 use Rattle.chrono_cron.specs.PlacedWords.{placed_words}
 use Rattle.chrono_cron.specs.ScheduleErrors.{front_or, schedule_error_at}
-use Rattle.timed_cron.specs.Private.{AreWords}
+use Rattle.timed_cron.specs.Private.{AreQuartzWords}
 use Rattle.timed_cron.specs.declared.quartz_reader.Words.{Words}
 use Rattle.timed_cron.specs.declared.timed_error.TimedError.TheVariants.{Fields as InFields}
 use Rattle.timed_cron.proofs.QuartzWords.{told, within}
@@ -89,7 +89,7 @@ returns-in_default-next_word-6-clause-words c =
 pub returns-in_default-year-clause-words : goal.returns-in_default-year-clause-words
 returns-in_default-year-clause-words c =
     let text = c.args.text.now in
-    let words : AreWords text (record { second = c.in-Some.second; minute = c.in-Some-next_word.minute; hour = c.in-Some-next_word-2.hour; day = c.in-Some-next_word-3.day; month = c.in-Some-next_word-4.month; weekday = c.in-Some-next_word-5.weekday; year = None }) = record {
+    let words : AreQuartzWords text (record { second = c.in-Some.second; minute = c.in-Some-next_word.minute; hour = c.in-Some-next_word-2.hour; day = c.in-Some-next_word-3.day; month = c.in-Some-next_word-4.month; weekday = c.in-Some-next_word-5.weekday; year = None }) = record {
       words = (front text 0 _ _ _ c.in-Some.ensures.some
           (front text c.in-Some.second.end _ _ _ c.in-Some-next_word.ensures.some
           (front text c.in-Some-next_word.minute.end _ _ _ c.in-Some-next_word-2.ensures.some
@@ -105,4 +105,4 @@ returns-in_default-year-clause-words c =
       weekday = within text c.in-Some-next_word-4.month.end c.in-Some-next_word-5.weekday c.in-Some-next_word-5.ensures.some;
       year = tt;
     } in
-    subst (λ year. let w : Words = record { second = c.in-Some.second; minute = c.in-Some-next_word.minute; hour = c.in-Some-next_word-2.hour; day = c.in-Some-next_word-3.day; month = c.in-Some-next_word-4.month; weekday = c.in-Some-next_word-5.weekday; year = year } in AreWords text w) (sym c.in_default-year.is) words
+    subst (λ year. let w : Words = record { second = c.in-Some.second; minute = c.in-Some-next_word.minute; hour = c.in-Some-next_word-2.hour; day = c.in-Some-next_word-3.day; month = c.in-Some-next_word-4.month; weekday = c.in-Some-next_word-5.weekday; year = year } in AreQuartzWords text w) (sym c.in_default-year.is) words
