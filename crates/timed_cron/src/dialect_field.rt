@@ -122,7 +122,7 @@ fn read_range(front: &[u8], back: &[u8], form: FieldForm) -> Result<(u32, u32), 
 }
 
 // The number of a field that a text writes or names.
-#[tactic(auto, unfolding(crate::specs::DialectFields::number_read))]
+#[tactic(auto, unfolding(crate::specs::DialectFields::field_number_read))]
 pub(crate) fn read_number(text: &[u8], form: FieldForm) -> Result<u32, FieldFault>
     requires { IsForm form }
     ensures read { result ≡ field_number_read form text.now }
@@ -136,7 +136,7 @@ pub(crate) fn read_number(text: &[u8], form: FieldForm) -> Result<u32, FieldFaul
 }
 
 // The same, or none.
-#[tactic(auto, unfolding(crate::specs::DialectFields::number_in))]
+#[tactic(auto, unfolding(crate::specs::DialectFields::field_number))]
 pub(crate) fn number_in(text: &[u8], form: FieldForm) -> Option<u32>
     requires { IsForm form }
     ensures value { result ≡ field_number form text.now }
@@ -152,7 +152,7 @@ pub(crate) fn number_in(text: &[u8], form: FieldForm) -> Option<u32>
 }
 
 // What is wrong with a text that is none of a field's numbers.
-#[tactic(auto, unfolding(crate::specs::DialectFields::number_fault))]
+#[tactic(auto, unfolding(crate::specs::DialectFields::form_number_fault))]
 pub(crate) fn number_fault(text: &[u8], form: FieldForm) -> ScheduleFault
     requires { IsForm form }
     ensures { result ≡ form_number_fault form text.now }

@@ -189,7 +189,7 @@ fn last_weekday(text: &[u8]) -> Option<u32>
 }
 
 // `6#3` as 7 * (3 - 1) + (6 - 1).
-#[tactic(auto, unfolding(crate::specs::QuartzTexts::nth_weekday))]
+#[tactic(auto, unfolding(crate::specs::QuartzTexts::quartz_nth_weekday))]
 fn nth_weekday(text: &[u8]) -> Option<u32>
     ensures number { result ≡ quartz_nth_weekday text.now }
     ensures small { IfSome result (λ n. n < 64) }
@@ -219,7 +219,7 @@ fn day_fault(text: &[u8]) -> Option<FieldFault>
 }
 
 // What is wrong around a `#`, or with the number in front of `L`.
-#[tactic(auto, unfolding(crate::specs::QuartzTexts::weekday_fault))]
+#[tactic(auto, unfolding(crate::specs::QuartzTexts::quartz_weekday_fault))]
 fn weekday_fault(text: &[u8]) -> Option<FieldFault>
     ensures value { result ≡ quartz_weekday_fault text.now }
     ensures within { IfSome result (λ e. e.0 ≤ length text.now) }

@@ -2,7 +2,7 @@
 ghost use Rattle.std.specs.Prelude.{◌≡◌, ◌↔◌, ◌+◌, ◌<◌, ◌≤◌, ◌^◌, length, drop, Ok, IfOk, IfErr, IsErr, None};
 ghost use Rattle.chrono_cron.specs.FieldTexts.{field_lists};
 ghost use Rattle.chrono_cron.specs.PlacedWords.{first_word, placed_words};
-ghost use Rattle.chrono_cron.specs.ScheduleErrors.{fault_behind, field_fault, front_fault, schedule_error, schedule_error_at, told_or};
+ghost use Rattle.chrono_cron.specs.ScheduleErrors.{error_behind, field_fault, front_fault, schedule_error, schedule_error_at, told_or};
 ghost use Rattle.chrono_cron.specs.declared.text.number_names.Names.TheVariants.{Numbers};
 ghost use Rattle.chrono_cron.specs.declared.text.schedule_error.ScheduleField.TheVariants.{Minute};
 ghost use Rattle.timed_cron.specs.Private.{HasFourWords, IsUnreadFirst, IsWordAt, bytes_of};
@@ -126,7 +126,7 @@ fn read_six_fields(
     };
     match read_schedule(text_from(text, second.end)) {
         Ok(schedule) => Ok(TimedSchedule::new(schedule, seconds)),
-        Err(error) => Err(TimedError::Fields(fault_behind(error, second.end))),
+        Err(error) => Err(TimedError::Fields(error_behind(error, second.end))),
     }
 }
 
@@ -155,9 +155,9 @@ fn text_from(text: &[u8], place: usize) -> &[u8]
 }
 
 // The error of a text that begins so many bytes behind the beginning of the whole.
-fn fault_behind(error: ScheduleError, by: usize) -> ScheduleError
+fn error_behind(error: ScheduleError, by: usize) -> ScheduleError
     requires { by + error.byte < 2 ^ 64 }
-    ensures { result ≡ fault_behind by error }
+    ensures { result ≡ error_behind by error }
 {
     ScheduleError {
         field: error.field,
