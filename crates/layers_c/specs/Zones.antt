@@ -43,6 +43,6 @@ unfoldable pub offsets_from_c : CalendarOffsets → Option (MappedLocalTime ℤ)
 offsets_from_c a = offsets_numbered a.count a.earlier a.later
 
 -- a part from a byte up to another lies within a length
-pub record IsWithin (byte end length : ℕ) : Type 0 where
+pub record IsPartOf (byte end length : ℕ) : Type 0 where
   pub order : byte ≤ end
   pub within : end ≤ length

@@ -1,7 +1,7 @@
 //! What is wrong with bytes that hold no zone.
 ghost use Rattle.std.specs.Prelude.{◌≡◌, ◌≤◌, true, false, length};
 ghost use Rattle.zone.specs.Parts.{ZoneParts};
-ghost use Rattle.layers_c.specs.Zones.{HoldsZone, IsWithin};
+ghost use Rattle.layers_c.specs.Zones.{HoldsZone, IsPartOf};
 
 use crate::faults::CalendarFault;
 use crate::part_end::part_end;
@@ -19,7 +19,7 @@ const LONGEST: usize = 64;
 pub extern "C" fn calendar_zone_check(zone: &[u8], fault: &mut CalendarFault) -> bool
     ensures read { result ≡ true → (z : ZoneParts) × HoldsZone zone.now z }
     ensures every { (z : ZoneParts) → HoldsZone zone.now z → result ≡ true }
-    ensures place { result ≡ false → IsWithin fault.new.byte fault.new.end (length zone.now) }
+    ensures place { result ≡ false → IsPartOf fault.new.byte fault.new.end (length zone.now) }
     ensures no_fault { result ≡ true → fault.new ≡ fault.old }
 {
     let mut room = row_room();
@@ -44,7 +44,7 @@ pub extern "C" fn calendar_zone_fault_text(fault: &CalendarFault, text: &mut [u8
 
 // The numbers of what is wrong with bytes.
 fn fault_of(bytes: &[u8], reason: NoZone) -> CalendarFault
-    ensures { IsWithin result.byte result.end (length bytes.now) }
+    ensures { IsPartOf result.byte result.end (length bytes.now) }
 {
     match reason {
         NoZone::File(error) => in_file(bytes, file_code(error.fault), 0, error.byte),
@@ -63,7 +63,7 @@ fn fault_of(bytes: &[u8], reason: NoZone) -> CalendarFault
 
 // What is wrong from a byte of a file on.
 fn in_file(bytes: &[u8], code: u32, row: u32, byte: usize) -> CalendarFault
-    ensures { IsWithin result.byte result.end (length bytes.now) }
+    ensures { IsPartOf result.byte result.end (length bytes.now) }
 {
     numbers(code, row, byte.min(bytes.len()), bytes.len())
 }
