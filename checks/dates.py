@@ -3,8 +3,10 @@
 
 Takes the `dates` that `rt ci` or `rt run` left, if it is newer than its sources, and else builds it by `rt run`. It puts it on the path as `dates`, and compares output and exit status of each line behind `$`, but for spaces at a line's
 end and blank lines. The days of 9999 years have to be listed to the last. A line that is longer than all memory that the program may take has to be answered as any other that is no day. The man page and the completions of tools/shell have to be those that the program prints, and that of bash has to complete.
-No line of the help is wider than a terminal of 80 columns, and the sessions at a terminal of checks/dates_terminal.py have to hold.
+No line of the help is wider than a terminal of 80 columns, Python's own tests of `fromisoformat` have to be read but for those that the page names, and the sessions at a terminal of checks/dates_terminal.py have to hold.
 """
+import ast
+import datetime
 import os
 import re
 import subprocess
@@ -43,7 +45,7 @@ COMPLETED = [("dates roll 2024-03-30 following --c", ["--calendar"]), ("dates ro
              ("dates roll 2024-03-30 n", ["nearest"]), ("dates open 2024-03-30 --calendar e", ["england"]),
              ("dates open 2024-03-30 --weekend s", ["sat", "sun"]), ("dates open 2024-03-30 --weekend n", ["none"]),
              ("dates cal 2024-03 --first ''", ["mon", "tue", "wed", "thu", "fri", "sat", "sun"]), ("dates cal 2024-03 --first n", []),
-             ("dates diff 2024-02-29 2024-03-30 in ''", ["d", "w", "m", "mo", "y", "b", "ymd"]), ("dates diff 2024-02-29 2024-03-30 in y", ["y", "ymd"]),
+             ("dates diff 2024-02-29 2024-03-30 in ''", ["d", "w", "m", "mo", "y", "b", "ymd", "h", "min", "s"]), ("dates diff 2024-02-29 2024-03-30 in y", ["y", "ymd"]),
              (f"dates open 2024-03-30 --holidays {TOP}/docs/dat", [f"{TOP}/docs/dates.md"]), (f"dates check {TOP}/docs/dat", [f"{TOP}/docs/dates.md"]),
              ("dates open 2024-03-30 --holidays two", [SPACED]), ("dates check two", [SPACED]), ("dates check 'two w'", [SPACED]),
              ("dates check --j", ["--json"])]
@@ -99,10 +101,37 @@ def stale(program):
     return old
 
 
+# CPython 3.11's tests, which Debian has in libpython3.11-testsuite, and how many of the texts that they read are none to `dates`.
+PYTHON_TESTS, UNREAD = "/usr/lib/python3.11/test/datetimetester.py", 11
+
+
+def python_texts():
+    """The texts that the tests of fromisoformat have read, those of dates and of date-times, in their order."""
+    with open(PYTHON_TESTS, encoding="utf-8") as source:
+        tree = ast.parse(source.read())
+    tests = {it.name: it for it in ast.walk(tree) if isinstance(it, ast.FunctionDef)}
+    lists = [it.value for name in ("test_fromisoformat_date_examples", "test_fromisoformat_datetime_examples") for it in tests[name].body
+             if isinstance(it, ast.Assign) and isinstance(it.value, ast.List)]
+    return [pair.elts[0].value for it in lists for pair in it.elts]
+
+
+def misread(program):
+    """The texts of Python's tests that are read as anything but what Python reads, and how many are not read."""
+    texts = python_texts()
+    ran = subprocess.run([program, "add", "0d"], input="\n".join(texts) + "\n", capture_output=True, text=True, check=False)
+    wrong = unread = 0
+    for text, said in zip(texts, ran.stdout.splitlines(), strict=True):
+        unread += said == "none"
+        # (Python drops what is finer than a microsecond)
+        read = said == "none" or datetime.datetime.fromisoformat(said) == datetime.datetime.fromisoformat(text)
+        wrong += not read
+    return wrong, unread
+
+
 def run(command, place):
     """What a command writes in a folder where `dates` is, its errors behind its output, and its status."""
     path = place + os.pathsep + os.environ["PATH"]
-    ran = subprocess.run(["bash", "-c", command], cwd=place, env={**os.environ, "PATH": path}, capture_output=True, text=True, timeout=60)
+    ran = subprocess.run(["bash", "-c", command], cwd=place, stdin=subprocess.DEVNULL, env={**os.environ, "PATH": path}, capture_output=True, text=True, timeout=60)
     return [line.rstrip() for line in (ran.stdout + ran.stderr).splitlines() if line.strip()], ran.returncode
 
 
@@ -157,6 +186,14 @@ def main():
         for line in wide(program):
             failed += 1
             print(f"FAILED: wider than 80 columns: {line}")
+        if sys.version_info >= (3, 11) and os.path.exists(PYTHON_TESTS):
+            if misread(program) == (0, UNREAD):
+                passed += 1
+            else:
+                failed += 1
+                print(f"FAILED: {misread(program)} texts of Python are read otherwise, and are not read; wanted {(0, UNREAD)}")
+        else:
+            print("not run: the texts of Python's tests, since there is no Python 3.11 or no libpython3.11-testsuite")
         sessions, count = dates_terminal.failures(program, place, f"{TOP}/tools/shell/dates.bash")
         passed += count - len(sessions)
         failed += len(sessions)

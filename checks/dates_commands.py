@@ -6,7 +6,7 @@
 Each command is run as it stands and with `--json` behind it. As it stands its output, its status and what it writes to standard error have to be
 those that are worked out here: days by datetime, months and years by dateutil's relativedelta, open days and rolls by numpy's busday calls over the
 holidays that checks/business.py reads, Easter by dateutil, rules by dateutil's rrule, schedules by trying the days and minutes as checks/cron.py
-reads them, days past the years of datetime by checks/counted.py, clocks of zones by zoneinfo, sheets cell by cell. Where a command is asked of lines, each of them is answered as by
+reads them, days past the years of datetime by checks/counted.py, clocks of zones by zoneinfo, sheets cell by cell, ends of months, quarters and years by datetime. Where a command is asked of lines, each of them is answered as by
 the command alone, whichever years the lines before it lie in. With `--json` each line has to be the object that says the same,
 and status and standard error are the same. A fifth of the commands is spoiled: a word is turned to one that cannot stand there, what has to follow is cut off, a word too many
 is put behind, or a day is one that its month has not. What is said of them has to name that word, its place and what was expected.
@@ -20,6 +20,7 @@ import argparse
 import calendar as months
 import datetime
 import json
+import operator
 import os
 import random
 import re
@@ -153,6 +154,12 @@ def instant_word(chance, instant, unix):
 
 
 def day_word(chance, date):
+    """A name of a day, one in three without hyphens, by its number or with the name of its month."""
+    if chance.random() < 0.35:
+        month = chance.choice((MONTHS[date.month], MONTHS[date.month][:3].lower()))
+        week = "{}W{:02}{}".format(*date.isocalendar())
+        return chance.choice((f"{date:%m%d}".join((f"{date.year:04}", "")), f"{date.year:04}{date:%j}", week.zfill(8), f"#{date.toordinal()}",
+                              f"{date.day} {month} {date.year:04}", f"{month} {date.day}, {date.year:04}", f"{WEEKDAYS[date.weekday()]}, {date.day} {month} {date.year:04}"))
     return names(date.toordinal())[chance.choice((0, 0, 0, 1, 2))]
 
 
@@ -258,7 +265,7 @@ def of_day(chance, _):
     return Asked([chance.choice(names(number))], ["first"], 0, [names_line(number)], [names_object(number)])
 
 
-NO_DAYS = ("soon", "", "2024-2-29", "2023-W53-1", "2023-366", "2024-00-10", "2024-13-01", " 2024-02-29", "2024-02-29 ", "2024-02-29T00:00", "20240229", "+2024-02-29")
+NO_DAYS = ("soon", "", "2024-2-29", "2023-W53-1", "2023-366", "2024-00-10", "2024-13-01", " 2024-02-29", "2024-02-29 ", "2024-02-29T00:00", "202402", "+2024-02-29", "29.02.2024", "29 Feb 24")
 
 
 def of_lines(chance, _):
@@ -292,11 +299,20 @@ def of_add(chance, files):
     return Asked(words, kinds, 3, [text], [{key: text}])
 
 
+SECONDS = {"h": 3600, "min": 60, "s": 1}
+UNIT_KEYS = {"h": "hours", "min": "minutes", "s": "seconds"}
+
+
 def of_diff(chance, files):
     if chance.random() < 0.2:
         start, end = any_moment(chance), any_moment(chance)
-        text = duration_text(end - start)
-        return Asked(["diff", moment_word(chance, start), moment_word(chance, end)], ["first", "start", "moment"], 3, [text], [{"duration": text}])
+        text, unit = duration_text(end - start), chance.choice((None, *SECONDS))
+        words = ["diff", moment_word(chance, start), moment_word(chance, end), *(["in", unit] if unit else [])]
+        if unit:
+            # (towards zero)
+            count = abs(end - start) // Span(seconds=SECONDS[unit]) * (1 if start <= end else -1)
+            return Asked(words, [], 0, [str(count)], [{UNIT_KEYS[unit]: count}])
+        return Asked(words, ["first", "start", "moment"], 3, [text], [{"duration": text}])
     start = any_day(chance)
     end = chance.choice((any_day(chance), start + Span(chance.randint(-900, 900)), moved(start, chance.randint(-20, 20), "m")))
     unit = chance.choice((None, "d", "w", "m", "y", "b", "ymd", "ymd"))
@@ -415,8 +431,21 @@ def of_seq(chance, _):
         times += 1
     lines, objects = dated(days)
     words = ["seq", day_word(chance, start), day_word(chance, end), *([step] if step else [])]
-    kinds = ["first", "day", "day", "step"][: len(words)]
-    return Asked(words, kinds, 3, lines or ["none"], objects or [{"date": None}], int(not days))
+    kinds = ["first", "start", "day", "step"][: len(words)]
+    return Asked(words, kinds, 2, lines or ["none"], objects or [{"date": None}], int(not days))
+
+
+def of_seq_of_times(chance, _):
+    """A sequence of days or of date-times, with weekdays that are left out and a count: none of its words is spoiled."""
+    start = any_moment(chance).replace(microsecond=0)
+    unit, count = chance.choice(("h", "min", "d", "w", "mo")), chance.choice((1, 2, 5, 90, -1, -7))
+    skip = chance.sample(SHORT, chance.choice((0, 1, 2, 6)))
+    most, length = chance.choice((None, 1, 2, 5)), chance.randint(0, 20)
+    at = lambda times: start + Span(seconds=SECONDS[unit] * count * times) if unit in SECONDS else moved(start, count * times, unit)
+    shown = [it for it in map(at, range(length + 1)) if SHORT[it.weekday()] not in skip][:most]
+    texts = [moment_text(it) for it in shown]
+    words = ["seq", moment_word(chance, start), moment_word(chance, at(length)), f"{count}{unit}", *(["--skip", ",".join(skip)] if skip else []), *(["--count", str(most)] if most else [])]
+    return Asked(words, [], 0, texts or ["none"], [{"moment": it} for it in texts] or [{"moment": None}], int(not texts))
 
 
 def of_week(chance, _):
@@ -424,7 +453,33 @@ def of_week(chance, _):
     year, week, day = first.isocalendar()
     first -= (day - 1) * DAY
     last = first + 6 * DAY
-    return Asked(["week", f"{year:04}-W{week:02}"], ["first", "week"], 2, [f"{first} {last}"], [{"first": str(first), "last": str(last)}])
+    word = chance.choice((f"{year:04}-W{week:02}", day_word(chance, first + chance.randrange(7) * DAY)))
+    return Asked(["week", word], ["first", "day"], 1, [f"{first} {last}"], [{"first": str(first), "last": str(last)}])
+
+
+def of_end(chance, _):
+    """An end of a day's week, month, quarter or year, the next day of a weekday, its weekday, or which of two days is earlier."""
+    date, name = any_day(chance), chance.choice(("first", "last", "round", "weekday", "test"))
+    if name == "test":
+        other, test = chance.choice((date, any_day(chance))), chance.choice(list(TESTS))
+        return Asked(["test", day_word(chance, date), f"-{test}", day_word(chance, other)], [], 0, [], [], int(not TESTS[test](date, other)))
+    if name == "weekday":
+        text = WEEKDAYS[date.weekday()]
+        return Asked(["weekday", day_word(chance, date)], ["first", "day"], 1, [text], [{"weekday": text}])
+    if name == "round":
+        weekday = chance.randrange(7)
+        lines, objects = dated([date + (weekday - date.weekday()) % 7 * DAY])
+        word = chance.choice((SHORT[weekday], WEEKDAYS[weekday], WEEKDAYS[weekday].lower()))
+        return Asked(["round", day_word(chance, date), word], ["first", "day", "--first"], 3, lines, objects)
+    period = chance.choice(("week", "month", "quarter", "year"))
+    size = {"month": 1, "quarter": 3, "year": 12}.get(period)
+    begin = date - date.weekday() * DAY if period == "week" else date.replace(day=1, month=(date.month - 1) // size * size + 1)
+    end = begin + 6 * DAY if period == "week" else moved(begin, size, "m") - DAY
+    lines, objects = dated([begin if name == "first" else end])
+    return Asked([name, period, day_word(chance, date)], ["first", "period", "day"], 2, lines, objects)
+
+
+TESTS = {"lt": operator.lt, "le": operator.le, "eq": operator.eq, "ne": operator.ne, "ge": operator.ge, "gt": operator.gt}
 
 
 def no_year(chance, name, key):
@@ -733,7 +788,12 @@ def of_cal(chance, files):
         days = [date.replace(day=it + 1) for it in range(months.monthrange(date.year, date.month)[1])]
     objects = [{"date": str(it), "week": names(it.toordinal())[2], "weekday": WEEKDAYS[it.weekday()], "open": closed.is_open(it)} for it in days]
     kinds = ["sheet_option" if it == "option" else it for it in closed.kinds]
-    return Asked(["cal", str(date.year) if whole else f"{date:%Y-%m}", *closed.words], ["first", "sheet", *kinds], 2, lines, objects)
+    word = None if whole or chance.random() < 0.6 else day_word(chance, date)
+    if word:
+        mark = date.day + (date.replace(day=1).weekday() - (start or 0)) % 7 - 1
+        row, column = lines[2 + mark // 7], 6 + 3 * (mark % 7)
+        lines[2 + mark // 7] = row[:column] + ("<" if closed.is_open(date) else "#") + row[column + 1 :]
+    return Asked(["cal", word or str(date.year) if word or whole else f"{date:%Y-%m}", *closed.words], ["first", "sheet", *kinds], 1, lines, objects)
 
 
 # ---- wrong commands
@@ -743,11 +803,11 @@ EXPECTED = {
     "day": "a day as 2024-02-29, 2024-060 or 2024-W09-4",
     "start": "a day as 2024-02-29 or a date-time as 2024-02-29T04:30",
     "move": "a span as 3d, -2w, 1mo, 4y, 5b, 36h, 90min, 15s or PT1.5S",
-    "step": "a span as 3d, -2w, 1m or 4y",
+    "step": "a span as 3d, -2w, 1m or 4y, or of date-times as 36h or 90min",
     "year": "a year as 2024",
-    "week": "a week as 2024-W09",
+    "period": "week, month, quarter or year",
     "in": "in and a unit, as 'in w'",
-    "unit": "d, w, m, mo, y, b or ymd",
+    "unit": "d, w, m, mo, y, b, ymd, h, min or s",
     "convention": ", ".join(ROLLS[1:]) + " or unadjusted",
     "--weekend": "none, or at most two weekdays as fri,sat",
     "--calendar": "us-federal, target or england",
@@ -758,7 +818,7 @@ EXPECTED = {
     "rule": "a rule as FREQ=MONTHLY;BYDAY=-1FR",
     "moment": "a date-time as 2024-02-29T04:30",
     "amount": "a number from 1 on, of 18 digits at most",
-    "sheet": "a month as 2024-02 or a year as 2024",
+    "sheet": "a month as 2024-02, a year as 2024 or a day as 2024-02-29",
 }
 EXPECTED["convention"] = "following, preceding, modified-following, modified-preceding, nearest or unadjusted"
 NO_WORDS = ("x", "soon", "2024-2-29", "1e3", "0x10", "é", "２０２４", "a b", "%", "-", "2024-02-29T4:00")
@@ -791,7 +851,7 @@ def with_wrong_word(chance, asked):
     elif kind in ("schedule", "rule"):
         error = shown + r"[^;]+" + re.escape(f"; expected {EXPECTED[kind]}")
     else:
-        error = shown + re.escape(f"expected {EXPECTED[kind]}") + NEAR * (kind in ("first", "unit", "convention", "--calendar"))
+        error = shown + re.escape(f"expected {EXPECTED[kind]}") + NEAR * (kind in ("first", "unit", "period", "convention", "--calendar"))
     return refused(asked, asked.words[:place] + [bad] + asked.words[place + 1 :], re.compile(error))
 
 
@@ -827,7 +887,7 @@ def with_a_word_more(chance, asked):
     return refused(asked, [*asked.words, bad], f"dates: argument {place}, {bad}: expected {expected}")
 
 
-KEYS = {"open": "open", "diff": "days"}
+KEYS = {"open": "open", "diff": "days", "week": "first last", "weekday": "weekday"}
 UNITS = {"w": "weeks", "m": "months", "y": "years", "b": "open_days", "ymd": "years months days"}
 
 
@@ -848,11 +908,13 @@ def asks_of_lines(words):
     """Whether words that were spoiled ask for lines of standard input, by `-` in the place of a day or by a day that is left out."""
     if words[:1] == ["diff"]:
         return len(words) == 2 or "-" in words[1:3]
-    return words == ["open"] or words[:1] in (["add"], ["open"], ["roll"]) and words[1:2] == ["-"]
+    if words[:1] in (["first"], ["last"]):
+        return len(words) == 2 or words[2:3] == ["-"]
+    return words in (["open"], ["week"], ["weekday"], ["cal"]) or words[:1] in (["add"], ["open"], ["roll"], ["week"], ["weekday"], ["round"]) and words[1:2] == ["-"]
 
 
 SPOILERS = (with_wrong_word, with_wrong_word, with_words_missing, with_a_word_more, with_no_such_day)
-MAKERS = {of_day: 10, of_lines: 4, of_add: 16, of_diff: 16, of_instant: 8, of_zone: 6, of_zoned_add: 6, of_zoned_due: 6, of_seq: 10, of_week: 4, of_easter: 4, of_leap: 3, of_open: 8, of_roll: 9, of_each: 8, of_check: 5, of_due: 9, of_rule: 9, of_cal: 5}
+MAKERS = {of_day: 10, of_lines: 4, of_add: 16, of_diff: 16, of_instant: 8, of_zone: 6, of_zoned_add: 6, of_zoned_due: 6, of_seq: 10, of_seq_of_times: 5, of_week: 4, of_end: 12, of_easter: 4, of_leap: 3, of_open: 8, of_roll: 9, of_each: 8, of_check: 5, of_due: 9, of_rule: 9, of_cal: 5}
 
 
 def commands(chance, files, count):
@@ -861,10 +923,10 @@ def commands(chance, files, count):
     while len(made) < count:
         maker = chance.choices(list(MAKERS), list(MAKERS.values()))[0]
         asked = maker(chance, files)
-        if maker in (of_each, of_instant, of_zone, of_zoned_add, of_zoned_due):
+        if maker in (of_each, of_seq_of_times, of_instant, of_zone, of_zoned_add, of_zoned_due):
             made.append(asked)
             continue
-        if asked.words and chance.random() < 0.2:
+        if asked.kinds and chance.random() < 0.2:
             asked = chance.choice(SPOILERS)(chance, asked)
         if asked and not asks_of_lines(asked.words):
             made.append(asked)

@@ -145,7 +145,7 @@ def leaves_what_is_typed(terminal, completion):
 def completes(terminal, completion):
     """A command and an option, begun and completed by the tabulator."""
     terminal.enter(f"source {completion}")
-    terminal.type("dates ro\t")
+    terminal.type("dates rol\t")
     command = terminal.until("roll ")
     terminal.type("2024-03-30 following --cal\t")
     option = terminal.until("--calendar ")
@@ -161,7 +161,7 @@ def is_cut_short(terminal, completion):
 
 def is_interrupted(terminal, completion):
     """While it waits for a line it is ended from the keyboard."""
-    terminal.type("dates\n2024-02-29\n")
+    terminal.type("dates -\n2024-02-29\n")
     first = terminal.until("19782\n")
     terminal.type(INTERRUPT)
     terminal.until(PROMPT)

@@ -6,10 +6,10 @@ use dates_answer::moved;
 pub(crate) fn command() -> CommandRow {
     row!(
         "add", &[DAY_OR_LINES, operand!("SPAN"; many: true)], 
-        &[WEEKEND, CALENDAR, HOLIDAYS, ZONED, NOW, UNIX, PARSE, FORMAT, JSON, HELP];
+        &[WEEKEND, CALENDAR, HOLIDAYS, ZONED, NOW, UNIX, PARSE, ORDER, FORMAT, LONG, JSON, HELP];
         help: "move a day or a date-time by each span in turn",
         more: "A SPAN is a whole number of days, weeks, months or years, as 3d, -2w, 1mo and\n\
-            4y, or of open days, as 5b. Of a day, 1m is 1mo too.\n\
+            4y, or of open days, as 5b. Of a day, 1m is 1mo too. Also 1y2mo, +3days, P1Y2M.\n\
             A month or a year leads to the same day of its month, or to its last where that\n\
             is shorter.\n\
             A date-time in place of the day is moved by times too: 36h, 90min, 15s, and\n\
@@ -47,13 +47,13 @@ pub(crate) fn answer<'a>(rt: &HostRuntime, asked: &Asked<'a>, none: &mut Reply) 
         *none = instants.form.none_of_text(word.text.as_bytes());
     }
     let start = given!(first, word, instants.start_of(word));
-    let kinds = value!(kinds_of(start, words));
+    let (moves, texts, kinds) = value!(moves_of(rt, start, words));
     let mut add = Add {
         form: asked.form,
         instants,
         holidays: value!(holidays_of(rt, asked)),
-        moves: moves_of(rt, words)?,
-        texts: texts_of(rt, words)?,
+        moves,
+        texts,
         kinds,
     };
     match start {
@@ -75,18 +75,34 @@ const MOVES: &str = "a span as 3d, -2w, 1mo, 4y, 5b, 36h, 90min, 15s or PT1.5S";
 
 const DAY_MOVES: &str = "a span of days, or a date-time before it as 2024-02-29T00:00";
 
-// The kinds of the moves that words write. No time moves a day, and no `m`, which was meant for minutes, stands beside a time of day.
-fn kinds_of<'a>(start: Option<Start>, words: &[Word<'a>]) -> Result<Kinds<'a>, Fault<'a>> {
-    let mut short = None;
-    let mut timed = false;
-    let of_day = matches!(start, Some(Start::Day(_)));
+// The moves that words write, each with the word. No time moves a day, and no `m`, which was meant for minutes, stands beside a time of day.
+fn moves_of<'a>(
+    rt: &HostRuntime,
+    start: Option<Start>,
+    words: &[Word<'a>],
+) -> Result<(Vec<Move>, Vec<&'a str>, Kinds<'a>), Fault<'a>> {
+    let mut moves: Vec<Move> = Vec::new(rt.alloc());
+    let mut texts: Vec<&'a str> = Vec::new(rt.alloc());
+    let (mut short, mut timed) = (None, false);
+    let of_day = start.map_or(false, |start| start.is_day());
     for word in words {
-        match read_move(word.text.as_bytes()) {
-            Some(Move::Time(_)) if of_day => return Err(Fault::expected(*word, DAY_MOVES)),
-            Some(Move::Time(_)) => timed = true,
-            Some(Move::ShortMonths(_)) if short.is_none() => short = Some(*word),
-            Some(_) => {}
-            None => return Err(Fault::expected(*word, MOVES)),
+        let mut place: usize = 0;
+        for _ in word.text.as_bytes() {
+            let (by, next) = value!(move_at(word.text.as_bytes(), place).ok_or(Fault::expected(
+                *word, MOVES
+            )));
+            match by {
+                Move::Time(_) if of_day => return Err(Fault::expected(*word, DAY_MOVES)),
+                Move::Time(_) => timed = true,
+                Move::ShortMonths(_) if short.is_none() => short = Some(*word),
+                _ => {}
+            }
+            put_move(&mut moves, by)?;
+            texts.push(word.text)?;
+            place = next;
+            if place >= word.text.len() {
+                break;
+            }
         }
     }
     match short {
@@ -94,33 +110,13 @@ fn kinds_of<'a>(start: Option<Start>, words: &[Word<'a>]) -> Result<Kinds<'a>, F
         Some(word) if timed || start.is_some() && !of_day => {
             Err(Fault::Word(word, Cause::Months(word.text)))
         }
-        _ => Ok(Kinds { short, timed }),
+        _ => Ok((moves, texts, Kinds { short, timed })),
     }
-}
-
-// The moves that words write.
-fn moves_of(rt: &HostRuntime, words: &[Word<'_>]) -> io::Result<Vec<Move>> {
-    let mut moves: Vec<Move> = Vec::new(rt.alloc());
-    for word in words {
-        if let Some(by) = read_move(word.text.as_bytes()) {
-            put_move(&mut moves, by)?;
-        }
-    }
-    Ok(moves)
 }
 
 // Puts a move behind others.
 fn put_move<A: Allocator>(moves: &mut Vec<Move, A>, by: Move) -> io::Result<()> {
     Ok(moves.push(by)?)
-}
-
-// The texts of words.
-fn texts_of<'a>(rt: &HostRuntime, words: &[Word<'a>]) -> io::Result<Vec<&'a str>> {
-    let mut texts: Vec<&'a str> = Vec::new(rt.alloc());
-    for word in words {
-        texts.push(word.text)?;
-    }
-    Ok(texts)
 }
 
 impl<'a> Add<'a> {

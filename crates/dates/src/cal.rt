@@ -1,5 +1,6 @@
 //! A month or a year as a sheet.
 
+use crate::now::day_shown;
 use crate::prelude::*;
 use chrono_business::Calendar;
 use chrono_datetime::Month;
@@ -13,10 +14,13 @@ const FIRST: Opt = option!(
 
 pub(crate) fn command() -> CommandRow {
     row!(
-        "cal", &[operand!("MONTH|YEAR")], &[FIRST, WEEKEND, CALENDAR, HOLIDAYS, JSON, HELP];
+        "cal", &[operand!("MONTH|YEAR|DAY"; required: false)],
+        &[FIRST, NOW, WEEKEND, CALENDAR, HOLIDAYS, JSON, HELP];
         help: "print a month or a year as a sheet",
-        more: "A MONTH is written as 2024-02, a YEAR as 2024.\n\
-            Each row begins with its ISO week, that of its Thursday. * marks a closed day.",
+        more: "A MONTH is written as 2024-02, a YEAR as 2024. Of a DAY it prints the month, and\n\
+            of no word that of today.\n\
+            Each row begins with its ISO week, that of its Thursday. * marks a closed day,\n\
+            < the DAY or today, and # a day that is both.",
         example: "$ dates cal 2021-02\n\
             \x20   February 2021\n\
             \x20   Mo Tu We Th Fr Sa Su\n\
@@ -29,26 +33,76 @@ pub(crate) fn command() -> CommandRow {
 
 // The month or the year as sheets with closed days marked; `none` where the calendar has no such year. The exit status.
 pub(crate) fn answer<'a>(rt: &HostRuntime, asked: &Asked<'a>, _none: &mut Reply) -> Answered<'a> {
-    let (first, is_year) = value!(time_of(asked.word(0)));
+    let time = value!(time_of(rt, asked));
+    let first = time.first;
     let start = value!(weekday_of(asked.option("--first")));
     let mut holidays = value!(holidays_of(rt, asked));
     let calendar = holidays.calendar(years_of(first, first))?;
     match asked.form.form {
-        OutputForm::Text if is_year => print_year(rt, first, start, &calendar)?,
-        OutputForm::Text => print_month(rt, month_of(first, 0, start), &calendar)?,
-        OutputForm::Json => print_days(rt, first, days_of(first, is_year), &calendar)?,
+        OutputForm::Text if time.is_year => print_year(rt, first, start, &calendar)?,
+        OutputForm::Text => {
+            let (month, marked) = (time.first, time.marked);
+            print_month(
+                rt,
+                MonthSheet {
+                    month,
+                    start,
+                    marked,
+                },
+                &calendar,
+            )?
+        }
+        OutputForm::Json => print_days(rt, first, days_of(first, time.is_year), &calendar)?,
     }
     Ok(ANSWERED)
 }
 
-// The first day of the month or the year that a word names, and whether it is a year.
-fn time_of<'a>(word: Word<'a>) -> Result<(NaiveDate, bool), Fault<'a>> {
-    let what = "a month as 2024-02 or a year as 2024";
-    let text = word.text.as_bytes();
-    match read_month(text) {
-        Ok(first) => Ok((first, false)),
-        Err(_) if read_year(text).is_some() => Ok((value!(start_of_year(word)), true)),
-        Err(error) => Err(unread(word, Unreadable::Form(error), what)),
+// What is shown: the month or the year that begins on a day, and which day is marked.
+#[derive(Clone, Copy)]
+struct Time {
+    first: NaiveDate,
+    is_year: bool,
+    marked: Option<NaiveDate>,
+}
+
+// The month or the year that the word names, or that of its day, or of today.
+fn time_of<'a>(rt: &HostRuntime, asked: &Asked<'a>) -> Result<Time, Fault<'a>> {
+    let Some(word) = asked.words.operand(0) else {
+        return Ok(time_about(value!(day_shown(rt, asked))));
+    };
+    let (is_year, marked) = (false, None);
+    match read_month(word.text.as_bytes()) {
+        Ok(first) => Ok(Time {
+            first,
+            is_year,
+            marked,
+        }),
+        Err(_) if read_year(word.text.as_bytes()).is_some() => {
+            let first = value!(start_of_year(word));
+            Ok(Time {
+                first,
+                is_year: true,
+                marked,
+            })
+        }
+        Err(error) if error.cause != ReadCause::NotThisForm => {
+            Err(unread(word, Unreadable::Form(error), MONTHS))
+        }
+        Err(_) => match value!(start_as(asked.reading, word, MONTHS)) {
+            Start::Day(date) => Ok(time_about(date)),
+            _ => Err(Fault::expected(word, MONTHS)),
+        },
+    }
+}
+
+const MONTHS: &str = "a month as 2024-02, a year as 2024 or a day as 2024-02-29";
+
+// The month of a day that is marked.
+fn time_about(date: NaiveDate) -> Time {
+    Time {
+        first: date.first_day_of_month(),
+        is_year: false,
+        marked: Some(date),
     }
 }
 
@@ -87,6 +141,7 @@ fn month_of(first: NaiveDate, months: i64, start: Weekday) -> MonthSheet {
     MonthSheet {
         month: first.moved_by_months(months).unwrap_or(first),
         start,
+        marked: None,
     }
 }
 

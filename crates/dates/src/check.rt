@@ -5,7 +5,7 @@ use dates_answer::WrongLine;
 
 pub(crate) fn command() -> CommandRow {
     row!(
-        "check", &[operand!("FILE"; required: false)], &[PARSE, JSON, HELP];
+        "check", &[operand!("FILE"; required: false)], &[PARSE, ORDER, JSON, HELP];
         help: "print the lines that are no days, and why",
         more: "It reads standard input where FILE is - or left out. It prints nothing where all\n\
             lines are days.",

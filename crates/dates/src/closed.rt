@@ -4,20 +4,29 @@ use crate::prelude::*;
 use chrono_business::{HolidayRule, england_and_wales, target, us_federal};
 use chrono_datetime::WeekdaySet;
 
-// The weekend that a word names.
+// The weekend that a word names: `none`, or at most two weekdays.
 pub(crate) fn weekend_of<'a>(word: Word<'a>) -> Result<WeekdaySet, Fault<'a>> {
-    let what = "none, or at most two weekdays as fri,sat";
-    weekend_named(word.text).ok_or(Fault::expected(word, what))
+    match weekdays_named(word.text) {
+        Some(days) if days.len() <= 2 => Ok(days),
+        _ => Err(Fault::expected(word, "none, or at most two weekdays as fri,sat")),
+    }
 }
 
-// The weekend that a text names: `none`, a weekday, or two with a comma between them.
-fn weekend_named(text: &str) -> Option<WeekdaySet> {
+// The weekdays that a word names.
+pub(crate) fn weekdays_of<'a>(word: Word<'a>) -> Result<WeekdaySet, Fault<'a>> {
+    weekdays_named(word.text).ok_or(Fault::expected(word, "weekdays as fri,sat"))
+}
+
+// The weekdays that a text names: `none`, or some with commas between them.
+fn weekdays_named(text: &str) -> Option<WeekdaySet> {
+    let mut days = WeekdaySet::EMPTY;
     if text == "none" {
-        return Some(WeekdaySet::EMPTY);
+        return Some(days);
     }
-    let (first, second) = text.split_once(',').unwrap_or((text, text));
-    let first = WeekdaySet::single(weekday_named(first)?);
-    Some(first.union(WeekdaySet::single(weekday_named(second)?)))
+    for name in text.split(',') {
+        days = days.union(WeekdaySet::single(weekday_named(name)?));
+    }
+    Some(days)
 }
 
 // Puts the rules of the calendar with that name into a list; none where it is empty.

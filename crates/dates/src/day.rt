@@ -1,7 +1,11 @@
 //! A day by all its names, and what the program says of itself.
 
+use crate::each::{Asks, answer_each};
+use crate::now::day_shown;
 use crate::prelude::*;
 use command_words::{Program, Shell, put_completion, put_man_page, put_reference};
+use std::fs;
+use std::os::unix::fs::FileTypeExt;
 
 const VERSION: Opt = flag!("--version", "print the version");
 
@@ -16,7 +20,7 @@ const COMPLETION: Opt = option!(
 
 /// The options that stand without the name of a command.
 pub(crate) const OPTIONS: &[Opt] = &[
-    NOW, PARSE, FORMAT, JSON, HELP, VERSION, MAN, REFERENCE, COMPLETION,
+    NOW, PARSE, ORDER, FORMAT, LONG, JSON, HELP, VERSION, MAN, REFERENCE, COMPLETION,
 ];
 
 // What the program does without the name of a command.
@@ -30,7 +34,7 @@ pub(crate) fn command() -> CommandRow {
 }
 
 // The day by all its names, or that of each line, or a page of the program; the exit status.
-pub(crate) fn answer<'a>(rt: &HostRuntime, asked: &Asked<'a>, _none: &mut Reply) -> Answered<'a> {
+pub(crate) fn answer<'a>(rt: &HostRuntime, asked: &Asked<'a>, none: &mut Reply) -> Answered<'a> {
     if asked.words.has("--version") {
         return asked.print(rt, Reply::Version);
     }
@@ -38,10 +42,21 @@ pub(crate) fn answer<'a>(rt: &HostRuntime, asked: &Asked<'a>, _none: &mut Reply)
     if words.has("--man") || words.has("--reference") || words.has("--completion") {
         return answered(print_page(rt, asked));
     }
-    let (form, reading) = (asked.form, asked.reading);
+    let reading = asked.reading;
     match asked.word_or_lines() {
         Some(word) => asked.print(rt, Reply::Names(value!(first_of(reading, word)))),
-        None => take_lines(rt, INPUT, rt.reader(), &mut NamedLines { form, reading }),
+        None if asked.words.operand(0).is_none() && is_alone(rt) => {
+            asked.print(rt, Reply::Names(value!(day_shown(rt, asked))))
+        }
+        None => answer_each(rt, asked, *none, None, Asks::Names),
+    }
+}
+
+// Whether nothing is piped into the program: its standard input is a terminal, or nothing.
+fn is_alone(rt: &HostRuntime) -> bool {
+    match fs::metadata(rt, "/dev/stdin") {
+        Ok(input) => input.file_type().is_char_device(),
+        Err(_) => false,
     }
 }
 
@@ -76,20 +91,4 @@ fn put_page(out: &mut String, asked: &Asked<'_>, program: &Program<'_>) -> Put {
         _ => Shell::Fish,
     };
     put_completion(out, program, shell)
-}
-
-// Each line by all names of its day.
-#[derive(Clone, Copy)]
-struct NamedLines<'a> {
-    form: AnswerForm<'a>,
-    reading: InstantForm<'a>,
-}
-
-impl EachLine for NamedLines<'_> {
-    fn take_line(&mut self, rt: &HostRuntime, _number: u64, line: &[u8]) -> io::Result<u8> {
-        match self.reading.read_day(line) {
-            Some(date) => print_reply(rt, self.form, Reply::Names(date)),
-            None => print_reply(rt, self.form, Reply::Nothing(Key::Date)),
-        }
-    }
 }

@@ -3,22 +3,23 @@
 use crate::prelude::*;
 use dates_answer::{distance, parts_between};
 
-const UNITS: &[&str] = &["d", "w", "m", "mo", "y", "b", "ymd"];
+const UNITS: &[&str] = &["d", "w", "m", "mo", "y", "b", "ymd", "h", "min", "s"];
 
 const UNIT: Operand = operand!("UNIT"; keyword: "in", values: UNITS, required: false);
 
 pub(crate) fn command() -> CommandRow {
     row!(
         "diff", &[DAY, DAY_OR_LINES, UNIT],
-        &[WEEKEND, CALENDAR, HOLIDAYS, ZONED, NOW, UNIX, PARSE, JSON, HELP];
+        &[WEEKEND, CALENDAR, HOLIDAYS, ZONED, NOW, UNIX, PARSE, ORDER, JSON, HELP];
         help: "print the days or whole units between two days",
         more: "A UNIT is d, w, m or mo, y, b or ymd: days, weeks, months, years, open days, or\n\
-            years, months and days. It goes back where the second day is the earlier.\n\
+            years, months and days; or h, min or s: hours, minutes or seconds.\n\
+            It goes back where the second day is the earlier.\n\
             The unit ymd writes spans by which add leads from the first day to the second.\n\
             The unit b counts the first day, where it is open, and not the second; it alone\n\
             takes the options of open days.\n\
-            Of two date-times in place of the days it is the time from one to the other, in\n\
-            seconds, as PT5400S. Both have an offset as +01:00, or none has.\n\
+            Of two date-times in place of the days it is the time from one to the other, as\n\
+            PT5400S, or in h, min or s. Both have an offset as +01:00, or none has.\n\
             With - in place of a day, or no second day, each line of standard input is\n\
             taken for it.",
         example: "$ dates diff 2024-02-29 2024-12-24 in w\n42"
@@ -28,8 +29,12 @@ pub(crate) fn command() -> CommandRow {
 // In what it is asked how far it is.
 #[derive(Clone, Copy)]
 enum Measure {
+    // In days; of date-times the duration.
+    Plain,
     // In whole units.
     Whole(Unit),
+    // In whole units of so many seconds, under a key.
+    Time(Key, i64),
     // In open days.
     OpenDays,
     // In years, months and days.
@@ -76,18 +81,19 @@ fn read<'a>(
 ) -> Result<(Ends, Measure), Fault<'a>> {
     let (words, unit) = cut(asked.words.operands.as_slice());
     let measure = value!(measure_of(unit));
-    *none = none_of(measure);
-    if let [first, ..] = words {
-        if first.text.as_bytes().contains(&b'T') {
-            *none = Reply::Nothing(Key::Duration);
-        }
-    }
+    let has_time = match words {
+        [first, ..] => first.text.as_bytes().contains(&b'T'),
+        [] => false,
+    };
+    *none = none_of(measure, has_time);
     let ends = value!(ends_of(instants, words));
-    if let Some(Start::DateTime(_) | Start::Stamp(_)) = ends.0.or(ends.1) {
-        *none = Reply::Nothing(Key::Duration);
-        if let [word, ..] = unit {
-            return Err(Fault::expected(*word, NO_MORE));
+    let is_timed = ends.0.or(ends.1).map_or(false, |start| !start.is_day());
+    *none = none_of(measure, is_timed);
+    match (measure, unit) {
+        (Measure::Whole(_) | Measure::Parts | Measure::OpenDays, [_, word]) if is_timed => {
+            return Err(Fault::expected(*word, "h, min or s between date-times"));
         }
+        _ => {}
     }
     value!(check_options(&asked.words, measure));
     Ok((ends, measure))
@@ -99,18 +105,25 @@ fn cut<'b, 'a>(words: &'b [Word<'a>]) -> (&'b [Word<'a>], &'b [Word<'a>]) {
     words.split_at(place.unwrap_or(words.len()))
 }
 
-// The measure that the words from `in` on name: days where there are none.
+// The measure that the words from `in` on name.
 fn measure_of<'a>(words: &[Word<'a>]) -> Result<Measure, Fault<'a>> {
     match words {
-        [] => Ok(Measure::Whole(Unit::Days)),
+        [] => Ok(Measure::Plain),
         [_] => Err(Fault::Missing("UNIT", "")),
-        [_, unit] if unit.text == "b" => Ok(Measure::OpenDays),
-        [_, unit] if unit.text == "ymd" => Ok(Measure::Parts),
-        [_, unit] => match unit_named(unit.text.as_bytes()) {
-            Some(unit) => Ok(Measure::Whole(unit)),
-            None => Err(Fault::Word(*unit, Cause::Choice(UNITS))),
-        },
+        [_, unit] => measure_named(unit.text).ok_or(Fault::Word(*unit, Cause::Choice(UNITS))),
         [_, _, other, ..] => Err(Fault::expected(*other, NO_MORE)),
+    }
+}
+
+// The measure of that name.
+fn measure_named(name: &str) -> Option<Measure> {
+    match name {
+        "b" => Some(Measure::OpenDays),
+        "ymd" => Some(Measure::Parts),
+        "h" => Some(Measure::Time(Key::Hours, 3_600)),
+        "min" => Some(Measure::Time(Key::Minutes, 60)),
+        "s" => Some(Measure::Time(Key::Seconds, 1)),
+        _ => Some(Measure::Whole(unit_named(name.as_bytes())?)),
     }
 }
 
@@ -152,20 +165,23 @@ fn third_word<'a>(
 const IN: &str = "in and a unit, as 'in w'";
 
 // The day, the date-time or the instant that a word names, of the kind of the first.
-fn like<'a>(instants: &Instants<'_>, first: Start, word: Word<'a>) -> Result<Start, Fault<'a>> {
+pub(crate) fn like<'a>(
+    instants: &Instants<'_>,
+    first: Start,
+    word: Word<'a>,
+) -> Result<Start, Fault<'a>> {
     let what = match first {
         Start::Day(_) => DAYS,
         Start::DateTime(_) => MOMENTS,
         Start::Stamp(_) => STAMPS,
     };
     let second = value!(instants.once(word, value!(start_as(instants.form, word, what))));
-    match (first, second) {
-        (Start::Day(_), Start::Day(_)) => Ok(second),
-        (Start::Day(_), _) | (_, Start::Day(_)) => {
-            Err(Fault::expected(word, "two days or two date-times, not one of each"))
-        }
-        _ if first.has_offset() == second.has_offset() => Ok(second),
-        _ => Err(Fault::expected(word, "an offset of both date-times, or of none")),
+    if first.is_like(&second) {
+        Ok(second)
+    } else if first.is_day() || second.is_day() {
+        Err(Fault::expected(word, "two days or two date-times, not one of each"))
+    } else {
+        Err(Fault::expected(word, "an offset of both date-times, or of none"))
     }
 }
 
@@ -173,24 +189,21 @@ fn like<'a>(instants: &Instants<'_>, first: Start, word: Word<'a>) -> Result<Sta
 fn check_options<'a>(words: &Arguments<'a>, measure: Measure) -> Result<(), Fault<'a>> {
     for given in words.options.as_slice() {
         let name = given.option.name;
-        match measure {
-            Measure::OpenDays => {}
-            _
-                if name == "--json"
-                    || name == "--unix"
-                    || name == "--zone"
-                    || name == "--parse"
-                    || name == "--now" => {}
-            _ => return Err(Fault::expected(given.value, "no such option without 'in b'")),
+        let closes = name == "--weekend" || name == "--calendar" || name == "--holidays";
+        if closes && !matches!(measure, Measure::OpenDays) {
+            return Err(Fault::expected(given.value, "no such option without 'in b'"));
         }
     }
     Ok(())
 }
 
-// That there is no answer in such a measure.
-fn none_of(measure: Measure) -> Reply {
+// That there is no answer in such a measure, of days or of date-times.
+fn none_of(measure: Measure, is_timed: bool) -> Reply {
     match measure {
+        Measure::Plain if is_timed => Reply::Nothing(Key::Duration),
+        Measure::Plain => Reply::Nothing(Key::Days),
         Measure::Whole(unit) => Reply::Nothing(key_of(unit)),
+        Measure::Time(key, _) => Reply::Nothing(key),
         Measure::OpenDays => Reply::Nothing(Key::OpenDays),
         Measure::Parts => Reply::NoParts,
     }
@@ -209,19 +222,14 @@ fn key_of(unit: Unit) -> Key {
 impl Diff<'_> {
     // How far it is from one day or date-time to another of its kind; the exit status.
     fn answer_ends(&mut self, rt: &HostRuntime, from: Start, to: Start) -> io::Result<u8> {
-        let answer = match from {
-            Start::Day(from) => match to {
-                Start::Day(to) => self.days_between(from, to)?,
-                _ => self.none,
-            },
-            Start::DateTime(from) => match to {
-                Start::DateTime(to) => Reply::Duration(to.signed_duration_since(from)),
-                _ => self.none,
-            },
-            Start::Stamp(from) => match to {
-                Start::Stamp(to) => Reply::Duration(to.signed_duration_since(from)),
-                _ => self.none,
-            },
+        let apart = from.until(&to);
+        let answer = match self.measure {
+            _ if !from.is_like(&to) => self.none,
+            Measure::Time(key, seconds) => {
+                Reply::Number(key, apart.num_seconds().checked_div(seconds).unwrap_or(0))
+            }
+            _ if !from.is_day() => Reply::Duration(apart),
+            _ => self.days_between(from.local().date(), to.local().date())?,
         };
         print_reply(rt, self.form, answer)
     }
@@ -230,6 +238,9 @@ impl Diff<'_> {
     fn days_between(&mut self, from: NaiveDate, to: NaiveDate) -> io::Result<Reply> {
         match self.measure {
             Measure::Whole(unit) => Ok(Reply::Number(key_of(unit), distance(from, to, unit))),
+            Measure::Plain | Measure::Time(_, _) => {
+                Ok(Reply::Number(Key::Days, distance(from, to, Unit::Days)))
+            }
             Measure::Parts => Ok(Reply::Parts(parts_between(from, to))),
             Measure::OpenDays => {
                 let calendar = self.holidays.calendar(years_of(from, to))?;

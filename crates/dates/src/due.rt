@@ -33,7 +33,7 @@ const PREV: &str = "prev";
 
 pub(crate) fn next() -> CommandRow {
     row!(
-        "next", &[operand!("CRON")], &[AFTER, HOW_MANY, BY_CLOCK, NOW, UNIX, PARSE, FORMAT, JSON, HELP];
+        "next", &[operand!("CRON")], &[AFTER, HOW_MANY, BY_CLOCK, NOW, UNIX, PARSE, ORDER, FORMAT, LONG, JSON, HELP];
         help: "print when a schedule is due next",
         more: MORE,
         example: "$ dates next '0 9 * * 5#3' --from 2024-03-01T00:00\n2024-03-15T09:00:00"
@@ -44,7 +44,7 @@ pub(crate) fn prev() -> CommandRow {
     CommandRow {
         name: PREV,
         options: &[
-            BEFORE, HOW_MANY, BY_CLOCK, NOW, UNIX, PARSE, FORMAT, JSON, HELP,
+            BEFORE, HOW_MANY, BY_CLOCK, NOW, UNIX, PARSE, ORDER, FORMAT, LONG, JSON, HELP,
         ],
         help: "print when a schedule was due before",
         example: "$ dates prev '0 0 L * *' --from 2024-03-15T00:00\n2024-02-29T00:00:00",

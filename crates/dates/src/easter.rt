@@ -4,7 +4,7 @@ use crate::prelude::*;
 
 pub(crate) fn command() -> CommandRow {
     row!(
-        "easter", &[YEAR], &[FORMAT, JSON, HELP];
+        "easter", &[YEAR], &[FORMAT, LONG, JSON, HELP];
         help: "print Easter Sunday of a year",
         more: "Easter is worked out by the Gregorian rule.",
         example: "$ dates easter 2025\n2025-04-20"

@@ -63,6 +63,8 @@ pub(crate) enum Cause<'a> {
     Expected(&'static str),
     /// One of these was expected in its place.
     Choice(&'static [&'static str]),
+    /// It is a day in an order that has to be told.
+    Order,
     /// It is neither a day nor a command.
     NoCommand,
     /// It writes no schedule.
@@ -208,6 +210,7 @@ pub(crate) fn put_cause(out: &mut String, cause: Cause<'_>) -> Put {
             out.push_str("expected ")?;
             put_choices(out, values)
         }
+        Cause::Order => out.push_str(ORDER_WANTED),
         Cause::NoCommand => out.push_str(COMMAND),
         Cause::Schedule(error) => put_expected(out, &error, "a schedule as '30 4 1,15 * 5'"),
         Cause::Rule(error) => put_expected(out, &error, "a rule as FREQ=MONTHLY;BYDAY=-1FR"),
@@ -218,6 +221,9 @@ pub(crate) fn put_cause(out: &mut String, cause: Cause<'_>) -> Put {
         Cause::Pattern(error) => put_pattern_error(out, error),
     }
 }
+
+const ORDER_WANTED: &str =
+    "expected a day as 2024-02-29; --order dmy, --order mdy or --parse reads others";
 
 const COMMAND: &str = "expected a day as 2024-02-29 or a command; dates --help lists them";
 

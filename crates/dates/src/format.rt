@@ -15,7 +15,7 @@ const PATTERNS: &str =
 
 pub(crate) fn format() -> CommandRow {
     row!(
-        "format", &[PATTERN, DAY_OR_LINES], &[ZONED, NOW, UNIX, PARSE, JSON, HELP];
+        "format", &[PATTERN, DAY_OR_LINES], &[ZONED, NOW, UNIX, PARSE, ORDER, JSON, HELP];
         help: "print a day or a date-time by a pattern",
         more: PATTERNS,
         example: "$ dates format '%A, %-d %B %Y' 2024-02-29\nThursday, 29 February 2024"
@@ -24,7 +24,7 @@ pub(crate) fn format() -> CommandRow {
 
 pub(crate) fn parse() -> CommandRow {
     row!(
-        "parse", &[PATTERN, operand!("TEXT"; required: false)], &[FORMAT, JSON, HELP];
+        "parse", &[PATTERN, operand!("TEXT"; required: false)], &[FORMAT, LONG, JSON, HELP];
         help: "read a day or a date-time by a pattern",
         more: PATTERNS,
         example: "$ dates parse '%d.%m.%Y' 29.02.2024\n2024-02-29"

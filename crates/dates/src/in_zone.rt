@@ -9,7 +9,7 @@ const FROM_ZONE: Opt = option!(
 
 pub(crate) fn command() -> CommandRow {
     row!(
-        "in", &[ZONE, operand!("TIME")], &[FROM_ZONE, NOW, UNIX, PARSE, FORMAT, JSON, HELP];
+        "in", &[ZONE, operand!("TIME")], &[FROM_ZONE, NOW, UNIX, PARSE, ORDER, FORMAT, LONG, JSON, HELP];
         help: "print what a time zone's clock shows",
         more: ZONES,
         example: "$ dates in America/New_York 2024-02-29T12:00Z\n2024-02-29T07:00:00-05:00 EST"

@@ -1,5 +1,6 @@
 //! Days that the clock names: `today`, `tomorrow`, `yesterday`, a weekday, `last` and a weekday, and `now`.
 
+use crate::each::weekday_from;
 use crate::prelude::*;
 use chrono_reading::read_weekday;
 use std::time::SystemTime;
@@ -64,7 +65,10 @@ pub(crate) fn shown_now<'a>(
     let Some(word) = word else {
         return Ok(shown_in(zone, second_of(SystemTime::now(rt)?)));
     };
-    match instants_of(zone, value!(moment_of(InstantForm::Text(None), word))) {
+    match instants_of(
+        zone,
+        value!(moment_of(InstantForm::Text(None, Order::None), word)),
+    ) {
         MappedLocalTime::Single(stamp) => Ok(shown_in(zone, Some(stamp))),
         _ => Err(Fault::NoSuch(word, Cause::NotOnce)),
     }
@@ -138,6 +142,8 @@ fn named_by(now: Now, text: &[u8]) -> Option<Start> {
 fn weekday_near(today: NaiveDate, text: &[u8]) -> Option<NaiveDate> {
     let (name, is_last) = weekday_in(text);
     let weekday = read_weekday(name).ok()?;
-    let ahead = i64::from(weekday.days_since(today.weekday()));
-    today.moved_by_days(if is_last { ahead - 7 } else { ahead })
+    if is_last {
+        return weekday_from(today.moved_by_days(-7)?, weekday);
+    }
+    weekday_from(today, weekday)
 }

@@ -7,7 +7,7 @@ const TODAY: &str = "today";
 
 pub(crate) fn now() -> CommandRow {
     row!(
-        "now", &[], &[IN_ZONE, NOW, UNIX, FORMAT, JSON, HELP];
+        "now", &[], &[IN_ZONE, NOW, UNIX, FORMAT, LONG, JSON, HELP];
         help: "print what time it is, to the second",
         more: ZONES,
         example: "$ dates now --zone UTC | cut -c 20-\n+00:00"
@@ -17,7 +17,7 @@ pub(crate) fn now() -> CommandRow {
 pub(crate) fn today() -> CommandRow {
     CommandRow {
         name: TODAY,
-        options: &[IN_ZONE, NOW, FORMAT, JSON, HELP],
+        options: &[IN_ZONE, NOW, FORMAT, LONG, JSON, HELP],
         help: "print what day it is",
         example: "$ dates today --zone Asia/Tokyo | wc -c\n11",
         ..now()
@@ -29,14 +29,32 @@ pub(crate) fn answer<'a>(rt: &HostRuntime, asked: &Asked<'a>, none: &mut Reply) 
     if asked.command.name != TODAY {
         *none = asked.reading.no_moment();
     }
-    let zone = value!(zone_of(rt, asked.option("--zone")));
-    let shown = value!(shown_now(rt, &zone, asked.value("--now")));
     let instants = asked.reading;
-    match shown {
+    match value!(shown(rt, asked)) {
         Some(stamp) if asked.command.name == TODAY => {
             asked.print(rt, Reply::Date(stamp.naive_local().date()))
         }
         Some(stamp) => asked.print(rt, instants.reply(Start::Stamp(stamp))),
         None => asked.print(rt, *none),
+    }
+}
+
+// What the clock of the zone of a command shows, which is the machine's own if it has none.
+pub(crate) fn shown<'a>(
+    rt: &HostRuntime,
+    asked: &Asked<'a>,
+) -> Result<Option<DateTime<FixedOffset>>, Fault<'a>> {
+    let zone = match asked.value("--zone") {
+        Some(word) => value!(zone_of(rt, word)),
+        None => value!(machine_zone(rt)),
+    };
+    shown_now(rt, &zone, asked.value("--now"))
+}
+
+// The day that the clock shows.
+pub(crate) fn day_shown<'a>(rt: &HostRuntime, asked: &Asked<'a>) -> Result<NaiveDate, Fault<'a>> {
+    match value!(shown(rt, asked)) {
+        Some(stamp) => Ok(stamp.naive_local().date()),
+        None => Err(Fault::NoSuch(asked.option("--now"), Cause::Past)),
     }
 }

@@ -5,7 +5,7 @@ use chrono_business::Roll;
 
 pub(crate) fn command() -> CommandRow {
     row!(
-        "open", &[DAY_OR_LINES], &[WEEKEND, CALENDAR, HOLIDAYS, NOW, PARSE, JSON, HELP];
+        "open", &[DAY_OR_LINES], &[WEEKEND, CALENDAR, HOLIDAYS, NOW, PARSE, ORDER, JSON, HELP];
         help: "print whether a day is open",
         more: "It prints yes where the day is neither on the weekend nor a holiday, and else\n\
             no. With - in place of the day, or none, it answers each line of standard input.",

@@ -8,6 +8,15 @@ use dates_answer::TextLine;
 pub(crate) const PARSE: Opt =
     option!("--parse", "PATTERN"; "read days and date-times by a pattern, as %d.%m.%Y");
 
+/// `--order`.
+pub(crate) const ORDER: Opt = option!(
+    "--order", "ORDER"; "read days as 29.02.2024 (dmy) or as 02/29/2024 (mdy)",
+    values: &["dmy", "mdy"], any: false
+);
+
+/// `--long`.
+pub(crate) const LONG: Opt = flag!("--long", "print days as Thursday, 29 February 2024");
+
 /// `--format`.
 pub(crate) const FORMAT: Opt =
     option!("--format", "PATTERN"; "print days and date-times by a pattern, as %d.%m.%Y");
@@ -20,6 +29,10 @@ pub(crate) fn pattern_word<'a>(
 ) -> Option<Word<'a>> {
     match option.name.strip_prefix("--") {
         Some(name) if name == command.name => words.operand(0),
+        _ if option.name == FORMAT.name && words.has("--long") => {
+            let text = "%A, %-d %B %Y";
+            Some(Word { place: 0, text })
+        }
         _ => words.value(command.options, option.name),
     }
 }

@@ -15,7 +15,7 @@ const CONVENTIONS: &[&str] = &[
 pub(crate) fn command() -> CommandRow {
     row!(
         "roll", &[DAY_OR_LINES, operand!("CONVENTION"; values: CONVENTIONS)],
-        &[WEEKEND, CALENDAR, HOLIDAYS, NOW, PARSE, FORMAT, JSON, HELP];
+        &[WEEKEND, CALENDAR, HOLIDAYS, NOW, PARSE, ORDER, FORMAT, LONG, JSON, HELP];
         help: "print where a closed day goes",
         more: "A CONVENTION is following, preceding, modified-following, modified-preceding,\n\
             nearest or unadjusted. An open day stays.\n\

@@ -1,12 +1,20 @@
 //! The instances of a recurrence rule.
 
 use crate::prelude::*;
-use chrono_rules::{Rule, read_rule};
+use chrono_rules::{Recurrence, Rule, read_rule};
 
 const START: Opt = option!("--start", "DAY"; "from which day on it recurs", required: true);
 
 const FROM: Opt =
     option!("--from", "DAY"; "from which day on they are wanted\n(default: that of --start)");
+
+const EXDATE: Opt = option!(
+    "--exdate", "DAY"; "a day that is left out; may be given again", repeated: true
+);
+
+const RDATE: Opt = option!(
+    "--rdate", "DAY"; "a day that is added; may be given again", repeated: true
+);
 
 const HOW_MANY: Opt = option!(
     "--count", "N"; "how many at most\n(default: all, to the end of the rule or the calendar)"
@@ -14,7 +22,8 @@ const HOW_MANY: Opt = option!(
 
 pub(crate) fn command() -> CommandRow {
     row!(
-        "rule", &[operand!("RRULE")], &[START, FROM, HOW_MANY, NOW, PARSE, FORMAT, JSON, HELP];
+        "rule", &[operand!("RRULE")], 
+        &[START, FROM, HOW_MANY, EXDATE, RDATE, NOW, PARSE, ORDER, FORMAT, LONG, JSON, HELP];
         help: "print the instances of a recurrence rule",
         more: "An RRULE is written as RFC 5545 writes it, in parts with ; between them:\n\
             FREQ=WEEKLY;INTERVAL=2;BYDAY=TU;COUNT=5        every other Tuesday, five times\n\
@@ -31,13 +40,43 @@ pub(crate) fn command() -> CommandRow {
 pub(crate) fn answer<'a>(rt: &HostRuntime, asked: &Asked<'a>, none: &mut Reply) -> Answered<'a> {
     let rule = value!(rule_of(asked.word(0)));
     let start = value!(day_of(asked.reading, asked.option("--start")));
-    let from = given!(asked.value("--from"), word, day_of(asked.reading, word)).unwrap_or(start);
     let most = given!(asked.value("--count"), word, amount_of(word)).unwrap_or(u64::MAX);
+    let (dates, exceptions) = (
+        value!(days_given(rt, asked, "--rdate")),
+        value!(days_given(rt, asked, "--exdate")),
+    );
+    let first = dates.first().map_or(start, |day| start.min(*day));
+    let from = given!(asked.value("--from"), word, day_of(asked.reading, word)).unwrap_or(first);
     let mut status = NONE;
-    for day in rule.instances_from(start, from).take(most as usize) {
-        status = value!(asked.print(rt, Reply::Date(day)));
+    // (both are in order, each once)
+    if let Some(days) = Recurrence::try_new(rule, start, dates.as_slice(), exceptions.as_slice()) {
+        for day in days.iter_from(from).take(most as usize) {
+            status = value!(asked.print(rt, Reply::Date(day)));
+        }
     }
     asked.finish(rt, status, *none)
+}
+
+// The days that an option gives, in order, each once.
+fn days_given<'a>(
+    rt: &HostRuntime,
+    asked: &Asked<'a>,
+    name: &str,
+) -> Result<Vec<NaiveDate>, Fault<'a>> {
+    let mut days = Vec::new(rt.alloc());
+    for given in asked.words.options.as_slice() {
+        if given.option.name == name {
+            put_day(&mut days, value!(day_of(asked.reading, given.value)))?;
+        }
+    }
+    days.as_mut_slice().sort_unstable();
+    days.dedup();
+    Ok(days)
+}
+
+// Puts a day behind others.
+fn put_day<A: Allocator>(days: &mut Vec<NaiveDate, A>, day: NaiveDate) -> io::Result<()> {
+    Ok(days.push(day)?)
 }
 
 // The rule that a word writes.

@@ -1,49 +1,145 @@
-//! The days from one to another.
+//! The days, or the date-times, from one to another.
 
+use crate::diff::like;
 use crate::prelude::*;
+use chrono_datetime::WeekdaySet;
 use dates_answer::sequence_day;
+
+const SKIP: Opt = option!("--skip", "DAYS"; "weekdays that are left out, as sat,sun");
+
+const HOW_MANY: Opt = option!("--count", "N"; "how many at most (default: all)");
 
 pub(crate) fn command() -> CommandRow {
     row!(
-        "seq", &[DAY, DAY, operand!("SPAN"; required: false)], &[NOW, PARSE, FORMAT, JSON, HELP];
-        help: "print the days from one to another",
-        more: "Each is the first day moved by no span, by one, by two and so on, as long as\n\
-            that is not past the second day. With no SPAN it goes day by day, also back.\n\
-            A SPAN is a whole number of d, w, m or y, as 2w, or -1w to go back; none of b\n\
-            or h.",
+        "seq", &[DAY, DAY_OR_LINES, operand!("SPAN"; required: false)],
+        &[SKIP, HOW_MANY, NOW, PARSE, ORDER, FORMAT, LONG, JSON, HELP];
+        help: "print the days or date-times from one to another",
+        more: "Each is the first moved by no span, by one, by two and so on, as long as that is\n\
+            not past the second. With no SPAN it goes day by day, also back. With no second\n\
+            DAY it goes on to the calendar's end, or up to --count.\n\
+            A SPAN is as for add, as 2w, or -1w to go back; of date-times also 36h or\n\
+            90min; none of b.",
         example: "$ dates seq 2024-01-31 2024-04-01 1m\n2024-01-31\n2024-02-29\n2024-03-31"
     )
 }
 
 // The days of the sequence as long as they are not past its end; `none` where the first day is past it. The exit status.
 pub(crate) fn answer<'a>(rt: &HostRuntime, asked: &Asked<'a>, none: &mut Reply) -> Answered<'a> {
-    let from = value!(day_of(asked.reading, asked.word(0)));
-    let to = value!(day_of(asked.reading, asked.word(1)));
-    let step = given!(asked.words.operand(2), word, step_of(word));
-    let step = step.unwrap_or(day_by_day(from, to));
+    let reading = asked.reading;
+    let (second, third) = second_and_span(asked);
+    let from = value!(start_of(reading, asked.word(0)));
+    *none = reading.none_of(from);
+    let instants = value!(instants_by(rt, asked));
+    let to = given!(second, word, like(&instants, from, word));
+    let step = given!(third, word, step_of(from, word));
+    let step = step.unwrap_or(day_by_day(&from, to.as_ref()));
+    let skip = value!(skipped(asked));
+    let mut left = given!(asked.value("--count"), word, amount_of(word)).unwrap_or(u64::MAX);
     let mut status = NONE;
     for place in 0..u32::MAX {
-        match sequence_day(from, to, step, place) {
-            Some(date) => status = value!(asked.print(rt, Reply::Date(date))),
-            None => break,
+        let Some(start) = there(&from, to.as_ref(), step, place) else {
+            break;
+        };
+        if left == 0 {
+            break;
+        }
+        if !skip.contains(start.local().date().weekday()) {
+            status = value!(asked.print(rt, reading.reply(start)));
+            left = left.saturating_sub(1);
         }
     }
     asked.finish(rt, status, *none)
 }
 
-// The span that a word writes, which is not 0.
-fn step_of<'a>(word: Word<'a>) -> Result<Span, Fault<'a>> {
-    match read_span(word.text.as_bytes()) {
-        Some(span) if span.count != 0 => Ok(span),
-        Some(_) => Err(Fault::expected(word, "a span that is not 0")),
-        None => Err(Fault::expected(word, "a span as 3d, -2w, 1m or 4y")),
+// The word of the end and that of the span, each of which may be left out.
+fn second_and_span<'a>(asked: &Asked<'a>) -> (Option<Word<'a>>, Option<Word<'a>>) {
+    let (second, third) = (asked.words.operand(1), asked.words.operand(2));
+    match second {
+        Some(word) if third.is_none() && read_move(word.text.as_bytes()).is_some() => {
+            (None, second)
+        }
+        _ => (second, third),
+    }
+}
+
+// The weekdays that are left out.
+fn skipped<'a>(asked: &Asked<'a>) -> Result<WeekdaySet, Fault<'a>> {
+    match asked.value("--skip") {
+        Some(word) => weekdays_of(word),
+        None => Ok(WeekdaySet::EMPTY),
+    }
+}
+
+// The span that a word writes, which is not 0; a time moves no day.
+fn step_of<'a>(from: Start, word: Word<'a>) -> Result<Move, Fault<'a>> {
+    let text = word.text.as_bytes();
+    let step = match move_at(text, 0) {
+        Some((step, next)) if next == text.len() => step,
+        _ => return Err(Fault::expected(word, STEPS)),
+    };
+    if !steps_from(&step, from.is_day()) {
+        return Err(Fault::expected(word, STEPS));
+    }
+    if goes(&step) == 0 {
+        return Err(Fault::expected(word, "a span that is not 0"));
+    }
+    Ok(step)
+}
+
+// Whether a move leads from day to day, or from time to time, where `m` was meant for minutes.
+fn steps_from(step: &Move, is_day: bool) -> bool {
+    match step {
+        Move::Time(_) => !is_day,
+        Move::ShortMonths(_) => is_day,
+        Move::OpenDays(_) => false,
+        Move::Calendar(_) => true,
+    }
+}
+
+const STEPS: &str = "a span as 3d, -2w, 1m or 4y, or of date-times as 36h or 90min";
+
+// 1 where a move goes on, -1 where it goes back, and 0 where it does neither.
+fn goes(step: &Move) -> i64 {
+    match *step {
+        Move::Calendar(span) | Move::ShortMonths(span) => span.count.signum(),
+        Move::OpenDays(count) => count.signum(),
+        Move::Time(Some(time)) if time.is_zero() => 0,
+        Move::Time(Some(time)) if time < TimeDelta::zero() => -1,
+        Move::Time(_) => 1,
     }
 }
 
 // A day on, or back where the second day is the earlier.
-fn day_by_day(from: NaiveDate, to: NaiveDate) -> Span {
+fn day_by_day(from: &Start, to: Option<&Start>) -> Move {
     let unit = Unit::Days;
-    let is_back = to.num_days_from_ce() < from.num_days_from_ce();
+    let is_back = to.map_or(false, |to| from.until(to) < TimeDelta::zero());
     let count = if is_back { -1 } else { 1 };
-    Span { count, unit }
+    Move::Calendar(Span { count, unit })
+}
+
+// What stands at a place of the sequence, counted from 0; nothing past its end.
+fn there(from: &Start, to: Option<&Start>, step: Move, place: u32) -> Option<Start> {
+    let (start, way) = (from.local(), goes(&step));
+    let moment = match step {
+        Move::Time(time) => {
+            start.checked_add_signed(time?.checked_mul(i32::try_from(place).ok()?)?)?
+        }
+        Move::Calendar(span) | Move::ShortMonths(span) => {
+            let end = match to {
+                Some(to) if to.is_day() => to.local().date(),
+                _ if way < 0 => NaiveDate::MIN,
+                _ => NaiveDate::MAX,
+            };
+            NaiveDateTime::new(sequence_day(start.date(), end, span, place)?, start.time())
+        }
+        Move::OpenDays(_) => return None,
+    };
+    let found = from.at(moment)?;
+    let past = to.map_or(TimeDelta::zero(), |to| to.until(&found));
+    let is_past = if way < 0 {
+        past < TimeDelta::zero()
+    } else {
+        TimeDelta::zero() < past
+    };
+    if is_past { None } else { Some(found) }
 }

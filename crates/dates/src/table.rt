@@ -14,11 +14,17 @@ macro_rules! each_command {
             seq::command,
             week::command,
             weekday::command,
+            ends::first,
+            ends::last,
+            ends::round,
             easter::command,
             leap::command,
             open::command,
             roll::command,
             check::command,
+            grep::grep,
+            grep::sort,
+            test::command,
             due::next,
             due::prev,
             rule::command,
@@ -84,20 +90,23 @@ pub(crate) fn program(commands: &[CommandRow]) -> Program<'_> {
 
 // What stands at the end of the help.
 const MORE: &str = "A DAY is a calendar date, an ordinal date or a week date, as 2024-02-29,\n\
-    2024-060 and 2024-W09-4. It is printed by these names, its weekday, its number\n\
-    from 1 January of year 1, which is 1, and the days since 1970-01-01.\n\
+    2024-060 and 2024-W09-4, also without hyphens; or 'Feb 29, 2024', '29 Feb 2024'\n\
+    or '#738945'. It is printed by its three dates, its weekday, its number from\n\
+    1 January of year 1, which is 1, and the days since 1970-01-01.\n\
     \n\
-    Where DAY is - or left out, dates, add, diff, open and roll answer each line of\n\
-    standard input. A line that is no day is answered by none; check says why.\n\
+    Where DAY is - or left out, most commands answer each line of standard input.\n\
+    dates alone does so if something is piped in, and else prints today. A line that\n\
+    is no day is answered by none; check says why.\n\
     today, tomorrow, yesterday, friday and 'last friday' are days by the clock, and\n\
-    now is a time. Without such a word only now and today ask what time it is.\n\
+    now is a time. Without such a word only dates and cal alone, next, prev, now and\n\
+    today ask what time it is.\n\
     \n\
     An option may stand anywhere, and its value behind = too. Behind -- all words\n\
     are operands. 'dates COMMAND --help' says more of a command.\n\
     \n\
     The exit status is 0; 1 where a question has no answer, for which none is\n\
-    printed, or where check finds a line; and 2 after a wrong command, or a read or\n\
-    a write that failed.";
+    printed, where check finds a line, where grep finds none, or where a test does\n\
+    not hold; and 2 after a wrong command, or a read or a write that failed.";
 
 // Answers what the arguments ask for: the first that is not `--json` may name a command. The exit status.
 pub(crate) fn answer_arguments(rt: &HostRuntime, arguments: &[String]) -> io::Result<u8> {
@@ -202,14 +211,31 @@ fn patterns_of<'a>(command: &CommandRow, words: &Arguments<'a>) -> Result<Patter
         return Err(fault);
     }
     let format = given!(pattern_word(command, words, FORMAT), word, pattern_of(word));
-    let word = pattern_word(command, words, PARSE);
-    if let Some(word) = word {
-        if words.has("--unix") {
-            return Err(Fault::expected(word, "no --parse beside --unix"));
+    let parse = given!(pattern_word(command, words, PARSE), word, reading_of(word));
+    match wrong_pair(words) {
+        Some(fault) => Err(fault),
+        None => Ok((format, parse)),
+    }
+}
+
+// Options of which one alone may be given, and what is expected where both are.
+const APART: &[[&str; 3]] = &[
+    ["--parse", "--unix", "no --parse beside --unix"],
+    ["--parse", "--order", "no --parse beside --order"],
+    ["--order", "--unix", "no --order beside --unix"],
+    ["--format", "--long", "no --format beside --long"],
+];
+
+// What is wrong where two options are given of which one alone may be.
+fn wrong_pair<'a>(words: &Arguments<'a>) -> Option<Fault<'a>> {
+    for [one, other, what] in APART {
+        if let Some(word) = words.value(&[], one) {
+            if words.has(other) {
+                return Some(Fault::expected(word, what));
+            }
         }
     }
-    let parse = given!(word, word, reading_of(word));
-    Ok((format, parse))
+    None
 }
 
 // The patterns by which a command prints and reads.
@@ -222,7 +248,7 @@ fn wrong_first<'a>(command: &CommandRow, first: Option<Word<'a>>) -> Option<Faul
     if !command.name.is_empty() || is_right {
         return None;
     }
-    match crate::day::first_of(InstantForm::Text(None), first) {
+    match crate::day::first_of(InstantForm::Text(None, Order::None), first) {
         Ok(_) => None,
         Err(fault) => Some(fault),
     }

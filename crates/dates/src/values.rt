@@ -16,12 +16,21 @@ pub(crate) const STAMPS: &str = "a date-time with its offset as 2024-02-29T04:30
 /// How instants are read and written.
 #[derive(Clone, Copy)]
 pub(crate) enum InstantForm<'a> {
-    /// As date-times with their offset, and by what the clock shows.
-    Text(Option<Now>),
+    /// As date-times with their offset, by what the clock shows, and in an order.
+    Text(Option<Now>, Order),
     /// As seconds since 1970 in UTC, and by what the clock shows.
     Seconds(Option<Now>),
     /// Read by a pattern, and written as date-times.
     Pattern(&'a Pattern<'a>),
+}
+
+// The order that the option tells, if it is given.
+fn order_of(words: &Arguments<'_>) -> Order {
+    match words.value(&[], "--order") {
+        Some(word) if word.text == "dmy" => Order::Day,
+        Some(_) => Order::Month,
+        None => Order::None,
+    }
 }
 
 /// Why a text names no day, date-time or instant.
@@ -55,15 +64,15 @@ impl<'a> InstantForm<'a> {
         match pattern {
             Some(pattern) => InstantForm::Pattern(pattern),
             None if words.has("--unix") => InstantForm::Seconds(now),
-            None => InstantForm::Text(now),
+            None => InstantForm::Text(now, order_of(words)),
         }
     }
 
     // The day, the date-time or the instant that a text names; by seconds an instant alone.
     pub(crate) fn read(self, text: &[u8]) -> Result<Start, Unreadable> {
         match self {
-            InstantForm::Text(Some(now)) if is_named(text) => Ok(read_named(now, text)?),
-            InstantForm::Text(_) => Ok(read_start(text)?),
+            InstantForm::Text(Some(now), _) if is_named(text) => Ok(read_named(now, text)?),
+            InstantForm::Text(_, order) => read_written(text, order),
             InstantForm::Seconds(Some(now)) if text == b"now".as_slice() => {
                 Ok(read_named(now, text)?)
             }
@@ -103,7 +112,7 @@ impl<'a> InstantForm<'a> {
     // That there is no such day, or no such date-time where the text has a `T` or a colon.
     pub(crate) fn none_of_text(self, text: &[u8]) -> Reply {
         match self {
-            InstantForm::Text(_) if !text.contains(&b'T') && !text.contains(&b':') => {
+            InstantForm::Text(_, _) if !text.contains(&b'T') && !text.contains(&b':') => {
                 Reply::Nothing(Key::Date)
             }
             InstantForm::Pattern(pattern) if !pattern.names_date_time() => {
@@ -125,9 +134,12 @@ impl<'a> InstantForm<'a> {
 // What is wrong with a word that cannot be read: that something else was expected, or that there is no such day or time.
 pub(crate) fn unread<'a>(word: Word<'a>, error: Unreadable, what: &'static str) -> Fault<'a> {
     match error {
-        Unreadable::Form(error) if error.cause == ReadCause::NotThisForm => Fault::expected(
-            word, what,
-        ),
+        Unreadable::Form(error) if error.cause == ReadCause::NotThisForm => {
+            if has_order(word.text.as_bytes()) {
+                return Fault::Word(word, Cause::Order);
+            }
+            Fault::expected(word, what)
+        }
         Unreadable::Pattern(wrong) if is_other_form(wrong) => Fault::Word(
             word,
             Cause::NoDay(error),
@@ -169,12 +181,6 @@ pub(crate) fn moment_of<'a>(form: InstantForm<'_>, word: Word<'a>) -> Result<Sta
         Start::Day(_) => Err(Fault::expected(word, MOMENTS)),
         start => Ok(start),
     }
-}
-
-// The Monday of the week that a word names.
-pub(crate) fn week_of<'a>(word: Word<'a>) -> Result<NaiveDate, Fault<'a>> {
-    let week = read_week(word.text.as_bytes());
-    Ok(value!(week, error => unread(word, Unreadable::Form(error), "a week as 2024-W09")))
 }
 
 // The year that a word writes.

@@ -1,25 +1,20 @@
 //! The first and the last day of a week.
 
+use crate::each::{Asks, answer_each};
 use crate::prelude::*;
 
 pub(crate) fn command() -> CommandRow {
     row!(
-        "week", &[operand!("WEEK")], PLAIN;
+        "week", &[DAY_OR_LINES], &[NOW, PARSE, ORDER, JSON, HELP];
         help: "print the first and the last day of a week",
-        more: "A WEEK is an ISO week, from Monday on, as 2024-W09.",
+        more: "It is the ISO week of a day, from Monday on, or a week as 2024-W09.\n\
+            With - in place of the day, or none, it answers each line of standard input.",
         example: "$ dates week 2024-W09\n2024-02-26 2024-03-03"
     )
 }
 
-// The Monday and the Sunday of the week; the exit status.
+// The Monday and the Sunday of the day's week, or of that of each line; the exit status.
 pub(crate) fn answer<'a>(rt: &HostRuntime, asked: &Asked<'a>, none: &mut Reply) -> Answered<'a> {
     *none = Reply::NoWeek(None);
-    let first = value!(week_of(asked.word(0)));
-    match first.moved_by_days(6) {
-        Some(last) => asked.print(rt, Reply::Week(first, last)),
-        None => {
-            let (form, none, from) = (asked.form, Reply::NoWeek(Some(first)), Start::Day(first));
-            answered(print_nowhere(rt, form, none, ALONE, &from, "6d", Cause::Past))
-        }
-    }
+    answer_each(rt, asked, *none, asked.word_or_lines(), Asks::Week)
 }

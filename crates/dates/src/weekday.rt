@@ -1,19 +1,19 @@
 //! The weekday of a day.
 
+use crate::each::{Asks, answer_each};
 use crate::prelude::*;
 
 pub(crate) fn command() -> CommandRow {
     row!(
-        "weekday", &[DAY], &[NOW, PARSE, JSON, HELP];
+        "weekday", &[DAY_OR_LINES], &[NOW, PARSE, ORDER, JSON, HELP];
         help: "print the weekday of a day",
-        more: "",
+        more: "With - in place of the day, or none, it answers each line of standard input.",
         example: "$ dates weekday 2024-02-29\nThursday"
     )
 }
 
-// The weekday of the day; the exit status.
+// The weekday of the day, or of that of each line; the exit status.
 pub(crate) fn answer<'a>(rt: &HostRuntime, asked: &Asked<'a>, none: &mut Reply) -> Answered<'a> {
     *none = Reply::Nothing(Key::Weekday);
-    let date = value!(day_of(asked.reading, asked.word(0)));
-    asked.print(rt, Reply::Weekday(date.weekday()))
+    answer_each(rt, asked, *none, asked.word_or_lines(), Asks::Weekday)
 }

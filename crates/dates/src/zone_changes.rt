@@ -8,7 +8,7 @@ const OF_YEAR: Opt =
 
 pub(crate) fn command() -> CommandRow {
     row!(
-        "zone", &[ZONE], &[OF_YEAR, FORMAT, JSON, HELP];
+        "zone", &[ZONE], &[OF_YEAR, FORMAT, LONG, JSON, HELP];
         help: "print when a time zone's clock is set",
         more: ZONES,
         example: "$ dates zone Europe/Berlin --year 2024\n\

@@ -1,8 +1,9 @@
 -- A month as a sheet: which day stands in which cell, and how a row is written.
-use Rattle.std.specs.Prelude.{◌≡◌, ℕ, ◌+◌, ◌*◌, ◌<◌, false, not, ◌&&◌, if◌then◌else◌, nat_lt, ℤ, pos, ◌+ℤ◌, int_le, List, [], ◌∷◌, map, ◌++◌, codes, Option, Some, None}
+use Rattle.std.specs.Prelude.{◌≡◌, Bool, ℕ, ◌+◌, ◌*◌, ◌<◌, false, true, not, ◌&&◌, if◌then◌else◌, nat_lt, ℤ, pos, ◌+ℤ◌, int_le, List, [], ◌∷◌, map, ◌++◌, codes, Option, Some, None}
 use Rattle.std.specs.Option.{option_map}
 use Rattle.std.specs.Fmt.{decimal}
 use Rattle.std.specs.List.{flat_map}
+use Rattle.std.specs.Ordering.{int_eq}
 use Rattle.chrono_datetime.specs.declared.Weekday.{Weekday}
 use Rattle.chrono_datetime.specs.declared.Weekday.TheVariants.{Thu}
 use Rattle.chrono_datetime.specs.Days.{date_of_day, day_of}
@@ -32,14 +33,19 @@ week_of_row n start row = option_map iso_week_of (date_of_day (day_of_cell n sta
 abbrev pub IsEmptyRow : ℤ → Weekday → ℕ → Type 0
 IsEmptyRow n start row = (column : ℕ) → column < 7 → sheet_day n start row column ≡ None
 
--- a cell of a day, if it has one: its day of the month, marked where the calendar is closed
-abbrev pub cell_of : Closed → Option ℤ → Cell
-cell_of c None = record { day = None; closed = false }
-cell_of c (Some d) = record { day = Some (day_of d); closed = not (is_open c d) }
+-- whether a day is the one that is marked, if one is
+abbrev pub is_marked : Option ℤ → ℤ → Bool
+is_marked None d = false
+is_marked (Some m) d = int_eq m d
+
+-- a cell of a day, if it has one: its day of the month, whether the calendar is closed, and whether the day is marked
+abbrev pub cell_of : Closed → Option ℤ → Option ℤ → Cell
+cell_of c m None = record { day = None; closed = false; marked = false }
+cell_of c m (Some d) = record { day = Some (day_of d); closed = not (is_open c d); marked = is_marked m d }
 
 -- the cells of a row, from the first column to the last
-abbrev pub cells_of_row : Closed → ℤ → Weekday → ℕ → List Cell
-cells_of_row c n start row = map (λ column. cell_of c (sheet_day n start row column)) (0 ∷ 1 ∷ 2 ∷ 3 ∷ 4 ∷ 5 ∷ 6 ∷ [])
+abbrev pub cells_of_row : Closed → Option ℤ → ℤ → Weekday → ℕ → List Cell
+cells_of_row c m n start row = map (λ column. cell_of c m (sheet_day n start row column)) (0 ∷ 1 ∷ 2 ∷ 3 ∷ 4 ∷ 5 ∷ 6 ∷ [])
 
 -- a number in two columns, with a text in front of one digit
 abbrev pub two_columns : List ℕ → ℕ → List ℕ
@@ -50,9 +56,16 @@ abbrev pub day_text : Option ℕ → List ℕ
 day_text None = codes "  "
 day_text (Some d) = two_columns (codes " ") d
 
--- a cell: its day, and behind it `*` where it is closed
+-- what stands behind a day: `*` where it is closed, `<` where it is marked, and `#` where it is both
+abbrev pub mark_text : Bool → Bool → List ℕ
+mark_text true true = codes "#"
+mark_text true false = codes "*"
+mark_text false true = codes "<"
+mark_text false false = codes " "
+
+-- a cell: its day, and behind it its mark
 abbrev pub cell_text : Cell → List ℕ
-cell_text cell = day_text cell.day ++ (if cell.closed then codes "*" else codes " ")
+cell_text cell = day_text cell.day ++ mark_text cell.closed cell.marked
 
 -- the week in front of a row, as `W09`, or spaces
 abbrev pub label_text : Option ℕ → List ℕ

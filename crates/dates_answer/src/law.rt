@@ -64,7 +64,7 @@ pub fn known_lines()
 
 /// States known cells of January of year 1, which begins on a Monday.
 ///
-/// They are cells of its first and last rows. In the last row the 30th is a holiday. With weeks from Sunday, the first row is ISO week 1.
+/// They are cells of its first and last rows. In the last row the 30th is a holiday, and marked. With weeks from Sunday, the first row is ISO week 1.
 /// A further row shows how a row is written.
 pub fn known_sheets()
     ensures first { sheet_day (pos 15) Mon 0 0 ≡ Some (pos 1) }
@@ -73,8 +73,8 @@ pub fn known_sheets()
     ensures last { sheet_day (pos 15) Mon 4 2 ≡ Some (pos 31) }
     ensures behind_last { sheet_day (pos 15) Mon 4 3 ≡ None }
     ensures week_from_sunday { week_of_row (pos 15) Sun 0 ≡ Some 1 }
-    ensures cells { cells_of_row (closed no_days (pos 30 ∷ [])) (pos 15) Mon 4
-        ≡ record { day = Some 29; closed = false } ∷ record { day = Some 30; closed = true } ∷ record { day = Some 31; closed = false } ∷ record { day = None; closed = false } ∷ record { day = None; closed = false } ∷ record { day = None; closed = false } ∷ record { day = None; closed = false } ∷ [] }
-    ensures row { row_text (record { week = Some 9; cells = record { day = Some 29; closed = false } ∷ record { day = Some 1; closed = true } ∷ record { day = None; closed = false } ∷ [] })
-        ≡ codes "W09 29  1*   " }
+    ensures cells { cells_of_row (closed no_days (pos 30 ∷ [])) (Some (pos 30)) (pos 15) Mon 4
+        ≡ record { day = Some 29; closed = false; marked = false } ∷ record { day = Some 30; closed = true; marked = true } ∷ record { day = Some 31; closed = false; marked = false } ∷ record { day = None; closed = false; marked = false } ∷ record { day = None; closed = false; marked = false } ∷ record { day = None; closed = false; marked = false } ∷ record { day = None; closed = false; marked = false } ∷ [] }
+    ensures row { row_text (record { week = Some 9; cells = record { day = Some 29; closed = false; marked = true } ∷ record { day = Some 1; closed = true; marked = false } ∷ record { day = Some 2; closed = true; marked = true } ∷ record { day = None; closed = false; marked = false } ∷ [] })
+        ≡ codes "W09 29< 1* 2#   " }
 {}

@@ -27,6 +27,12 @@ pub enum Key {
     Months,
     /// Years.
     Years,
+    /// Hours.
+    Hours,
+    /// Minutes.
+    Minutes,
+    /// Seconds.
+    Seconds,
     /// Open days.
     OpenDays,
     /// Whether a day is open.
@@ -254,6 +260,9 @@ pub(crate) fn key_name(key: Key) -> &'static str
         Key::Weeks => "weeks",
         Key::Months => "months",
         Key::Years => "years",
+        Key::Hours => "hours",
+        Key::Minutes => "minutes",
+        Key::Seconds => "seconds",
         Key::OpenDays => "open_days",
         Key::Open => "open",
         Key::Leap => "leap",

@@ -11,6 +11,8 @@ pub struct Cell {
     pub day: Option<u32>,
     /// Whether that day is closed.
     pub closed: bool,
+    /// Whether that day is the one that is marked.
+    pub marked: bool,
 }
 
 /// A row of a sheet, as `W09 26 27 28 29  1  2* 3*`: 25 bytes.
@@ -25,9 +27,14 @@ pub struct SheetRow {
 impl fmt::Display for Cell {
     ghost output = { λ cell. Some (cell_text cell) };
 
-    /// Writes the day in two columns, and behind it `*` where it is closed.
+    /// Writes the day in two columns, and behind it `*` where it is closed, `<` where it is marked, and `#` where it is both.
     fn fmt<W: fmt::Write>(&self, f: &mut fmt::Formatter<W>) -> fmt::Result {
-        let mark = if self.closed { "*" } else { " " };
+        let mark = match (self.closed, self.marked) {
+            (true, true) => "#",
+            (true, false) => "*",
+            (false, true) => "<",
+            (false, false) => " ",
+        };
         match self.day {
             None => write!(f, "  {mark}"),
             Some(day) if day < 10 => write!(f, " {day}{mark}"),

@@ -1,7 +1,7 @@
 //! A month as a sheet: which day stands in which cell.
 ghost use Rattle.std.specs.Prelude.{◌≡◌, ◌↔◌, ◌+◌, ◌*◌, ◌-ℤ◌, None, false, pos};
 ghost use Rattle.chrono_datetime.specs.Days.{date_of_day};
-ghost use Rattle.dates_answer.specs.Sheets.{IsEmptyRow, cell_of, cells_of_row, day_of_cell, sheet_day, week_of_row};
+ghost use Rattle.dates_answer.specs.Sheets.{IsEmptyRow, cell_of, cells_of_row, day_of_cell, is_marked, sheet_day, week_of_row};
 
 use crate::between::days_between;
 use crate::row::{Cell, SheetRow};
@@ -15,6 +15,8 @@ pub struct MonthSheet {
     pub month: NaiveDate,
     /// The weekday on which its weeks begin.
     pub start: Weekday,
+    /// The day that is marked, if one is.
+    pub marked: Option<NaiveDate>,
 }
 
 impl MonthSheet {
@@ -44,9 +46,9 @@ impl MonthSheet {
         Some(date.iso_week().week())
     }
 
-    /// A row as it is printed, with the days that are not open marked; blank where none of its days lies in the month.
+    /// A row as it is printed, with a mark behind the days that are not open; blank where none of its days lies in the month.
     pub fn row(&self, row: u32, calendar: &Calendar) -> SheetRow
-        ensures cells { result.cells ≡ cells_of_row calendar.now self.now.month self.now.start row }
+        ensures cells { result.cells ≡ cells_of_row calendar.now self.now.marked self.now.month self.now.start row }
         ensures week { ¬ IsEmptyRow self.now.month self.now.start row → result.week ≡ week_of_row self.now.month self.now.start row }
         ensures blank { IsEmptyRow self.now.month self.now.start row → result.week ≡ None }
     {
@@ -84,16 +86,18 @@ impl MonthSheet {
 
     // What stands in a cell.
     fn cell(&self, row: u32, column: u32, calendar: &Calendar) -> Cell
-        ensures { result ≡ cell_of calendar.now (sheet_day self.now.month self.now.start row column) }
+        ensures { result ≡ cell_of calendar.now self.now.marked (sheet_day self.now.month self.now.start row column) }
     {
         match self.day(row, column) {
             Some(date) => Cell {
                 day: Some(date.day()),
                 closed: !calendar.is_open(date),
+                marked: is_marked(self.marked, date),
             },
             None => Cell {
                 day: None,
                 closed: false,
+                marked: false,
             },
         }
     }
@@ -105,6 +109,16 @@ impl MonthSheet {
         let first = self.month.first_day_of_month();
         let before = first.weekday().days_since(self.start);
         first.moved_by_days(days_on(row, column, before))
+    }
+}
+
+// Whether a day is the one that is marked, if one is.
+fn is_marked(marked: Option<NaiveDate>, date: NaiveDate) -> bool
+    ensures { result ≡ is_marked marked date }
+{
+    match marked {
+        Some(day) => day == date,
+        None => false,
     }
 }
 

@@ -1,0 +1,63 @@
+//! First and last days of weeks, months, quarters and years, and the next day of a weekday.
+
+use crate::each::{Asks, answer_each};
+use crate::prelude::*;
+
+const PERIODS: &[&str] = &["week", "month", "quarter", "year"];
+
+// So many months has each; a week has none.
+const MONTHS: &[u32] = &[0, 1, 3, 12];
+
+pub(crate) fn first() -> CommandRow {
+    row!(
+        "first", &[operand!("PERIOD"; values: PERIODS), DAY_OR_LINES],
+        &[NOW, PARSE, ORDER, FORMAT, LONG, JSON, HELP];
+        help: "print the first day of the week, month, quarter or year",
+        more: "A PERIOD is week, month, quarter or year. A week begins on Monday.\n\
+            With - in place of the day, or none, it answers each line of standard input.",
+        example: "$ dates first quarter 2024-02-29\n2024-01-01"
+    )
+}
+
+pub(crate) fn last() -> CommandRow {
+    CommandRow {
+        name: LAST,
+        help: "print the last day of the week, month, quarter or year",
+        example: "$ dates last month 2024-02-14\n2024-02-29",
+        ..first()
+    }
+}
+
+const LAST: &str = "last";
+
+pub(crate) fn round() -> CommandRow {
+    row!(
+        "round", &[DAY, operand!("WEEKDAY"; values: WEEKDAYS)],
+        &[NOW, PARSE, ORDER, FORMAT, LONG, JSON, HELP];
+        help: "print the first such weekday from a day on",
+        more: "It is the day itself if that is one. With - in place of the day it answers each\n\
+            line of standard input.",
+        example: "$ dates round 2024-02-29 friday\n2024-03-01"
+    )
+}
+
+// The day at an end of the day's period, or its next weekday; or that of each line. The exit status.
+pub(crate) fn answer<'a>(rt: &HostRuntime, asked: &Asked<'a>, none: &mut Reply) -> Answered<'a> {
+    let (first, second) = (asked.word(0), asked.words.operand(1));
+    if asked.command.name == "round" {
+        let asks = Asks::Round(value!(weekday_of(asked.word(1))));
+        return answer_each(rt, asked, *none, asked.word_or_lines(), asks);
+    }
+    let place = PERIODS.iter().position(|period| *period == first.text);
+    let Some(months) = MONTHS.get(place.unwrap_or(MONTHS.len())) else {
+        return Err(Fault::Word(first, Cause::Choice(PERIODS)));
+    };
+    let asks = Asks::End(*months, asked.command.name == LAST);
+    answer_each(
+        rt,
+        asked,
+        *none,
+        second.filter(|word| word.text != "-"),
+        asks,
+    )
+}
