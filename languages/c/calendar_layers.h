@@ -292,9 +292,10 @@ calendar_date_time calendar_parse_date_time(const uint8_t *pattern, size_t lengt
 /* ---- time zones
  *
  * A zone is bytes: those of a TZif file, such as `/usr/share/zoneinfo/Europe/Berlin`, or the text of a POSIX rule, such as
- * `CET-1CEST,M3.5.0,M10.5.0/3`. The program reads the file. Each call reads the bytes and looks at each row: 2 to 4 microseconds for
+ * `CET-1CEST,M3.5.0,M10.5.0/3`. The program reads the file. Each call reads the bytes and looks at each row: 1 to 4 microseconds for
  * the files of Berlin and New York, and half of one for a rule. An offset holds up to calendar_zone_holds_until, so keep it until then. A
- * zone has at most 512 rows, and each file of the database has fewer. Bytes that begin with `TZif` are those of a file.
+ * zone has at most 512 rows, and each file of the database has fewer. Files with leap seconds, those below `right/`, are refused. Bytes that
+ * begin with `TZif` are those of a file.
  *
  * An instant is a number of seconds from 1 January 1970 in UTC. A local second is counted as if the clock were one in UTC. */
 

@@ -38,6 +38,23 @@ export function withoutAnnotation(text) {
   return found ? text.slice(0, found.index) : text;
 }
 
+/**
+ * The name of a zone in the brackets behind a text; undefined if there is none. RangeError for a second name, for a critical annotation that
+ * is not known, and, if the calendar counts, for another one.
+ */
+export function zoneInBrackets(text, brackets, readsCalendar) {
+  const all = brackets === "" ? [] : brackets.slice(1, -1).split("][");
+  const name = all[0]?.includes("=") === false ? all.shift() : undefined;
+  for (const it of all) {
+    const [key, value] = it.replace(/^!/, "").split("=");
+    const isKnown = key === "u-ca" ? !readsCalendar || value.toLowerCase() === ISO8601 : !it.startsWith("!");
+    if (value === undefined || !isKnown) {
+      throw new RangeError(`${JSON.stringify(text)}: [${it}] is not known`);
+    }
+  }
+  return name?.replace(/^!/, "");
+}
+
 /** The annotation that options ask for by `calendarName`: none, unless it is "always" or "critical". */
 export function annotation(options) {
   const { calendarName = "auto" } = optionsOf(options);

@@ -259,8 +259,12 @@ export function openDaysBetween(from, to, calendar) {
   const days = new BigInt64Array(datesOf(from).length);
   const ends = besideOf(from, to);
   callOnOpenDays(closedOf(calendar), days.length, (layers) => layers.calendar_column_open_days_between, readFrom(from), ends, writtenTo(days));
-  // (the least number of 64 bits, which stands for no days, becomes that of 32)
-  return Int32Array.from(days, (it) => Math.max(Number(it), NONE));
+  // (the least number of 64 bits, which stands for no days, becomes that of 32; all others have 32 bits)
+  const [halves, out] = [new Int32Array(days.buffer), new Int32Array(days.length)];
+  for (let place = 0; place < out.length; place += 1) {
+    out[place] = halves[2 * place + 1] === NONE ? NONE : halves[2 * place];
+  }
+  return out;
 }
 
 /** The date that each date goes to by a roll, such as `modifiedFollowing`. */

@@ -1,5 +1,6 @@
 /** Instants: points of the line of time, with no calendar and no zone. */
 
+import { zoneInBrackets } from "./calendar.js";
 import { Duration } from "./duration.js";
 import { FIRST_SECOND, LAST_SECOND } from "./moments.js";
 import { integer, largestUnitOf, optionsOf, refuseRounding } from "./numbers.js";
@@ -15,8 +16,8 @@ const [SECOND, DAY] = [1_000_000_000n, 86_400_000_000_000n];
 /** The first and the last nanosecond since 1970 that the calendar has. */
 const [FIRST, LAST] = [FIRST_SECOND * SECOND, LAST_SECOND * SECOND + SECOND - 1n];
 
-/** A date-time with an offset behind it, and a name of a zone or other annotations, which are not looked at. */
-const TEXT = /^(.*?)(?:([Zz])|([+-])(\d\d)(?::?(\d\d)(?::?(\d\d)(?:[.,](\d{1,9}))?)?)?)((?:\[[^\]]*\])*)$/;
+/** A date-time with an offset behind it, and a name of a zone or other annotations, of which a critical one has to be known. */
+const TEXT = /^([^[]*?)(?:([Zz])|([+-])(\d\d)(?::?(\d\d)(?::?(\d\d)(?:[.,](\d{1,9}))?)?)?)((?:\[[^[\]]*\])*)$/;
 
 /** A date-time that shows a leap second, which an instant has as the second 59. */
 const LEAP_SECOND = /([Tt ]\d\d(?::\d\d:|\d\d))60((?:[.,]\d*)?)$/;
@@ -66,6 +67,7 @@ export class Instant {
     if (offset === undefined || !/[Tt ]/.test(found[1])) {
       throw new RangeError(`${JSON.stringify(item)}: no text of an instant`);
     }
+    zoneInBrackets(item, found[8], false);
     const local = PlainDateTime.from(found[1].replace(LEAP_SECOND, "$159$2"));
     return new Instant(nanosecondsOf(local) - offset);
   }

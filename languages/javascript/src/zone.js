@@ -8,6 +8,17 @@ const NAME = /^[A-Za-z0-9_+-]+(?:\/[A-Za-z0-9_+-]+)*$/;
 /** The last second of 64 bits. */
 const NEVER = 2n ** 63n - 1n;
 
+/** A second since 1970, which is a BigInt of 64 bits. */
+function secondOf(value) {
+  if (typeof value !== "bigint") {
+    throw new TypeError(`${value}: a second is a BigInt`);
+  }
+  if (BigInt.asIntN(64, value) !== value) {
+    throw new RangeError(`${value}: a second has at most 64 bits`);
+  }
+  return value;
+}
+
 /** The bytes of what a zone is made of: the text of a rule, or a file. */
 function bytesOf(source) {
   if (typeof source === "string") {
@@ -67,22 +78,22 @@ export class Zone {
   offsetAt(second) {
     // (an offset that was found holds for a while)
     const { from, until, offset } = this.#held;
-    if (from <= second && second < until) {
+    if (from <= second && second < until && typeof second === "bigint") {
       return offset;
     }
-    const found = zoneOffsetAt(this.#bytes, second);
+    const found = zoneOffsetAt(this.#bytes, secondOf(second));
     this.#held = { from: second, until: zoneHoldsUntil(this.#bytes, second), offset: found };
     return found;
   }
 
   /** The offsets at the instants at which the clock shows a local second, counted from 1970 as if the clock were one in UTC: 0, 1 or 2. */
   offsetsOfLocal(local) {
-    return zoneOffsetsOfLocal(this.#bytes, local);
+    return zoneOffsetsOfLocal(this.#bytes, secondOf(local));
   }
 
   /** The next second after another, a BigInt, at which the offset changes; undefined if there is none. */
   nextChange(second) {
-    const before = zoneOffsetAt(this.#bytes, second);
+    const before = zoneOffsetAt(this.#bytes, secondOf(second));
     let at = zoneHoldsUntil(this.#bytes, second);
     // (a file can have changes to the same offset; a rule changes within a year, or never)
     for (let tries = 0; at < NEVER && tries < 600; tries += 1) {

@@ -1,5 +1,6 @@
 /** Instants in a zone. */
 
+import { zoneInBrackets } from "./calendar.js";
 import { Duration } from "./duration.js";
 import { Instant } from "./instant.js";
 import { largestUnitOf, optionsOf, overflowOf, refuseRounding } from "./numbers.js";
@@ -20,10 +21,7 @@ const UNITS = ["hour", "minute", "second", "millisecond", "microsecond", "nanose
 const PARTS = ["year", "month", "day", "hour", "minute", "second", "millisecond", "microsecond", "nanosecond"];
 
 /** A date-time, and behind its time an offset, or a date alone; and behind both names in brackets, or none of them. */
-const TEXT = /^(?:([^[]*?[Tt ][^[]*?)([Zz]|[+-]\d\d(?::?\d\d(?::?\d\d)?)?)?|([^[Tt ]*))((?:\[[^\]]*\])*)$/;
-
-/** The first name in brackets that is no annotation. */
-const NAMED = /^\[!?([^\]=]*)\]/;
+const TEXT = /^(?:([^[Tt ]*[Tt ][^[Tt ]*?)([Zz]|[+-]\d\d(?::?\d\d(?::?\d\d)?)?)?|([^[Tt ]*))((?:\[[^[\]]*\])*)$/;
 
 /** What becomes of a local time that the clock skips or shows twice, and of an offset that is not the zone's. */
 const CHOICES = { disambiguation: ["compatible", "earlier", "later", "reject"], offset: ["reject", "use", "ignore", "prefer"] };
@@ -170,7 +168,7 @@ export class ZonedDateTime {
     if (local === undefined) {
       throw new RangeError(`${JSON.stringify(text)}: no text of a date-time`);
     }
-    const [, name] = NAMED.exec(names) ?? [];
+    const name = zoneInBrackets(text, names, true);
     if (name !== undefined && name !== zone.name) {
       throw new RangeError(`${JSON.stringify(text)}: its zone is not ${zone}`);
     }

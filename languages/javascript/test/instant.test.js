@@ -32,6 +32,12 @@ test("texts of instants", () => {
   for (const item of [undefined, null, 7, 7n, {}]) {
     assert.throws(() => Instant.from(item), TypeError);
   }
+  assert.equal(`${Instant.from("2024-02-29T12:00Z[!UTC][u-ca=hebrew][foo=bar]")}`, "2024-02-29T12:00:00Z");
+  for (const brackets of ["[!foo=bar]", "[UTC][UTC]", "[foo=bar][UTC]"]) {
+    refused(() => Instant.from(`2024-02-29T12:00Z${brackets}`));
+  }
+  // (such a text is refused at once)
+  refused(() => Instant.from(`${"[".repeat(1e6)}Z`));
 });
 
 test("milliseconds and nanoseconds", () => {

@@ -418,6 +418,11 @@ test("zone_offset_at", () => {
   assert.deepEqual(changes.map((it) => BERLIN.offsetAt(it)), [3_600, 7_200, 7_200, 3_600, 3_600]);
   const file = new Zone(smallFile());
   assert.deepEqual([59n, 60n, 0n].map((it) => file.offsetAt(it)), [0, 3_600, 0]);
+  for (const [second, wrong] of [[2n ** 63n, RangeError], [-(2n ** 70n), RangeError], [5, TypeError], [null, TypeError]]) {
+    for (const call of ["offsetAt", "offsetsOfLocal", "nextChange"]) {
+      assert.throws(() => BERLIN[call](second), wrong);
+    }
+  }
   // (another zone takes the room of the first)
   assert.deepEqual([BERLIN, file, BERLIN].map((it) => it.offsetAt(1_720_000_000n)), [7_200, 3_600, 7_200]);
   // (a text has the offset in whole minutes)
@@ -459,6 +464,12 @@ test("texts of zoned date-times", () => {
   refused(() => read("2024-07-01T12:00[Europe/Paris]"));
   refused(() => read("2024-07-01T12:00+24:00"));
   refused(() => read("noon"));
+  assert.equal(read("2024-07-01T12:00[!Europe/Berlin][u-ca=ISO8601][foo=bar]"), "2024-07-01T12:00:00+02:00[Europe/Berlin]");
+  for (const brackets of ["[u-ca=hebrew]", "[!foo=bar]", "[Europe/Berlin][Europe/Berlin]", "[u-ca=iso8601][Europe/Berlin]", "[]"]) {
+    refused(() => read(`2024-07-01T12:00${brackets}`));
+  }
+  // (such a text is refused at once)
+  refused(() => read(`${"T".repeat(1e6)}[`));
   assert.equal(read("2024-07-01T12:00+01:00", { offset: "use" }), "2024-07-01T13:00:00+02:00[Europe/Berlin]");
   assert.equal(read("2024-07-01T12:00+01:00", { offset: "ignore" }), "2024-07-01T12:00:00+02:00[Europe/Berlin]");
   assert.equal(read("2024-07-01T12:00+01:00", { offset: "prefer" }), "2024-07-01T12:00:00+02:00[Europe/Berlin]");

@@ -11,7 +11,7 @@ use crate::{DateTime, Schedule};
 
 /// A time zone: the bytes of a TZif file, or the text of a POSIX rule, which is parsed.
 ///
-/// It needs the feature `alloc`. With `std`, [`Zone::named`] reads a zone of the machine. Each call reads the bytes, which takes 2 to 4
+/// It needs the feature `alloc`. With `std`, [`Zone::named`] reads a zone of the machine. Each call reads the bytes, which takes 1 to 4
 /// microseconds for the files of Berlin and New York. An offset holds up to [`Zone::holds_until`], so keep it until then.
 ///
 /// ```
