@@ -818,6 +818,13 @@ fn zone_offsets_of_local() {
 }
 
 #[test]
+fn ends_of_local_offsets() {
+    let [fold, only, gap] = [LocalOffsets::Two(7_200, 3_600), LocalOffsets::One(0), LocalOffsets::None];
+    assert_eq!([fold, only, gap].map(|it| it.earliest()), [Some(7_200), Some(0), None]);
+    assert_eq!([fold, only, gap].map(|it| it.latest()), [Some(3_600), Some(0), None]);
+}
+
+#[test]
 fn zone_holds_until() {
     assert_eq!(zone(BERLIN).holds_until(1_711_846_800), 1_729_990_800);
     assert_eq!(zone("HST10").holds_until(0), i64::MAX);
