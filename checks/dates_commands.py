@@ -832,12 +832,19 @@ def refused(asked, words, error):
     return Asked(words, asked.kinds, asked.needed, [], [], 2, error, asked.given)
 
 
+def begins_with_a_name(asked):
+    """Whether a day of a command that has a word of its own behind it begins with a name: a wrong command then takes the day for that word."""
+    return asked.words[:1] in (["diff"], ["roll"]) and any(it[:1].isalpha() and " " in it for it in asked.words[1:])
+
+
 # What may stand behind a fault where a name is like the word.
 NEAR = r"(; did you mean [\w-]+\?)?"
 
 
 def with_wrong_word(chance, asked):
     """A word turned to one that cannot stand there."""
+    if begins_with_a_name(asked):
+        return None
     place = chance.randrange(len(asked.words))
     kind = asked.kinds[place]
     if kind in ("-", "file", "--holidays"):
@@ -857,6 +864,8 @@ def with_wrong_word(chance, asked):
 
 def with_words_missing(chance, asked):
     """What has to follow cut off: a word that is needed, or an option's value."""
+    if begins_with_a_name(asked):
+        return None
     places = [it for it, kind in enumerate(asked.kinds) if it and (it < asked.needed or kind.startswith("--"))]
     if not places:
         return None
@@ -875,6 +884,8 @@ def with_words_missing(chance, asked):
 
 def with_a_word_more(chance, asked):
     """A word too many at the end."""
+    if begins_with_a_name(asked):
+        return None
     name, place = asked.words[0] if asked.words else "", len(asked.words) + 1
     bad = chance.choice(("x", "soon", "é"))
     if name in ("add", "diff") and "move" not in asked.kinds + ["move"] or not name or name == "-":

@@ -66,7 +66,7 @@ ABSENT = {
     "files and modules of chrono": "naive internals ",
     "words of CMake, of the shell and of a line": "find_package cc load_extension pkg-config lcalendar ldconfig LD_LIBRARY_PATH gc-sections",
     "words of the program dates": "MONTH mo us-federal modified-following modified-preceding",
-    "texts and digits of a text": "CEST P0D PT59M59 PT90S PT5400S PT0S",
+    "texts and digits of a text": "CEST P0D PT59M59 PT90S PT5400S PT0S P1Y2M h30min",
     "made by tools/dist": "SHA256SUMS",
     "in the place of a name, or a part of names": "LAW ARGS condition with_ _milli _micro _nano",
 }
