@@ -25,9 +25,7 @@ LEMMA = re.compile(r"^(?:pub )?([^\s:(){}]+) : ([({].* : .*(?:\n    .*)*)", re.M
 BINDER = re.compile(r"[({]([^(){}:]+) : |λ \(?([^\s().:]+)")
 WORD = re.compile(r"[\w'_◌-]+|\S")
 
-# Steps of readers that cut a text into pieces, or know the order of years: each reader has its own, by the name that it has in the second.
-TWICE = {"pieces_more", "pieces_none", "size_more", "cut_size", "cut_whole", "nothing_behind", "earlier_date", "position_is", "before_sep",
-         "after_sep", "sep_stands", "none_is", "pieces_end"}
+TWICE = set()
 
 
 def read_files():

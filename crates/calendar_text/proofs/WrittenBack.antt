@@ -1,14 +1,15 @@
 -- What is written of a calendar is read as the same parts.
-use Rattle.std.proofs.Common.{◌≡◌, ℕ, ◌+◌, ◌==◌, ◌<◌, Bool, true, false, inl, inr, List, [], ◌∷◌, ◌++◌, length, take, drop, map, Option, Some, None, Result, Ok, Err, refl, sym, ap, ap₂, ◌∙◌, arith, append_assoc, append-nil, eq-eqb, ne_eqb}
-use Rattle.std.specs.Prelude.{⊤, IfSome, not, ◌&&◌, codes, if◌then◌else◌, is_some, find}
-use Rattle.std.specs.List.{after_first, before_first, filter_map, flat_map, list_all, prefix_len}
+use Rattle.std.proofs.Common.{◌≡◌, ℕ, ◌+◌, ◌==◌, Bool, true, false, inl, List, [], ◌∷◌, ◌++◌, length, map, Option, Some, None, Result, Ok, Err, refl, sym, ap, ap₂, ◌∙◌, arith, append_assoc, append-nil, eq-eqb, ne_eqb}
+use Rattle.std.specs.Prelude.{⊤, IfSome, codes, if◌then◌else◌, find}
+use Rattle.std.specs.List.{after_first, before_first, filter_map, prefix_len}
 use Rattle.std.specs.Option.{option_and_then, option_map}
 use Rattle.std.specs.Str.{str_eq_ignore_ascii_case}
-use Rattle.std.proofs.lemmas.Bool.{and_from, and_parts, false≢true}
+use Rattle.std.proofs.lemmas.Bool.{and_from, false≢true}
 use Rattle.std.proofs.lemmas.List.{length-append}
 use Rattle.std.proofs.Math.Path.{subst}
 use Rattle.chrono_text.specs.Lists.{pieces, stands_in}
-use Rattle.chrono_text.proofs.ListLemmas.{lacks}
+use Rattle.chrono_text.proofs.ListLemmas.{lacks, pieces_end}
+use Rattle.chrono_text.proofs.PieceLemmas.{after_sep, before_sep, sep_stands}
 use Rattle.calendar_text.specs.CalendarTexts.{CalendarParts, HasParts, IsCalendarText, content_lines, first_line, line_times, lines_read, listed_times, start_read, started, times_of}
 use Rattle.calendar_text.specs.CalendarTimes.{CanBeReadBack, calendar_time_text, time_of}
 use Rattle.calendar_text.specs.Lines.{checked_time, has_class, head_of, is_line_of, is_local, is_name, is_of_class, kinds_of, line_value, no_parameters, nothing_seen, parameters_read, property_key, property_name, property_of, same_zone, time_fault, time_read, unless_fault, with_line, with_list, with_parameter, with_property, with_rule, with_start, with_time, with_type, with_zone, zone_of, zone_of_parameters, zones_agree}
@@ -26,7 +27,7 @@ use Rattle.calendar_text.specs.declared.property.Property.TheVariants.{Start, Ru
 use Rattle.calendar_text.specs.Folds.{folded, may_fold, may_fold_behind, unfolded}
 use Rattle.calendar_text.proofs.FoldBack.{folded_back}
 use Rattle.calendar_text.proofs.TimesBack.{time_back}
-use Rattle.calendar_text.proofs.WrittenLines.{AreLines, ZoneFits, body_line, lines_both, lines_fold, lines_lack, rule_lines, times_lines, after_is, before_is, bodies, body, body_lacks, class_lacks, head_is, head_lacks, head_text, key_lacks_mark, lacks_both, lines_are, lists_of, name_is, one_piece, pieces_terminated, rule_bodies, stands, suffix_of, terminated, time_lacks, value_is}
+use Rattle.calendar_text.proofs.WrittenLines.{AreLines, ZoneFits, body_line, lines_both, lines_fold, lines_lack, rule_lines, times_lines, bodies, body, class_lacks, head_is, head_lacks, head_text, key_lacks_mark, lacks_both, lines_are, lists_of, name_is, pieces_terminated, rule_bodies, time_lacks, value_is}
 
 -- ---- parameters
 
@@ -41,17 +42,17 @@ unfolding parameters_read placed_through
 params_behind key x q a b is =
     let head = key ++ 59 ∷ x in
     let front = length (before_first (λ x. x == 59) head) + 1 in
-    ap (λ (t : Bool). if t then behind front (placed_through with_parameter no_parameters 0 (pieces 59 (after_first (λ x. x == 59) head))) else Ok no_parameters) (stands 59 key x a)
-    ∙ ap (λ v. behind front (placed_through with_parameter no_parameters 0 (pieces 59 v))) (after_is 59 key x a)
-    ∙ ap (λ ps. behind front (placed_through with_parameter no_parameters 0 ps)) (one_piece 59 x b)
+    ap (λ (t : Bool). if t then behind front (placed_through with_parameter no_parameters 0 (pieces 59 (after_first (λ x. x == 59) head))) else Ok no_parameters) (sep_stands 59 key x a)
+    ∙ ap (λ v. behind front (placed_through with_parameter no_parameters 0 (pieces 59 v))) (after_sep 59 key x a)
+    ∙ ap (λ ps. behind front (placed_through with_parameter no_parameters 0 ps)) (pieces_end 59 x b)
     ∙ ap (λ r. behind front (and_then_read (behind 0 r) (λ t. Ok t))) is
 
 zone_behind : (key x : List ℕ) → lacks 59 key ≡ true → lacks 59 x ≡ true → zone_of (key ++ 59 ∷ x) ≡ zone_of_parameters (x ∷ [])
 unfolding zone_of
 zone_behind key x a b =
     let head = key ++ 59 ∷ x in
-    ap (λ (t : Bool). if t then zone_of_parameters (pieces 59 (after_first (λ x. x == 59) head)) else None) (stands 59 key x a)
-    ∙ ap (λ v. zone_of_parameters (pieces 59 v)) (after_is 59 key x a) ∙ ap zone_of_parameters (one_piece 59 x b)
+    ap (λ (t : Bool). if t then zone_of_parameters (pieces 59 (after_first (λ x. x == 59) head)) else None) (sep_stands 59 key x a)
+    ∙ ap (λ v. zone_of_parameters (pieces 59 v)) (after_sep 59 key x a) ∙ ap zone_of_parameters (pieces_end 59 x b)
 
 plain_head : (p : Property) → parameters_read (property_key p ++ []) ≡ Ok no_parameters
 unfolding parameters_read property_key
@@ -141,7 +142,7 @@ line_step start s p zone t fits =
     let none : Result Seen CalendarTextError = Err (calendar_error_at (length line) NoColon) in
     let read = with_property start s (head_of line) (line_value line) (property_of (property_name line)) in
     ap (λ (b : Bool). if b then Ok s else if stands_in 58 line then read else none) (not_empty head 58 text)
-    ∙ ap (λ (b : Bool). if b then read else none) (stands 58 head text (head_lacks p zone t fits))
+    ∙ ap (λ (b : Bool). if b then read else none) (sep_stands 58 head text (head_lacks p zone t fits))
     ∙ ap (λ h. with_property start s h (line_value line) (property_of (before_first (λ x. x == 59) h))) (head_is p zone t fits)
     ∙ ap (λ v. with_property start s head v (property_of (before_first (λ x. x == 59) head))) (value_is p zone t fits)
     ∙ ap (λ n. with_property start s head text (property_of n)) (name_is p zone t) ∙ ap (with_property start s head text) (property_is p)
@@ -196,7 +197,7 @@ list_read p s zone start t fits is back goes =
     let same = zones_agree line head in
     let front = length head + 1 in
     ap (λ r. and_then_read r (λ q. and_then_read (behind front (placed_through (with_time (kinds_of q same)) false 0 (pieces 44 text))) (λ b. Ok s))) (params_are p zone t fits)
-    ∙ ap (λ ps. and_then_read (behind front (placed_through (with_time (kinds_of (params_of zone t) same)) false 0 ps)) (λ b. Ok s)) (one_piece 44 text (time_lacks 44 t (inl (omega arith)) refl refl back))
+    ∙ ap (λ ps. and_then_read (behind front (placed_through (with_time (kinds_of (params_of zone t) same)) false 0 ps)) (λ b. Ok s)) (pieces_end 44 text (time_lacks 44 t (inl (omega arith)) refl refl back))
     ∙ ap (λ r. and_then_read (behind front (and_then_read (behind 0 (and_then_read r (λ u. Ok true))) (λ b. Ok b))) (λ b. Ok s)) (time_ok zone t same back (agrees p zone start t fits is goes))
 
 -- a property of a list
@@ -237,9 +238,9 @@ rule_ok line rule t fits =
     let none : Result Seen CalendarTextError = Err (calendar_error_at (length text) NoColon) in
     let read = with_property line s (head_of text) (line_value text) (property_of (property_name text)) in
     ap (λ (b : Bool). if b then Ok s else if stands_in 58 text then read else none) (not_empty (codes "RRULE") 58 rule)
-    ∙ ap (λ (b : Bool). if b then read else none) (stands 58 (codes "RRULE") rule refl)
-    ∙ ap (λ h. with_property line s h (line_value text) (property_of (before_first (λ x. x == 59) h))) (before_is 58 (codes "RRULE") rule refl)
-    ∙ ap (λ v. with_rule s (codes "RRULE") v) (after_is 58 (codes "RRULE") rule refl)
+    ∙ ap (λ (b : Bool). if b then read else none) (sep_stands 58 (codes "RRULE") rule refl)
+    ∙ ap (λ h. with_property line s h (line_value text) (property_of (before_first (λ x. x == 59) h))) (before_sep 58 (codes "RRULE") rule refl)
+    ∙ ap (λ v. with_rule s (codes "RRULE") v) (after_sep 58 (codes "RRULE") rule refl)
     ∙ ap (λ (b : Bool). if b then Ok with else Err (calendar_error_at (length (codes "RRULE") + 1 + prefix_len (has_class OfRule) rule) NotARule)) fits
 
 lists_ok : (c : CalendarParts) (s : Seen) → ZoneFits c.zone → AreWritableParts c → (place : ℕ) → placed_through (with_line (body Start c.zone c.start)) s place (lists_of c ++ [] ∷ []) ≡ Ok s
@@ -308,7 +309,7 @@ none_found q p zone (t ∷ ts) rest fits other =
     found q (body p zone t) (map (body p zone) ts ++ rest) false (is_line q p zone t fits ∙ other) ∙ none_found q p zone ts rest fits other
 
 rule_is_line : (q : Property) (rule : List ℕ) → is_line_of q (codes "RRULE:" ++ rule) ≡ is_name q (codes "RRULE")
-rule_is_line q rule = ap (λ h. is_name q (before_first (λ x. x == 59) h)) (before_is 58 (codes "RRULE") rule refl)
+rule_is_line q rule = ap (λ h. is_name q (before_first (λ x. x == 59) h)) (before_sep 58 (codes "RRULE") rule refl)
 
 rule_found : (c : CalendarParts) (rule : Option (List ℕ)) → ZoneFits c.zone → option_map line_value (find (is_line_of Rule) ((rule_bodies rule ++ lists_of c) ++ [] ∷ [])) ≡ rule
 unfolding property_key
@@ -319,7 +320,7 @@ rule_found c None fits =
     ∙ ap (option_map line_value) (none_found Rule Dates c.zone c.dates (exceptions ++ [] ∷ []) fits refl ∙ none_found Rule Exceptions c.zone c.exceptions ([] ∷ []) fits refl)
 rule_found c (Some rule) fits =
     ap (option_map line_value) (found Rule (codes "RRULE:" ++ rule) (lists_of c ++ [] ∷ []) true (rule_is_line Rule rule))
-    ∙ ap Some (after_is 58 (codes "RRULE") rule refl)
+    ∙ ap Some (after_sep 58 (codes "RRULE") rule refl)
 
 -- the times of a list
 line_none : (q p : Property) (zone : Option (List ℕ)) (t : CalendarTime) → ZoneFits zone → is_name q (property_key p) ≡ false → line_times q (body p zone t) ≡ []
@@ -329,7 +330,7 @@ line_one : (q p : Property) (zone : Option (List ℕ)) (t : CalendarTime) → Zo
 line_one q p zone t fits is same =
     let text = calendar_time_text t in
     ap (λ (b : Bool). if b then listed_times (line_value (body p zone t)) else []) (is_line q p zone t fits ∙ same)
-    ∙ ap listed_times (value_is p zone t fits) ∙ ap (filter_map time_of) (one_piece 44 text (time_lacks 44 t (inl (omega arith)) refl refl is))
+    ∙ ap listed_times (value_is p zone t fits) ∙ ap (filter_map time_of) (pieces_end 44 text (time_lacks 44 t (inl (omega arith)) refl refl is))
     ∙ ap (λ o. filter_map (λ (x : Option CalendarTime). x) (o ∷ [])) (time_back t is)
 
 times_none : (q p : Property) (zone : Option (List ℕ)) (ts : List CalendarTime) (rest : List (List ℕ)) → ZoneFits zone → is_name q (property_key p) ≡ false

@@ -1,22 +1,21 @@
 -- Lines that are written, as they are read.
-use Rattle.std.proofs.Common.{◌≡◌, ℕ, ◌+◌, ◌-◌, ◌/◌, ◌%◌, ◌*◌, ◌<◌, ◌≤◌, ◌==◌, Bool, true, false, inl, inr, List, [], ◌∷◌, ◌++◌, length, take, drop, suc, map, Option, Some, None, Result, Ok, Err, ℤ, refl, sym, ap, ap₂, ◌∙◌, arith, append_assoc, append-nil, eq-eqb, ne_eqb}
-use Rattle.std.specs.Prelude.{◌⊎◌, ⊤, IfSome, not, ◌&&◌, ◌||◌, codes, if◌then◌else◌, cond}
-use Rattle.std.specs.List.{after_first, before_first, list_all, list_any, position_or_len, prefix_len}
-use Rattle.std.proofs.Math.Seq.{take-append_seam, take-length}
+use Rattle.std.proofs.Common.{◌≡◌, ℕ, ◌+◌, ◌-◌, ◌/◌, ◌%◌, ◌<◌, ◌≤◌, ◌==◌, Bool, true, false, inl, inr, List, [], ◌∷◌, ◌++◌, length, take, drop, map, Option, Some, None, ℤ, refl, sym, ap, ap₂, ◌∙◌, arith, append_assoc, append-nil, eq-eqb, ne_eqb}
+use Rattle.std.specs.Prelude.{◌⊎◌, ⊤, IfSome, not, ◌&&◌, codes, cond}
+use Rattle.std.specs.List.{before_first, list_all, position_or_len, prefix_len}
+use Rattle.std.proofs.Math.Seq.{take-length}
 use Rattle.std.proofs.Math.Bool.{and-false}
-use Rattle.std.proofs.Math.Path.{subst}
-use Rattle.std.proofs.lemmas.Bool.{and_from, and_parts, eqb-true, false≢true, lt-ltb, not-true}
-use Rattle.std.proofs.lemmas.List.{length-append}
-use Rattle.chrono_text.specs.Lists.{is_blank, pieces, stands_in}
+use Rattle.std.proofs.lemmas.Bool.{and_from, and_parts, eqb-true, false≢true, not-true}
+use Rattle.chrono_text.specs.Lists.{is_blank, pieces}
 use Rattle.calendar_text.specs.Folds.{may_fold_behind, may_stand_behind}
 use Rattle.chrono_text.specs.Text.{two_digits}
-use Rattle.chrono_text.proofs.ListLemmas.{lacks, split_at, split_none}
+use Rattle.chrono_text.proofs.ListLemmas.{lacks, none_is, split_at}
+use Rattle.chrono_text.proofs.PieceLemmas.{after_sep, before_sep}
 use Rattle.chrono_datetime.specs.Days.{day_of, month_of, year_of}
 use Rattle.chrono_datetime.specs.Time.{TimeOfDay, hour_of, minute_of, second_of}
 use Rattle.chrono_datetime.specs.Moment.{Moment}
 use Rattle.chrono_rules.specs.WrittenRules.{basic_date_text}
 use Rattle.chrono_rules.proofs.DayTexts.{name_small, year_digits}
-use Rattle.calendar_text.specs.CalendarTimes.{CanBeReadBack, HasFourDigits, IsWritableMoment, basic_clock_text, basic_moment_text, calendar_time_text, time_of}
+use Rattle.calendar_text.specs.CalendarTimes.{CanBeReadBack, HasFourDigits, IsWritableMoment, basic_clock_text, basic_moment_text, calendar_time_text}
 use Rattle.calendar_text.specs.Lines.{has_class, head_of, is_of_class, line_value, property_key}
 use Rattle.calendar_text.specs.CalendarTexts.{CalendarParts}
 use Rattle.calendar_text.specs.WrittenCalendars.{AreWritable, calendar_lines, parameter_text, rule_line, time_line, times_text, zone_in_line}
@@ -34,29 +33,6 @@ lacks_both s [] b h k = k
 lacks_both s (x ∷ xs) b h k =
     let parts = and_parts (not (x == s)) (lacks s xs) h in
     and_from (not (x == s)) (lacks s (xs ++ b)) parts.0 (lacks_both s xs b parts.1 k)
-
--- the first such byte stands behind a text that lacks it
-pub place_behind : (s : ℕ) (a b : List ℕ) → lacks s a ≡ true → position_or_len (λ x. x == s) (a ++ s ∷ b) ≡ length a
-place_behind s [] b h = ap (λ (t : Bool). cond (not t) (1 + prefix_len (λ x. not (x == s)) b) 0) (eq-eqb s s refl)
-place_behind s (x ∷ xs) b h =
-    let parts = and_parts (not (x == s)) (lacks s xs) h in
-    ap (λ (t : Bool). cond t (1 + prefix_len (λ x. not (x == s)) (xs ++ s ∷ b)) 0) parts.0 ∙ ap (λ n. 1 + n) (place_behind s xs b parts.1) ∙ omega arith
-
-pub before_is : (s : ℕ) (a b : List ℕ) → lacks s a ≡ true → before_first (λ x. x == s) (a ++ s ∷ b) ≡ a
-before_is s a b h = ap (λ n. take n (a ++ s ∷ b)) (place_behind s a b h) ∙ take-append_seam a (s ∷ b)
-
-drop_behind : (a : List ℕ) (s : ℕ) (b : List ℕ) → drop (length a + 1) (a ++ s ∷ b) ≡ b
-drop_behind [] s b = refl
-drop_behind (x ∷ xs) s b =
-    let size : length (x ∷ xs) + 1 ≡ suc (length xs + 1) = omega arith in
-    ap (λ n. drop n (x ∷ (xs ++ s ∷ b))) size ∙ drop_behind xs s b
-
-pub after_is : (s : ℕ) (a b : List ℕ) → lacks s a ≡ true → after_first (λ x. x == s) (a ++ s ∷ b) ≡ b
-after_is s a b h = ap (λ n. drop (n + 1) (a ++ s ∷ b)) (place_behind s a b h) ∙ drop_behind a s b
-
-pub stands : (s : ℕ) (a b : List ℕ) → lacks s a ≡ true → stands_in s (a ++ s ∷ b) ≡ true
-stands s a b h =
-    lt-ltb (position_or_len (λ x. x == s) (a ++ s ∷ b)) (length (a ++ s ∷ b)) (omega (arith, place_behind s a b h, length-append a (s ∷ b)))
 
 -- ---- digits and bytes of a class
 
@@ -120,15 +96,6 @@ class_lacks class s text out is =
     class_lacks_all class s text out (eqb-true _ _ parts.1)
 
 -- ---- lines, each with a line feed behind it
-
-none_is : (s : ℕ) (text : List ℕ) → lacks s text ≡ true → list_any (λ b. b == s) text ≡ false
-none_is s [] lack = refl
-none_is s (b ∷ bs) lack =
-    let parts = and_parts (not (b == s)) (lacks s bs) lack in
-    ap₂ (λ x y. x || y) (not-true (b == s) parts.0) (none_is s bs parts.1)
-
-pub one_piece : (s : ℕ) (text : List ℕ) → lacks s text ≡ true → pieces s text ≡ text ∷ []
-one_piece s text lack = split_none (λ b. b == s) text (none_is s text lack)
 
 abbrev pub terminated : List (List ℕ) → List ℕ
 terminated [] = []
@@ -249,10 +216,10 @@ body_lacks p zone t fits is =
     (time_lacks 10 t (inl (omega arith)) refl refl is)
 
 pub head_is : (p : Property) (zone : Option (List ℕ)) (t : CalendarTime) → ZoneFits zone → head_of (body p zone t) ≡ head_text p zone t
-head_is p zone t fits = before_is 58 (head_text p zone t) (calendar_time_text t) (head_lacks p zone t fits)
+head_is p zone t fits = before_sep 58 (head_text p zone t) (calendar_time_text t) (head_lacks p zone t fits)
 
 pub value_is : (p : Property) (zone : Option (List ℕ)) (t : CalendarTime) → ZoneFits zone → line_value (body p zone t) ≡ calendar_time_text t
-value_is p zone t fits = after_is 58 (head_text p zone t) (calendar_time_text t) (head_lacks p zone t fits)
+value_is p zone t fits = after_sep 58 (head_text p zone t) (calendar_time_text t) (head_lacks p zone t fits)
 
 -- a head whose parameters stand behind a semicolon, or that has none
 none_before : (s : ℕ) (a : List ℕ) → lacks s a ≡ true → position_or_len (λ x. x == s) a ≡ length a
@@ -265,9 +232,9 @@ whole_name : (key : List ℕ) → lacks 59 key ≡ true → before_first (λ x. 
 whole_name key lack = ap (before_first (λ x. x == 59)) (append-nil key) ∙ ap (λ n. take n key) (none_before 59 key lack) ∙ take-length key
 
 pub name_is : (p : Property) (zone : Option (List ℕ)) (t : CalendarTime) → before_first (λ x. x == 59) (head_text p zone t) ≡ property_key p
-name_is p zone (Date d) = before_is 59 (property_key p) (codes "VALUE=DATE") (key_lacks_mark p)
+name_is p zone (Date d) = before_sep 59 (property_key p) (codes "VALUE=DATE") (key_lacks_mark p)
 name_is p None (Local m) = whole_name (property_key p) (key_lacks_mark p)
-name_is p (Some name) (Local m) = before_is 59 (property_key p) (codes "TZID=" ++ name) (key_lacks_mark p)
+name_is p (Some name) (Local m) = before_sep 59 (property_key p) (codes "TZID=" ++ name) (key_lacks_mark p)
 name_is p zone (Utc m) = whole_name (property_key p) (key_lacks_mark p)
 
 -- ---- a text that may be folded

@@ -13,6 +13,7 @@ pub use Rattle.chrono_naive.proofs.IsoWeeks
 pub use Rattle.chrono_naive.proofs.IsoMondays
 pub use Rattle.chrono_naive.proofs.MonthDays
 pub use Rattle.chrono_naive.proofs.MonthOrder
+pub use Rattle.chrono_naive.proofs.Order
 pub use Rattle.chrono_naive.proofs.Rising
 pub use Rattle.chrono_naive.proofs.Cycles
 pub use Rattle.chrono_naive.proofs.FirstWhere

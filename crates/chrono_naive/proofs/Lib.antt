@@ -7,6 +7,7 @@ pub use Rattle.chrono_calendar.proofs.IsoWeeks
 pub use Rattle.chrono_calendar.proofs.IsoMondays
 pub use Rattle.chrono_calendar.proofs.MonthDays
 pub use Rattle.chrono_calendar.proofs.MonthOrder
+pub use Rattle.chrono_calendar.proofs.Order
 pub use Rattle.chrono_calendar.proofs.Rising
 pub use Rattle.chrono_calendar.proofs.Cycles
 pub use Rattle.chrono_calendar.proofs.FirstWhere

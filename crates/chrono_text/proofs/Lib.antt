@@ -6,6 +6,7 @@ pub mod FractionLemmas
 pub mod Types
 pub mod NumberLemmas
 pub mod ListLemmas
+pub mod PieceLemmas
 pub mod NaturalLemmas
 pub mod Decimals
 pub mod AnswerLemmas

@@ -63,7 +63,7 @@ split_at p (first ∷ text) b rest none is =
 abbrev pub lacks : ℕ → List ℕ → Bool
 lacks separator text = list_all (λ b. not (b == separator)) text
 
-none_is : (separator : ℕ) (text : List ℕ) → lacks separator text ≡ true → list_any (λ b. b == separator) text ≡ false
+pub none_is : (separator : ℕ) (text : List ℕ) → lacks separator text ≡ true → list_any (λ b. b == separator) text ≡ false
 none_is separator [] lack = refl
 none_is separator (b ∷ bs) lack =
     let parts = and_parts (not (b == separator)) (lacks separator bs) lack in
@@ -72,7 +72,7 @@ none_is separator (b ∷ bs) lack =
 pieces_at : (separator : ℕ) (text rest : List ℕ) → lacks separator text ≡ true → pieces separator (text ++ separator ∷ rest) ≡ text ∷ pieces separator rest
 pieces_at separator text rest lack = split_at (λ b. b == separator) text separator rest (none_is separator text lack) (eq-eqb separator separator refl)
 
-pieces_end : (separator : ℕ) (text : List ℕ) → lacks separator text ≡ true → pieces separator text ≡ text ∷ []
+pub pieces_end : (separator : ℕ) (text : List ℕ) → lacks separator text ≡ true → pieces separator text ≡ text ∷ []
 pieces_end separator text lack = split_none (λ b. b == separator) text (none_is separator text lack)
 
 pub pieces_joined : (separator : ℕ) (texts : List (List ℕ)) → (texts ≡ [] → ⊥) → list_all (lacks separator) texts ≡ true → pieces separator (join_with_byte separator texts) ≡ texts

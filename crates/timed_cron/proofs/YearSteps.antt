@@ -7,6 +7,7 @@ use Rattle.std.proofs.Math.Path.{subst}
 use Rattle.chrono_datetime.specs.Days.{days_after_zero, days_before_year, ordinal_name_of, ordinal_of, year_of}
 use Rattle.chrono_datetime.specs.Moment.{Moment, IsBefore, IsMoment, moment}
 use Rattle.chrono_datetime.proofs.Signed.{signed}
+use Rattle.chrono_datetime.proofs.Order.{earlier_year}
 use Rattle.chrono_datetime.proofs.Rising.{year_of-rises}
 use Rattle.chrono_datetime.proofs.Names.{ordinal_name_of-number}
 use Rattle.chrono_datetime.proofs.NamedDates.{number-ordinal_name}
@@ -131,9 +132,6 @@ next_at_start s years start year e = record {
   low = omega (arith, signed, e);
 }
 
-earlier_date : (a b : ℤ) → year_of a <ℤ year_of b → a <ℤ b
-earlier_date a b less = by_lt_z a b (λ lt. lt) (λ ge. absurd (omega (arith, signed, less, year_of-rises b a ge)))
-
 -- what was found by the fields alone
 pub record IsFoundNext (s : TimedSchedule) (years : YearSet) (from next : Moment) : Type 0 where
   pub at : IsMoment next
@@ -164,7 +162,7 @@ next_goes_on s years start from next on year past listed so_far found e more non
           by_lt_z (year_of q.date) listed
           (λ lt. absurd (both_ways (has_year years (year_of q.date)) (none (year_of q.date) (omega (arith, signed, e, beyond)) lt) due.year))
           (λ ge. all q at ge);
-      behind = λ q at later. inl (earlier_date start.date q.date (omega (arith, signed, after q at later, e, more, order, low)));
+      behind = λ q at later. inl (earlier_year start.date q.date (omega (arith, signed, after q at later, e, more, order, low)));
       in_order = after;
       low = omega (arith, signed, e, order, low, more);
     }
@@ -217,7 +215,7 @@ prev_goes_on s years start from previous on year past listed so_far found e less
           by_lt_z listed (year_of q.date)
           (λ lt. absurd (both_ways (has_year years (year_of q.date)) (none (year_of q.date) lt (omega (arith, signed, e, beyond))) due.year))
           (λ ge. all q at ge);
-      before = λ q at earlier. inl (earlier_date q.date start.date (omega (arith, signed, before q at earlier, e, less, order, high)));
+      before = λ q at earlier. inl (earlier_year q.date start.date (omega (arith, signed, before q at earlier, e, less, order, high)));
       in_order = before;
       high = omega (arith, signed, e, order, high, less);
     }

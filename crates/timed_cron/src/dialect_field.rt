@@ -230,7 +230,7 @@ fn is_star(text: &[u8]) -> bool
 }
 
 // What stands before the first of these bytes, and what stands behind it; None if there is none.
-#[tactic(auto, using(crate::proofs::PieceLemmas::cut_whole))]
+#[tactic(auto, using(chrono_text::proofs::PieceLemmas::cut_whole))]
 pub(crate) fn cut_at(text: &[u8], byte: u8) -> Option<(&[u8], &[u8])>
     ensures front { IfSome result (λ parts. parts.0.now ≡ before_byte byte text.now) }
     ensures back { IfSome result (λ parts. parts.1.now ≡ behind_byte byte text.now) }

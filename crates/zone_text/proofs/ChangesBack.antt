@@ -18,7 +18,8 @@ use Rattle.zone_text.specs.ChangeTexts.{AreChangesText, IsChangeText, day_part, 
 use Rattle.zone_text.specs.HourTexts.{count_up_to, signed_seconds}
 use Rattle.zone_text.specs.NameTexts.{is_of_offset}
 use Rattle.zone_text.specs.WrittenTexts.{change_text, change_time_text, hour_text, rule_day_text}
-use Rattle.zone_text.proofs.CutTexts.{after_sep, before_sep, is_other, others_lack, sep_lacks, sep_stands}
+use Rattle.chrono_text.proofs.PieceLemmas.{after_sep, before_sep, sep_stands}
+use Rattle.zone_text.proofs.CutTexts.{is_other, others_lack, sep_lacks}
 use Rattle.zone_text.proofs.HoursBack.{hour_of_offset, hours_back}
 use Rattle.zone_text.proofs.NumbersBack.{count_up_to_back, decimal_digits, decimal_some}
 

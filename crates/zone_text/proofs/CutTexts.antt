@@ -1,8 +1,8 @@
 -- Where texts are cut that are put together.
-use Rattle.std.proofs.Common.{◌≡◌, ◌==◌, ℕ, suc, ◌+◌, Bool, true, false, cond, not, ◌&&◌, List, [], ◌∷◌, ◌++◌, length, take, drop, refl, sym, ap, ◌∙◌, append_assoc, append-nil, length-append, arith}
-use Rattle.std.specs.List.{after_first, before_first, list_all, position_or_len, prefix_len}
+use Rattle.std.proofs.Common.{◌≡◌, ◌==◌, ℕ, suc, ◌+◌, Bool, true, false, cond, not, ◌&&◌, List, [], ◌∷◌, ◌++◌, length, take, drop, refl, sym, ap, ◌∙◌, append-nil, arith}
+use Rattle.std.specs.List.{list_all, position_or_len, prefix_len}
 use Rattle.std.proofs.Math.Seq.{drop-append_seam, take-append_seam}
-use Rattle.std.proofs.lemmas.Bool.{and_from, eq-eqb, le-ltb, lt-ltb, ne_eqb, not_from_false}
+use Rattle.std.proofs.lemmas.Bool.{and_from, le-ltb, ne_eqb, not_from_false}
 use Rattle.std.proofs.lemmas.Bool.Decides.{nat_tests}
 use Rattle.chrono_text.specs.Lists.{stands_in}
 use Rattle.chrono_text.proofs.ListLemmas.{lacks, prefix_ends, weaker}
@@ -54,29 +54,9 @@ pub all_or_fewer : (p : ℕ → Bool) (text : List ℕ) → (prefix_len p text =
 all_or_fewer p [] = refl
 all_or_fewer p (b ∷ bs) = one_more (p b) (prefix_len p bs) (length bs) (list_all p bs) (all_or_fewer p bs)
 
--- ---- what stands before a separator, and what stands behind it
-
-position_is : (sep : ℕ) (front rest : List ℕ) → lacks sep front ≡ true → position_or_len (λ x. x == sep) (front ++ sep ∷ rest) ≡ length front
-position_is sep front rest none = prefix_is (λ x. not (x == sep)) front (sep ∷ rest) none (ap not (eq-eqb sep sep refl))
-
-pub sep_stands : (sep : ℕ) (front rest : List ℕ) → lacks sep front ≡ true → stands_in sep (front ++ sep ∷ rest) ≡ true
-sep_stands sep front rest none =
-    lt-ltb (position_or_len (λ x. x == sep) (front ++ sep ∷ rest)) (length (front ++ sep ∷ rest))
-    (omega (arith, position_is sep front rest none, length-append front (sep ∷ rest)))
-
+-- no separator stands in a text that lacks it
 pub sep_lacks : (sep : ℕ) (text : List ℕ) → lacks sep text ≡ true → stands_in sep text ≡ false
 sep_lacks sep text none =
     let same : position_or_len (λ x. x == sep) text ≡ length text =
     ap (λ l. position_or_len (λ x. x == sep) l) (sym (append-nil text)) ∙ prefix_is (λ x. not (x == sep)) text [] none tt in
     le-ltb (position_or_len (λ x. x == sep) text) (length text) (omega (arith, same))
-
-pub before_sep : (sep : ℕ) (front rest : List ℕ) → lacks sep front ≡ true → before_first (λ x. x == sep) (front ++ sep ∷ rest) ≡ front
-before_sep sep front rest none = ap (λ n. take n (front ++ sep ∷ rest)) (position_is sep front rest none) ∙ take-append_seam front (sep ∷ rest)
-
-pub after_sep : (sep : ℕ) (front rest : List ℕ) → lacks sep front ≡ true → after_first (λ x. x == sep) (front ++ sep ∷ rest) ≡ rest
-after_sep sep front rest none =
-    let one : position_or_len (λ x. x == sep) (front ++ sep ∷ rest) + 1 ≡ length (front ++ sep ∷ []) =
-    omega (arith, position_is sep front rest none, length-append front (sep ∷ [])) in
-    ap (λ n. drop n (front ++ sep ∷ rest)) one
-    ∙ ap (λ l. drop (length (front ++ sep ∷ [])) l) (sym (append_assoc front (sep ∷ []) rest))
-    ∙ drop-append_seam (front ++ sep ∷ []) rest

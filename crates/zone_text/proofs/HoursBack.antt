@@ -12,7 +12,8 @@ use Rattle.zone_text.specs.NameTexts.{is_of_offset}
 use Rattle.zone_text.specs.WrittenTexts.{hour_text, minute_text, size_text}
 use Rattle.chrono_text.proofs.ListLemmas.{all_of, weaker}
 use Rattle.chrono_text.proofs.TextLemmas.{is_negative-pos}
-use Rattle.zone_text.proofs.CutTexts.{after_sep, before_sep, is_other, others_lack, sep_lacks, sep_stands}
+use Rattle.chrono_text.proofs.PieceLemmas.{after_sep, before_sep, sep_stands}
+use Rattle.zone_text.proofs.CutTexts.{is_other, others_lack, sep_lacks}
 use Rattle.zone_text.proofs.NumbersBack.{count_up_to_back, decimal_digits, decimal_some, two_are_digits, two_back}
 
 -- ---- minutes

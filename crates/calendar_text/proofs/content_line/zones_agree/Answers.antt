@@ -2,7 +2,7 @@ use Rattle.std.proofs.Common.{sym, ap}
 use Rattle.std.specs.Prelude.{◌&&◌}
 use Rattle.calendar_text.specs.CalendarTimes.{time_of}
 use Rattle.calendar_text.specs.Lines.{head_of, is_local, same_zone, zone_of, zones_agree}
-use Rattle.calendar_text.proofs.PieceLemmas.{nothing_behind}
+use Rattle.chrono_text.proofs.PieceLemmas.{nothing_behind}
 use Rattle.calendar_text.proofs.content_line.zones_agree.Goals as goal
 
 pub returns-in_default : goal.returns-in_default

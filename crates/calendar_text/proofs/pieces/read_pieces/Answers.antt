@@ -1,7 +1,8 @@
 use Rattle.std.proofs.Common.{◌≡◌, ◌≤◌, ◌+◌, ◌-◌, [], ◌∷◌, length, take, drop, Err, ap, sym, ◌∙◌, arith}
 use Rattle.chrono_text.specs.Lists.{pieces, pieces_behind}
 use Rattle.calendar_text.specs.Reads.{placed_through}
-use Rattle.calendar_text.proofs.PieceLemmas.{ends, goes_on, pieces_more, pieces_none, size_more, stops}
+use Rattle.calendar_text.proofs.PieceLemmas.{ends, goes_on, stops}
+use Rattle.chrono_text.proofs.PieceLemmas.{pieces_more, pieces_none, size_more}
 use Rattle.calendar_text.proofs.pieces.read_pieces.Goals as goal
 
 pub returns-in-Err-clause-read : goal.returns-in-Err-clause-read

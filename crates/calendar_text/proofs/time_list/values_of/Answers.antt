@@ -4,7 +4,7 @@ use Rattle.calendar_text.specs.CalendarTimes.{time_of}
 use Rattle.calendar_text.specs.Lines.{is_line_of, text_in, line_value}
 use Rattle.calendar_text.specs.TimeLists.{times_listed}
 use Rattle.calendar_text.specs.declared.property.Property.{Property}
-use Rattle.calendar_text.proofs.PieceLemmas.{nothing_behind}
+use Rattle.chrono_text.proofs.PieceLemmas.{nothing_behind}
 use Rattle.calendar_text.proofs.time_list.values_of.Goals as goal
 
 no_times : (property : Property) (line : List ℕ) → is_line_of property line ≡ true → line_value line ≡ [] → line_times property line ≡ []

@@ -2,7 +2,8 @@ use Rattle.std.proofs.Common.{◌≡◌, ◌≤◌, ◌+◌, ◌-◌, [], ◌∷
 use Rattle.std.specs.Str.{byte}
 use Rattle.chrono_text.specs.Lists.{pieces, pieces_behind}
 use Rattle.timed_cron.specs.DialectFields.{items_read}
-use Rattle.timed_cron.proofs.PieceLemmas.{ends, goes_on, pieces_more, pieces_none, size_more, stops}
+use Rattle.timed_cron.proofs.PieceLemmas.{ends, goes_on, stops}
+use Rattle.chrono_text.proofs.PieceLemmas.{pieces_more, pieces_none, size_more}
 use Rattle.timed_cron.proofs.dialect_field.read_items.Goals as goal
 
 pub returns-in-Err-clause-read : goal.returns-in-Err-clause-read

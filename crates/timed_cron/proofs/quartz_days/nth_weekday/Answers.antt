@@ -3,7 +3,7 @@ use Rattle.std.specs.Str.{byte}
 use Rattle.chrono_cron.specs.FieldTexts.{before_byte, behind_byte}
 use Rattle.timed_cron.specs.DialectFields.{field_number}
 use Rattle.timed_cron.specs.QuartzTexts.{quartz_nth_weekday, weekdays_form}
-use Rattle.timed_cron.proofs.PieceLemmas.{nothing_behind}
+use Rattle.chrono_text.proofs.PieceLemmas.{nothing_behind}
 use Rattle.timed_cron.proofs.QuartzWords.{none_for}
 use Rattle.timed_cron.proofs.quartz_days.nth_weekday.Goals as goal
 
