@@ -1,5 +1,5 @@
 //! Laws of patterns, each as the contract of a function.
-ghost use Rattle.std.specs.Prelude.{◌≡◌, ◌↔◌, ◌<◌, ◌+◌, ◌-◌, ◌*◌, ◌/◌, ◌%◌, ℕ, ℤ, Bool, List, [], false, true, Some, Ok, Err, codes, neg_ℤ, pos, ◌-ℤ◌, unsigned_abs};
+ghost use Rattle.std.specs.Prelude.{◌≡◌, ◌↔◌, ◌<◌, ◌+◌, ◌-◌, ◌*◌, ◌/◌, ◌%◌, ℕ, ℤ, Bool, List, [], ◌∷◌, false, true, Some, Ok, Err, codes, neg_ℤ, pos, ◌-ℤ◌, unsigned_abs};
 ghost use Rattle.std.specs.List.{list_all};
 ghost use Rattle.std.specs.Str.{IsAscii, IsUtf8};
 ghost use Rattle.chrono_datetime.specs.Days.{IsDate, day_of, month_of, ordinal_of, year_of};
@@ -9,7 +9,7 @@ ghost use Rattle.chrono_datetime.specs.Fields.{unix_epoch_day};
 ghost use Rattle.chrono_datetime.specs.Time.{IsTime, TimeOfDay, time_at};
 ghost use Rattle.chrono_datetime.specs.Weekday.{days_from_monday, days_from_sunday};
 ghost use Rattle.chrono_datetime.specs.Weeks.{iso_week_of, iso_year_of, weekday_of};
-ghost use Rattle.chrono_datetime.specs.declared.Weekday.TheVariants.{Mon};
+ghost use Rattle.chrono_datetime.specs.declared.Weekday.TheVariants.{Mon, Sun};
 ghost use Rattle.chrono_instant.specs.Instants.{epoch_second};
 ghost use Rattle.chrono_instant.specs.Offsets.{IsOffset};
 ghost use Rattle.chrono_pattern.specs.DateParts.{is_present, names_date};
@@ -62,6 +62,40 @@ pub fn known_texts_of_dates()
         → pattern_text (codes "%C %y %Y") m ≡ codes "123 45 +12345" }
     ensures week { (m : Moment) → iso_year_of m.date ≡ pos 2025 → iso_week_of m.date ≡ 1 → weekday_of m.date ≡ Mon
         → pattern_text (codes "%G-W%V-%u %a") m ≡ codes "2025-W01-1 Mon" }
+{}
+
+/// States known texts of each specifier but those of offsets, with each padding, as GNU date and chrono write them.
+///
+/// - A number of a date is written with no padding asked for, with `-`, with `_` and with `0`. It has fewer digits than are written at least.
+/// - Hours are those of three in the afternoon and of three in the morning. The fraction begins with zeros.
+/// - Groups are of 15:04:05 on Monday, 30 December 2024.
+pub fn known_texts_of_all_specifiers()
+    ensures year { (m : Moment) → year_of m.date ≡ pos 5
+        → pattern_text (codes "%Y %-Y %_Y %0Y|%C %-C %_C %0C|%y %-y %_y %0y") m ≡ codes "0005 5    5 0005|00 0  0 00|05 5  5 05" }
+    ensures iso_year { (m : Moment) → iso_year_of m.date ≡ pos 4 → pattern_text (codes "%G %-G %_G %0G|%g %-g %_g %0g") m
+        ≡ codes "0004 4    4 0004|04 4  4 04" }
+    ensures month { (m : Moment) → month_of m.date ≡ 6 → pattern_text (codes "%m %-m %_m %0m|%q %-q %_q %0q|%B|%b|%h") m
+        ≡ codes "06 6  6 06|2 2 2 2|June|Jun|Jun" }
+    ensures day { (m : Moment) → day_of m.date ≡ 2 → pattern_text (codes "%d %-d %_d %0d|%e %-e %_e %0e") m ≡ codes "02 2  2 02| 2 2  2 02" }
+    ensures ordinal { (m : Moment) → ordinal_of m.date ≡ 2 → pattern_text (codes "%j %-j %_j %0j") m ≡ codes "002 2   2 002" }
+    ensures weekday { (m : Moment) → weekday_of m.date ≡ Sun → pattern_text (codes "%u %-u %_u %0u|%w %-w %_w %0w|%A|%a") m
+        ≡ codes "7 7 7 7|0 0 0 0|Sunday|Sun" }
+    ensures iso_week { (m : Moment) → iso_week_of m.date ≡ 1 → pattern_text (codes "%V %-V %_V %0V") m ≡ codes "01 1  1 01" }
+    ensures sundays { (m : Moment) → week_from_sunday m.date ≡ 1 → pattern_text (codes "%U %-U %_U %0U") m ≡ codes "01 1  1 01" }
+    ensures mondays { (m : Moment) → week_from_monday m.date ≡ 0 → pattern_text (codes "%W %-W %_W %0W") m ≡ codes "00 0  0 00" }
+    ensures afternoon { (n : ℤ) → pattern_text (codes "%H %k %I %l %p %P") (moment n (time_at 15 4 5 0)) ≡ codes "15 15 03  3 PM pm" }
+    ensures hour { (n : ℤ) → pattern_text (codes "%H %-H %_H %0H|%k %-k %_k %0k|%I %-I %_I %0I|%l %-l %_l %0l") (moment n (time_at 3 4 5 0))
+        ≡ codes "03 3  3 03| 3 3  3 03|03 3  3 03| 3 3  3 03" }
+    ensures minute { (n : ℤ) → pattern_text (codes "%M %-M %_M %0M|%S %-S %_S %0S") (moment n (time_at 3 4 5 0))
+        ≡ codes "04 4  4 04|05 5  5 05" }
+    ensures fraction { (n : ℤ) → pattern_text (codes "%f %-f %_f %0f|%3f %6f %9f|%.f %.3f %.6f %.9f") (moment n (time_at 3 4 5 6_007_008))
+        ≡ codes "006007008 6007008   6007008 006007008|006 006007 006007008|.006007008 .006 .006007 .006007008" }
+    ensures dates { (m : Moment) → year_of m.date ≡ pos 2024 → month_of m.date ≡ 12 → day_of m.date ≡ 30
+        → pattern_text (codes "%F %D %x %v") m ≡ codes "2024-12-30 12/30/24 12/30/24 30-Dec-2024" }
+    ensures times { (n : ℤ) → pattern_text (codes "%R %T %X %r") (moment n (time_at 15 4 5 0)) ≡ codes "15:04 15:04:05 15:04:05 03:04:05 PM" }
+    ensures all { (n : ℤ) → year_of n ≡ pos 2024 → month_of n ≡ 12 → day_of n ≡ 30 → weekday_of n ≡ Mon
+        → pattern_text (codes "%c") (moment n (time_at 15 4 5 0)) ≡ codes "Mon Dec 30 15:04:05 2024" }
+    ensures bytes { (m : Moment) → pattern_text (codes "%n%t%%") m ≡ 10 ∷ 9 ∷ codes "%" }
 {}
 
 /// States known errors: a specifier that is unknown, one that is cut, a padding before a word, a second padding, and a fourth colon.
@@ -203,9 +237,9 @@ pub fn fields_tell_what_is_named()
 
 /// States that a separable pattern reads back what it writes of a date-time that it keeps.
 ///
-/// A pattern is separable if each text of it shows where every item ends. Then a number with fewer digits than are read at most has no digit
-/// behind it. The same is so of a fraction behind a point, of `%s`, and of hours alone. `%.f` also has no point behind it. No pattern with
-/// `%Z` is separable, since nothing reads a name of a zone. For all years, a year has no digit behind it, and no century stands in the pattern.
+/// Each text of a separable pattern shows where every item ends. A number with fewer digits than are read at most has no digit behind it.
+/// The same is so of a fraction behind a point, of `%s`, and of hours alone. `%.f` also has no point behind it. No pattern with `%Z` is
+/// separable, since `%Z` reads all bytes up to a blank. For all years, a year has no digit behind it, and no century stands in the pattern.
 ///
 /// A pattern keeps a date-time whose fraction and offset have no more digits than it writes, and whose years are in its range.
 ///
