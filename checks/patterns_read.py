@@ -6,8 +6,8 @@
 A text is one that its pattern writes, often with a byte changed, left out or put in. It is read whole, and its front alone: as a date, as
 a date-time and as one with its offset. The wanted answer is this file's own. Where it is a date, its fields are compared with all dates
 that fit, by their names. Python's strptime has to read the same date, and the same date-time with its offset, wherever it has all
-specifiers of a pattern and reads the text. Debian's chrono has to read the same, or nothing where nothing is wanted. It differs where the
-tables below say. `rt try` runs a small program unproved, in a copy of the crates. A second run of the same lines with one answer changed
+specifiers of a pattern and reads the text. Debian's chrono has to read the same, or nothing where nothing is wanted. All lines are asked of it.
+Where it answers otherwise, one of `DIFFERENCES` has to say why, and it has to do so at the line of each of these. `rt try` runs a small program unproved, in a copy of the crates. A second run of the same lines with one answer changed
 has to find that answer. Each round has as many lines of its own, by the next seed.
 """
 import datetime
@@ -31,10 +31,6 @@ BLANKS = " \t\n\v\f\r"
 OF_PYTHON = "YmdjbBaAHIMSpyz"
 # The seconds from 1970 that dates have.
 FIRST_SECOND, LAST_SECOND = (FIRST - EPOCH) * 86_400, (LAST - EPOCH) * 86_400 + 86_399
-# Patterns that Debian's chrono reads otherwise: it has no `%q`, reads a date by `%g`, takes no century of a year below 0, and has other weeks
-# of the year. It reads no seconds of an offset, asks for the minutes of `%:::z`, and reads no sign by `%s`, beside which it asks for an
-# offset. It does not leave the blank behind `%#z`. In `%+` it has no blank, no name of UTC but `Z` and no year but one of four digits.
-NOT_OF_CHRONO = re.compile(r"%[-_0]?[qgCyUWs]|%:::?z|%#z|%[+]")
 PROGRAM = r'''//! Reads dates by patterns, a line each.
 #![tactic(auto)]
 
@@ -450,17 +446,74 @@ def by_chrono(program, questions):
     return subprocess.run([program, "read"], input=asked, stdout=subprocess.PIPE, text=True, check=True).stdout.split("\n")[:-1]
 
 
+class Line:
+    """A line that Debian's chrono reads otherwise: its pattern and text, what is read, whether with its offset, what is wanted and what chrono answers."""
+
+    def __init__(self, question, zoned, wanted, told):
+        self.pattern, self.text = question
+        self.zoned, self.wanted, self.told = zoned, wanted, told
+
+    def has(self, codes):
+        return re.search(f"%[-_0]?(?:{codes})", self.pattern) is not None
+
+    def holds(self, form):
+        return re.search(form, self.text) is not None
+
+    def is_unread(self, codes):
+        """Whether chrono reads nothing where a date is wanted, by a pattern with one of these specifiers."""
+        return self.told == "!" and DATE.match(self.wanted) is not None and self.has(codes)
+
+    def reads_more(self, cause, codes):
+        """Whether chrono reads a date where this error is wanted, by a pattern with one of these specifiers."""
+        return self.told != "!" and self.wanted.startswith(cause) and self.has(codes)
+
+    def year(self):
+        """The year that is wanted, or else chrono's."""
+        return int(re.match("([-+]?[0-9]+)-", self.wanted if DATE.match(self.wanted) else self.told)[1])
+
+    def begins_on(self, weekday):
+        """Whether that year begins on a weekday, 0 for Monday."""
+        return (Moment.new_year(self.year()) - 1) % 7 == weekday
+
+
+# RFC 3339, which is all that chrono's `%+` reads.
+RFC_3339 = re.compile("[0-9]{4}-[0-9]{2}-[0-9]{2}[Tt][0-9]{2}:[0-9]{2}:[0-9]{2}([.][0-9]+)?([Zz]|[-+][0-9]{2}:[0-9]{2})")
+# What Debian's chrono reads otherwise, and a line of each.
+DIFFERENCES = {
+    "it has no `%q`": (lambda it: it.is_unread("q"), "%q %F|1 2024-02-29"),
+    "`%g` names an ISO year": (lambda it: it.reads_more("NotEnough", "g"), "%g-W%V-%u|24-W09-4"),
+    "a date needs no hour, minute or second in its range": (lambda it: not it.zoned and it.reads_more("OutOfRange", "[HMSIklTRXrc+]"), "%F %H|2024-02-29 25"),
+    "no year below 0 has a century": (lambda it: it.is_unread("[Cy]") and it.year() < 0, "%F %y|-0044-03-15 56"),
+    "a century alone is not enough beside an ISO date": (lambda it: it.is_unread("C") and not it.has("[yY]"), "%C %G-W%V-%u|20 2024-W09-4"),
+    "a year of the century may be of any beside an ISO date": (lambda it: it.reads_more("Impossible", "y") and it.has("G"), "%y %G-W%V-%u|50 1950-W09-4"),
+    "`%U` has another count in a year that begins on Monday": (lambda it: it.has("U") and it.begins_on(0), "%F %U|2024-02-29 08"),
+    "`%W` has another count in a year that begins on Tuesday": (lambda it: it.has("W") and it.begins_on(1), "%F %W|2019-02-28 08"),
+    "`%::z` has no seconds": (lambda it: it.reads_more("Invalid", "::z:") or (it.is_unread("::z") and it.holds("[-+][0-9]{2}[: ]*[0-9]{2}:[0-9]{2}")), "%F %T %::z|2024-02-29 09:30:00 +01:00:30"),
+    "`%:::z` has minutes": (lambda it: it.is_unread(":::z") and it.holds("[-+][0-9]{2}(?![: ]*[0-9])"), "%F %T %:::z|2024-02-29 09:30:00 +01"),
+    "`%+` is RFC 3339 alone": (lambda it: it.is_unread("[+]") and not RFC_3339.fullmatch(it.text), "%+|2024-02-29 09:30:00Z"),
+    "`%s` needs an offset": (lambda it: it.zoned and it.is_unread("s") and not it.has(":*z"), "%s|1709199000"),
+    "`%s` has no sign": (lambda it: it.is_unread("s") and it.holds("[-+][0-9]"), "%s %z|-1 +0000"),
+    "the seconds from 1970 are no part of a date": (lambda it: not it.zoned and it.reads_more("OutOfRange", "s"), "%F %s|2024-02-29 9000000000000"),
+}
+
+
 def read_by_chrono(chrono, questions, answers):
-    """What chrono reads otherwise."""
-    wrong = []
-    # Debian's chrono does not look at the range of an hour or a minute where it reads a date.
+    """What chrono reads otherwise, with no reason for it, and each reason that no line has."""
+    wrong, reasons = [], dict.fromkeys(DIFFERENCES, 0)
     read = [it.split(" ") for it in by_chrono(chrono, questions)]
-    for place, what in enumerate(("dates", "zoned date-times")):
-        rows = ((it, a[place], b[(0, 3)[place]]) for it, a, b in zip(questions, read, answers))
-        others = [(line_of(it), a, b if DATE.match(b) else "!") for it, a, b in rows if not NOT_OF_CHRONO.search(it[0]) and not b.startswith("OutOfRange")]
-        wrong += [f"chrono, {what}: {it}" for it in differing(*zip(*others))]
-        print(f"{len(others)} of {len(questions)} {what} by chrono too")
-    return wrong
+    for place, what in enumerate(("date", "zoned date-time")):
+        for question, told, answer in zip(questions, read, answers):
+            line = Line(question, place == 1, answer[(0, 3)[place]], told[place])
+            if line.told == (line.wanted if DATE.match(line.wanted) else "!"):
+                continue
+            found = [it for it, (holds, _) in DIFFERENCES.items() if holds(line)]
+            for reason in found:
+                reasons[reason] += 1
+            if not found:
+                wrong.append(f"chrono, {what}: {line_of(question)}: {line.told} for {line.wanted}")
+    for reason, count in reasons.items():
+        print(f"{count} answers of chrono: {reason}")
+    return wrong + [f"chrono: no line shows that {it}" for it, count in reasons.items() if not count]
 
 
 def main():
@@ -471,6 +524,7 @@ def main():
 
         def run_round(own, draw, count):
             questions = [it for it in (question(draw) for _ in range(count)) if "\n" not in line_of(it)]
+            questions += [tuple(it.split("|")) for _, it in DIFFERENCES.values()]
             answers = [wanted_of(*it) for it in questions]
             wrong = read_by_chrono(chrono, questions, answers) if chrono else []
             lines = [line_of(it) for it in questions]
