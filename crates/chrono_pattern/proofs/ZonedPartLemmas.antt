@@ -9,13 +9,13 @@ use Rattle.chrono_calendar.proofs.Signed.{signed}
 use Rattle.chrono_datetime.specs.Moment.{Moment, IsMoment}
 use Rattle.chrono_instant.proofs.InstantLemmas.{IsEpochSecond-moment, LiesIn-once, epoch_second-ahead, one_moment}
 use Rattle.chrono_instant.specs.Instants.{IsEpochSecond, LiesIn, epoch_second, second_of_minute}
-use Rattle.chrono_instant.specs.Offsets.{IsShifted, moment_ahead}
+use Rattle.chrono_instant.specs.Offsets.{IsOffset, IsShifted, moment_ahead}
 use Rattle.chrono_datetime.specs.Duration.{nanos_per_second}
 use Rattle.chrono_datetime.specs.Time.{FractionFits, TimeOfDay, is_leap, second_of}
 use Rattle.chrono_pattern.proofs.TimePartLemmas.{counted}
 use Rattle.chrono_pattern.specs.DateParts.{date_fits, is_present, names_date}
 use Rattle.chrono_pattern.specs.TimeParts.{IsClockTime, clock_fits, counts, names_time, size_or_zero}
-use Rattle.chrono_pattern.specs.ZonedParts.{fits_by, is_next_to, is_stamp_of, moment_fits, names_leap, names_moment, names_zoned, shows_second, zoned_fits, stamped_time_fits}
+use Rattle.chrono_pattern.specs.ZonedParts.{IsClockMoment, IsClockZoned, fits_by, is_next_to, is_stamp_of, moment_fits, names_leap, names_moment, names_zoned, shows_second, zoned_fits, stamped_time_fits}
 use Rattle.chrono_pattern.specs.declared.error.ReadFault.{ReadFault}
 use Rattle.chrono_pattern.specs.declared.parsed.Parsed.{Parsed}
 use Rattle.chrono_zoned.specs.Zoned.{Zoned}
@@ -68,6 +68,15 @@ found_at None s nanos m lies exists i clock second fraction =
     absurd (false≢true (exists.1 (subst IsEpochSecond second (IsEpochSecond-moment m i), fits)))
 found_at (Some found) s nanos m lies exists i clock second fraction =
     ap Some (LiesIn-once s nanos found m lies (record { second = second; past = fraction; exists = i }))
+
+-- what is found is a date-time that a clock shows
+pub shown_at : (r : Option Moment) (s : ℤ) (nanos : ℕ) → IfSome r (LiesIn s nanos)
+    → (IsSome r ↔ (IsEpochSecond s × FractionFits (second_of_minute s) nanos)) → IfSome r (λ m. IsClockMoment m)
+shown_at None s nanos lies exists = tt
+shown_at (Some m) s nanos lies exists =
+    let minute : second_of_minute s ≡ second_of m.time = ap second_of_minute (sym lies.second) ∙ day_place m lies.exists in
+    let fits = subst (λ (n : ℕ). FractionFits (second_of_minute s) n) (sym lies.past) (exists.0 refl).1 in
+    (lies.exists.date, record { time = lies.exists.time; leap = subst (λ (n : ℕ). FractionFits n m.time.fraction) minute fits })
 
 -- ---- the second and the fraction that are given beside the seconds from 1970
 
@@ -192,6 +201,16 @@ pub zoned_found : (p : Parsed) (r : Option (Zoned ℤ)) (m : Moment) (x : ℤ) �
 zoned_found p None m x local zone offset fits = tt
 zoned_found p (Some d) m x local zone offset fits =
     ap (λ (n : Moment). zoned_fits p n d.zone) local ∙ ap (λ (z : ℤ). zoned_fits p m z) zone ∙ both_fit p m x offset fits
+
+-- it is one that a clock shows
+pub zoned_shown : (r : Option (Zoned ℤ)) (m : Moment) (x : ℤ) → IfSome r (λ d. moment_ahead d.utc d.zone ≡ m) → IfSome r (λ d. d.zone ≡ x)
+    → IfSome r (λ d. IsMoment d.utc) → IsOffset x → IsClockMoment m → IfSome r (λ d. IsClockZoned d)
+zoned_shown None m x local zone utc near shown = tt
+zoned_shown (Some d) m x local zone utc near shown = (utc, subst IsOffset (sym zone) near, subst IsClockMoment (sym local) shown)
+
+pub of_utc : (r : Option (Zoned ℤ)) (utc : Moment) (x : ℤ) → IfSome r (λ d. d ≡ record { utc = utc; zone = x }) → IsMoment utc → IfSome r (λ d. IsMoment d.utc)
+of_utc None utc x value i = tt
+of_utc (Some d) utc x value i = subst IsMoment (sym (ap (λ (z : Zoned ℤ). z.utc) value)) i
 
 -- the offset and the local date-time of a zoned one that fits
 pub local_fits : (p : Parsed) (m : Moment) (x y : ℤ) → y ≡ x → zoned_fits p m y ≡ true → moment_fits p m x ≡ true

@@ -1,13 +1,24 @@
 -- Which date-times fit the parts that a text gives, with their offset from UTC or by the seconds from 1970, and which parts suffice for one.
 use Rattle.std.specs.Prelude.{◌+◌, ◌/◌, ◌%◌, Bool, true, false, ◌&&◌, ◌||◌, if◌then◌else◌, ℤ, pos, ◌+ℤ◌, ◌-ℤ◌, Option, Some, None}
 use Rattle.std.specs.Ordering.{int_eq}
+use Rattle.chrono_datetime.specs.Days.{IsDate}
 use Rattle.chrono_datetime.specs.Duration.{nanos_per_second}
-use Rattle.chrono_datetime.specs.Moment.{Moment}
+use Rattle.chrono_datetime.specs.Moment.{Moment, IsMoment}
 use Rattle.chrono_datetime.specs.Time.{TimeOfDay, is_leap, second_of}
 use Rattle.chrono_instant.specs.Instants.{epoch_second}
+use Rattle.chrono_instant.specs.Offsets.{IsOffset, moment_ahead}
+use Rattle.chrono_zoned.specs.Zoned.{Zoned}
 use Rattle.chrono_pattern.specs.DateParts.{date_fits, is_present, names_date}
-use Rattle.chrono_pattern.specs.TimeParts.{clock_fits, counts, names_time, time_fits}
+use Rattle.chrono_pattern.specs.TimeParts.{IsClockTime, clock_fits, counts, names_time, time_fits}
 use Rattle.chrono_pattern.specs.declared.parsed.Parsed.{Parsed}
+
+-- a date-time that a clock shows: of a date, at a time of day that it shows
+abbrev pub IsClockMoment : Moment → Type 0
+IsClockMoment m = IsDate m.date × IsClockTime m.time
+
+-- a date-time with its offset of which a clock shows the local one, and UTC has a date
+abbrev pub IsClockZoned : Zoned ℤ → Type 0
+IsClockZoned d = IsMoment d.utc × IsOffset d.zone × IsClockMoment (moment_ahead d.utc d.zone)
 
 -- the second that a clock shows is this one, and no leap second if none is given
 abbrev pub shows_second : Option ℤ → TimeOfDay → Bool

@@ -26,9 +26,16 @@ impl Parsed {
     ///
     /// A year is also its century and its year there, or that year alone for 1970 to 2069.
     ///
+    /// chrono 0.4.23 differs in these:
+    ///
+    /// - By `%g` an ISO year of 1970 to 2069 is named there. Here `%G` has to name it, and `%g` is only compared.
+    /// - Beside an ISO date, a century alone is not enough there, and a year of the century may be of any century.
+    /// - No year below 0 has a century there. A week of the year is compared with chrono's own count.
+    ///
     /// # Errors
     ///
-    /// Returns `NotEnough` if no date is named, which is told by the fields alone. Returns `Impossible` if no date fits.
+    /// Returns `NotEnough` if no date is named, which is told by the fields alone. Returns `Impossible` if no date fits, also for a day that the
+    /// calendar does not have. For that chrono answers `OutOfRange`.
     ///
     /// ```
     /// let parsed = Pattern::new(b"%a %d.%m.%y").ok()?.read_parts(b"Thu 29.02.24").ok()?;
@@ -40,6 +47,7 @@ impl Parsed {
     pub fn to_date(&self) -> Result<NaiveDate, ReadFault>
         ensures named { IfOk result (λ n. names_date self.now ≡ true) }
         ensures fits { IfOk result (λ n. date_fits self.now n ≡ true) }
+        ensures in_range { IfOk result (λ n. IsDate n) }
         // So no two dates fit parts that name one.
         ensures every { (n : ℤ) → IsDate n → names_date self.now ≡ true → date_fits self.now n ≡ true → result ≡ Ok n }
         ensures not_enough { (result ≡ Err NotEnough) ↔ (names_date self.now ≡ false) }
@@ -57,6 +65,7 @@ impl Parsed {
 fn plain_date(parts: &Parsed) -> Option<NaiveDate>
     ensures named { IfSome result (λ d. names_date parts.now ≡ true) }
     ensures fits { IfSome result (λ d. date_fits parts.now d ≡ true) }
+    ensures in_range { IfSome result (λ d. IsDate d) }
     ensures only { IfSome result (λ d. (n : ℤ) → IsDate n → date_fits parts.now n ≡ true → d ≡ n) }
 {
     if !is_calendar_alone(parts) {
@@ -124,6 +133,7 @@ pub(crate) fn natural(part: Option<i32>) -> Option<u32>
 fn any_date(parts: Parsed) -> Result<NaiveDate, ReadFault>
     ensures named { IfOk result (λ n. names_date parts ≡ true) }
     ensures fits { IfOk result (λ n. date_fits parts n ≡ true) }
+    ensures in_range { IfOk result (λ n. IsDate n) }
     ensures every { (n : ℤ) → IsDate n → names_date parts ≡ true → date_fits parts n ≡ true → result ≡ Ok n }
     ensures not_enough { (result ≡ Err NotEnough) ↔ (names_date parts ≡ false) }
     ensures error { IfErr result (λ e. e ≡ fault_of_parts (names_date parts)) }
@@ -217,12 +227,21 @@ fn names_year_week(week: Option<i32>, parts: Parsed) -> bool
 // Whether a date fits all parts.
 #[tactic(auto, unfolding(crate::specs::DateParts::date_fits))]
 pub(crate) fn fits_date(parts: Parsed, date: NaiveDate) -> bool
-    ensures { result ≡ date_fits parts date }
+    ensures fits { result ≡ date_fits parts date }
+    ensures in_range { IsDate date }
 {
-    fits_year(parts, date.year())
+    fits_year(parts, date_year(date))
         && fits_day(parts, date)
         && fits_week(parts, date)
         && fits_year_week(parts, date)
+}
+
+// The year of a date. It shows that the date is in the range of dates.
+fn date_year(date: NaiveDate) -> i32
+    ensures value { result ≡ year_of date }
+    ensures in_range { IsDate date }
+{
+    date.year()
 }
 
 // Whether a year fits its parts.

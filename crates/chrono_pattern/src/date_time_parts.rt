@@ -1,12 +1,11 @@
 //! The date-time that the parts of a text give, by a date and a time of day or by the seconds from 1970.
-ghost use Rattle.std.specs.Prelude.{◌≡◌, ◌↔◌, ◌⊎◌, ◌&&◌, ◌+◌, ◌≤ℤ◌, ◌+ℤ◌, ℤ, neg_ℤ, pos, true, false, Ok, Err, Some, None, IfOk, IfErr};
-ghost use Rattle.chrono_datetime.specs.Days.{IsDate};
+ghost use Rattle.std.specs.Prelude.{◌≡◌, ◌↔◌, ◌⊎◌, ◌&&◌, ◌+◌, ◌≤ℤ◌, ◌+ℤ◌, ℤ, neg_ℤ, pos, true, false, Ok, Err, Some, None, IfOk, IfErr, IfSome};
 ghost use Rattle.chrono_datetime.specs.Moment.{Moment};
 ghost use Rattle.chrono_datetime.specs.Duration.{nanos_per_second};
 ghost use Rattle.chrono_instant.specs.Instants.{epoch_second};
 ghost use Rattle.chrono_pattern.specs.DateParts.{date_fits, names_date};
-ghost use Rattle.chrono_pattern.specs.TimeParts.{IsClockTime, names_time, time_fits};
-ghost use Rattle.chrono_pattern.specs.ZonedParts.{is_next_to, is_stamp_of, moment_fits, names_leap, names_moment, shows_second, stamped_time_fits};
+ghost use Rattle.chrono_pattern.specs.TimeParts.{names_time, time_fits};
+ghost use Rattle.chrono_pattern.specs.ZonedParts.{IsClockMoment, is_next_to, is_stamp_of, moment_fits, names_leap, names_moment, shows_second, stamped_time_fits};
 ghost use Rattle.chrono_pattern.specs.Parts.{fault_of_parts};
 ghost use Rattle.chrono_pattern.specs.declared.error.ReadFault.TheVariants.{Impossible, NotEnough};
 
@@ -46,9 +45,9 @@ impl Parsed {
     pub fn to_date_time(&self) -> Result<NaiveDateTime, ReadFault>
         ensures named { IfOk result (λ m. names_moment self.now ≡ true) }
         ensures fits { IfOk result (λ m. moment_fits self.now m (pos 0) ≡ true) }
+        ensures clock { IfOk result (λ m. IsClockMoment m) }
         // So no two date-times fit parts that name one.
-        ensures every { (m : Moment) → IsDate m.date → IsClockTime m.time → names_moment self.now ≡ true
-            → moment_fits self.now m (pos 0) ≡ true → result ≡ Ok m }
+        ensures every { (m : Moment) → IsClockMoment m → names_moment self.now ≡ true → moment_fits self.now m (pos 0) ≡ true → result ≡ Ok m }
         ensures not_enough { (result ≡ Err NotEnough) ↔ (names_moment self.now ≡ false) }
         ensures error { IfErr result (λ e. e ≡ fault_of_parts (names_moment self.now)) }
     {
@@ -62,7 +61,8 @@ impl Parsed {
 pub(crate) fn named_moment(parts: &Parsed, offset: FixedOffset) -> Result<NaiveDateTime, ReadFault>
     ensures named { IfOk result (λ m. names_moment parts.now ≡ true) }
     ensures fits { IfOk result (λ m. moment_fits parts.now m offset ≡ true) }
-    ensures every { (m : Moment) → IsDate m.date → IsClockTime m.time → names_moment parts.now ≡ true → moment_fits parts.now m offset ≡ true → result ≡ Ok m }
+    ensures clock { IfOk result (λ m. IsClockMoment m) }
+    ensures every { (m : Moment) → IsClockMoment m → names_moment parts.now ≡ true → moment_fits parts.now m offset ≡ true → result ≡ Ok m }
     ensures not_enough { (result ≡ Err NotEnough) ↔ (names_moment parts.now ≡ false) }
     ensures error { IfErr result (λ e. e ≡ fault_of_parts (names_moment parts.now)) }
 {
@@ -90,7 +90,8 @@ fn usual_moment(parts: &Parsed) -> Result<NaiveDateTime, ReadFault>
     ensures named { IfOk result (λ m. (names_date parts.now && names_time parts.now) ≡ true) }
     ensures date { IfOk result (λ m. date_fits parts.now m.date ≡ true) }
     ensures time { IfOk result (λ m. time_fits parts.now m.time ≡ true) }
-    ensures every { (m : Moment) → IsDate m.date → IsClockTime m.time → names_date parts.now ≡ true → names_time parts.now ≡ true
+    ensures clock { IfOk result (λ m. IsClockMoment m) }
+    ensures every { (m : Moment) → IsClockMoment m → names_date parts.now ≡ true → names_time parts.now ≡ true
         → date_fits parts.now m.date ≡ true → time_fits parts.now m.time ≡ true → result ≡ Ok m }
     ensures not_enough { (result ≡ Err NotEnough) ↔ ((names_date parts.now && names_time parts.now) ≡ false) }
     ensures error { IfErr result (λ e. e ≡ fault_of_parts (names_date parts.now && names_time parts.now)) }
@@ -114,7 +115,8 @@ fn stamped_moment(
     ensures date { IfOk result (λ m. date_fits parts m.date ≡ true) }
     ensures time { IfOk result (λ m. stamped_time_fits parts m.time ≡ true) }
     ensures stamp { IfOk result (λ m. is_stamp_of stamp m offset ≡ true) }
-    ensures every { (m : Moment) → IsDate m.date → IsClockTime m.time → date_fits parts m.date ≡ true → stamped_time_fits parts m.time ≡ true
+    ensures clock { IfOk result (λ m. IsClockMoment m) }
+    ensures every { (m : Moment) → IsClockMoment m → date_fits parts m.date ≡ true → stamped_time_fits parts m.time ≡ true
         → is_stamp_of stamp m offset ≡ true → result ≡ Ok m }
     ensures impossible { IfErr result (λ e. e ≡ Impossible) }
 {
@@ -181,8 +183,8 @@ fn is_next_to(stamp: i64, second: i64) -> bool
 
 // The local date-time that the seconds from 1970 name, with the fraction and a leap second if these are given.
 fn moment_at_stamp(parts: Parsed, stamp: i64, offset: FixedOffset) -> Option<NaiveDateTime>
-    ensures { (m : Moment) → IsDate m.date → IsClockTime m.time → stamped_time_fits parts m.time ≡ true → is_stamp_of stamp m offset ≡ true
-        → result ≡ Some m }
+    ensures clock { IfSome result (λ m. IsClockMoment m) }
+    ensures every { (m : Moment) → IsClockMoment m → stamped_time_fits parts m.time ≡ true → is_stamp_of stamp m offset ≡ true → result ≡ Some m }
 {
     if stamp < -MOST_SECONDS || MOST_SECONDS < stamp {
         return None;
@@ -219,7 +221,8 @@ fn names_leap(second: Option<i32>) -> bool
 fn leap_second_at(local: i64, nanos: u32) -> Option<NaiveDateTime>
     requires range { local ≤ℤ pos 20_000_000_000_000 }
     requires least { neg_ℤ (pos 20_000_000_000_000) ≤ℤ local }
-    ensures { (m : Moment) → IsDate m.date → IsClockTime m.time → m.time.fraction ≡ nanos_per_second + nanos
+    ensures clock { IfSome result (λ m. IsClockMoment m) }
+    ensures every { (m : Moment) → IsClockMoment m → m.time.fraction ≡ nanos_per_second + nanos
         → (local ≡ epoch_second m) ⊎ (local ≡ epoch_second m +ℤ pos 1) → result ≡ Some m }
 {
     if nanos >= NANOS_PER_SEC {

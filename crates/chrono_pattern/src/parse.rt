@@ -6,7 +6,7 @@ ghost use Rattle.chrono_datetime.specs.Time.{TimeOfDay};
 ghost use Rattle.chrono_pattern.specs.DateParts.{names_date};
 ghost use Rattle.chrono_pattern.specs.Parses.{IsDateBy, IsDateInFront, IsFrontParseError, IsParseError, IsMomentBy, IsMomentInFront, IsTimeBy, IsTimeInFront};
 ghost use Rattle.chrono_pattern.specs.TimeParts.{IsClockTime, names_time};
-ghost use Rattle.chrono_pattern.specs.ZonedParts.{names_moment};
+ghost use Rattle.chrono_pattern.specs.ZonedParts.{IsClockMoment, names_moment};
 
 use crate::error::PatternReadError;
 use crate::pattern::{Pattern, read_error};
@@ -26,6 +26,7 @@ impl<'a> Pattern<'a> {
     /// ```
     pub fn parse_date(&self, text: &[u8]) -> Result<NaiveDate, PatternReadError>
         ensures date { IfOk result (λ n. IsDateBy self.now text.now n) }
+        ensures in_range { IfOk result (λ n. IsDate n) }
         ensures every { (n : ℤ) → IsDate n → IsDateBy self.now text.now n → result ≡ Ok n }
         ensures error { IfErr result (IsParseError names_date self.now text.now) }
     {
@@ -52,6 +53,7 @@ impl<'a> Pattern<'a> {
     /// ```
     pub fn parse_time(&self, text: &[u8]) -> Result<NaiveTime, PatternReadError>
         ensures time { IfOk result (λ t. IsTimeBy self.now text.now t) }
+        ensures clock { IfOk result (λ t. IsClockTime t) }
         ensures every { (t : TimeOfDay) → IsClockTime t → IsTimeBy self.now text.now t → result ≡ Ok t }
         ensures error { IfErr result (IsParseError names_time self.now text.now) }
     {
@@ -80,6 +82,7 @@ impl<'a> Pattern<'a> {
     /// ```
     pub fn parse_date_time(&self, text: &[u8]) -> Result<NaiveDateTime, PatternReadError>
         ensures moment { IfOk result (λ m. IsMomentBy self.now text.now m) }
+        ensures clock { IfOk result (λ m. IsClockMoment m) }
         ensures every { (m : Moment) → IsDate m.date → IsClockTime m.time → IsMomentBy self.now text.now m → result ≡ Ok m }
         ensures error { IfErr result (IsParseError names_moment self.now text.now) }
     {
@@ -112,6 +115,7 @@ impl<'a> Pattern<'a> {
         text: &'t [u8],
     ) -> Result<(NaiveDate, &'t [u8]), PatternReadError>
         ensures date { IfOk result (λ r. IsDateInFront self.now text.now r.0 r.1.now) }
+        ensures in_range { IfOk result (λ r. IsDate r.0) }
         ensures exists { (n : ℤ) → (rest : List ℕ) → IsDate n → IsDateInFront self.now text.now n rest → IsOk result }
         ensures only { (n : ℤ) → (rest : List ℕ) → IsDate n → IsDateInFront self.now text.now n rest
             → IfOk result (λ r. (r.0 ≡ n) × (r.1.now ≡ rest)) }
@@ -145,6 +149,7 @@ impl<'a> Pattern<'a> {
         text: &'t [u8],
     ) -> Result<(NaiveTime, &'t [u8]), PatternReadError>
         ensures time { IfOk result (λ r. IsTimeInFront self.now text.now r.0 r.1.now) }
+        ensures clock { IfOk result (λ r. IsClockTime r.0) }
         ensures exists { (t : TimeOfDay) → (rest : List ℕ) → IsClockTime t → IsTimeInFront self.now text.now t rest → IsOk result }
         ensures only { (t : TimeOfDay) → (rest : List ℕ) → IsClockTime t → IsTimeInFront self.now text.now t rest
             → IfOk result (λ r. (r.0 ≡ t) × (r.1.now ≡ rest)) }
@@ -179,9 +184,9 @@ impl<'a> Pattern<'a> {
         text: &'t [u8],
     ) -> Result<(NaiveDateTime, &'t [u8]), PatternReadError>
         ensures moment { IfOk result (λ r. IsMomentInFront self.now text.now r.0 r.1.now) }
-        ensures exists { (m : Moment) → (rest : List ℕ) → IsDate m.date → IsClockTime m.time → IsMomentInFront self.now text.now m rest
-            → IsOk result }
-        ensures only { (m : Moment) → (rest : List ℕ) → IsDate m.date → IsClockTime m.time → IsMomentInFront self.now text.now m rest
+        ensures clock { IfOk result (λ r. IsClockMoment r.0) }
+        ensures exists { (m : Moment) → (rest : List ℕ) → IsClockMoment m → IsMomentInFront self.now text.now m rest → IsOk result }
+        ensures only { (m : Moment) → (rest : List ℕ) → IsClockMoment m → IsMomentInFront self.now text.now m rest
             → IfOk result (λ r. (r.0 ≡ m) × (r.1.now ≡ rest)) }
         ensures error { IfErr result (IsFrontParseError names_moment self.now text.now) }
     {

@@ -30,6 +30,7 @@ impl Parsed {
     pub fn to_time(&self) -> Result<NaiveTime, ReadFault>
         ensures named { IfOk result (λ t. names_time self.now ≡ true) }
         ensures fits { IfOk result (λ t. time_fits self.now t ≡ true) }
+        ensures clock { IfOk result (λ t. IsClockTime t) }
         // So no two times fit parts that name one.
         ensures every { (t : TimeOfDay) → IsClockTime t → names_time self.now ≡ true → time_fits self.now t ≡ true → result ≡ Ok t }
         ensures not_enough { (result ≡ Err NotEnough) ↔ (names_time self.now ≡ false) }
@@ -91,6 +92,7 @@ pub(crate) fn fits_clock(parts: Parsed, time: NaiveTime) -> bool
 #[inline(always)]
 fn named_time(parts: Parsed) -> Option<NaiveTime>
     ensures fits { IfSome result (λ t. time_fits parts t ≡ true) }
+    ensures clock { IfSome result (λ t. IsClockTime t) }
     ensures every { (t : TimeOfDay) → IsClockTime t → names_time parts ≡ true → time_fits parts t ≡ true → result ≡ Some t }
 {
     let half = natural(parts.hour_div_12)?;
@@ -128,6 +130,7 @@ pub(crate) fn size_or_zero(part: Option<i32>) -> u32
 fn clock_time(half: u32, hour: u32, minute: u32, second: u32, nanos: u32) -> Option<NaiveTime>
     ensures every { (t : TimeOfDay) → IsClockTime t → half ≡ hour_of t / 12 → hour ≡ hour_of t % 12 → minute ≡ minute_of t
         → second ≡ second_of t + t.fraction / nanos_per_second → nanos ≡ t.fraction % nanos_per_second → result ≡ Some t }
+    ensures clock { IfSome result (λ t. IsClockTime t) }
     ensures half { IfSome result (λ t. half ≡ hour_of t / 12) }
     ensures hour { IfSome result (λ t. hour ≡ hour_of t % 12) }
     ensures minute { IfSome result (λ t. minute ≡ minute_of t) }

@@ -1,15 +1,12 @@
 //! Writes date-times in a zone by patterns, and reads them.
 ghost use Rattle.std.specs.Prelude.{◌≡◌, ◌↔◌, ◌≤◌, ℕ, ℤ, List, Ok, IfErr, IfOk, IfSome, IsOk, IsSome, length};
-ghost use Rattle.chrono_datetime.specs.Days.{IsDate};
-ghost use Rattle.chrono_datetime.specs.Moment.{IsMoment};
-ghost use Rattle.chrono_instant.specs.Offsets.{IsOffset, moment_ahead};
+ghost use Rattle.chrono_instant.specs.Offsets.{moment_ahead};
 ghost use Rattle.chrono_zoned.specs.Zoned.{Zoned, local_at, offset_at};
 ghost use Rattle.chrono_pattern.specs.DateParts.{is_present};
 ghost use Rattle.chrono_pattern.specs.NamedParts.{named_parts};
 ghost use Rattle.chrono_pattern.specs.Parses.{IsFrontParseError, IsParseError, IsZonedBy, IsZonedInFront};
 ghost use Rattle.chrono_pattern.specs.Patterns.{text_at_offset};
-ghost use Rattle.chrono_pattern.specs.TimeParts.{IsClockTime};
-ghost use Rattle.chrono_pattern.specs.ZonedParts.{names_zoned};
+ghost use Rattle.chrono_pattern.specs.ZonedParts.{IsClockZoned, names_zoned};
 
 use crate::error::PatternReadError;
 use crate::named_parts::named_parts;
@@ -79,8 +76,8 @@ impl<'a> Pattern<'a> {
     /// ```
     pub fn parse_zoned(&self, text: &[u8]) -> Result<DateTime<FixedOffset>, PatternReadError>
         ensures zoned { IfOk result (λ d. IsZonedBy self.now text.now (moment_ahead d.utc d.zone) d.zone) }
-        ensures every { (d : Zoned ℤ) → IsMoment d.utc → IsOffset d.zone → IsDate (moment_ahead d.utc d.zone).date
-            → IsClockTime (moment_ahead d.utc d.zone).time → IsZonedBy self.now text.now (moment_ahead d.utc d.zone) d.zone → result ≡ Ok d }
+        ensures clock { IfOk result (λ d. IsClockZoned d) }
+        ensures every { (d : Zoned ℤ) → IsClockZoned d → IsZonedBy self.now text.now (moment_ahead d.utc d.zone) d.zone → result ≡ Ok d }
         ensures error { IfErr result (IsParseError names_zoned self.now text.now) }
     {
         match self.read_parts(text) {
@@ -112,12 +109,11 @@ impl<'a> Pattern<'a> {
         text: &'t [u8],
     ) -> Result<(DateTime<FixedOffset>, &'t [u8]), PatternReadError>
         ensures zoned { IfOk result (λ r. IsZonedInFront self.now text.now (moment_ahead r.0.utc r.0.zone) r.0.zone r.1.now) }
-        ensures exists { (d : Zoned ℤ) → (rest : List ℕ) → IsMoment d.utc → IsOffset d.zone → IsDate (moment_ahead d.utc d.zone).date
-            → IsClockTime (moment_ahead d.utc d.zone).time → IsZonedInFront self.now text.now (moment_ahead d.utc d.zone) d.zone rest
-            → IsOk result }
-        ensures only { (d : Zoned ℤ) → (rest : List ℕ) → IsMoment d.utc → IsOffset d.zone → IsDate (moment_ahead d.utc d.zone).date
-            → IsClockTime (moment_ahead d.utc d.zone).time → IsZonedInFront self.now text.now (moment_ahead d.utc d.zone) d.zone rest
-            → IfOk result (λ r. (r.0 ≡ d) × (r.1.now ≡ rest)) }
+        ensures clock { IfOk result (λ r. IsClockZoned r.0) }
+        ensures exists { (d : Zoned ℤ) → (rest : List ℕ) → IsClockZoned d
+            → IsZonedInFront self.now text.now (moment_ahead d.utc d.zone) d.zone rest → IsOk result }
+        ensures only { (d : Zoned ℤ) → (rest : List ℕ) → IsClockZoned d
+            → IsZonedInFront self.now text.now (moment_ahead d.utc d.zone) d.zone rest → IfOk result (λ r. (r.0 ≡ d) × (r.1.now ≡ rest)) }
         ensures error { IfErr result (IsFrontParseError names_zoned self.now text.now) }
     {
         match self.read_front(text) {

@@ -1,12 +1,11 @@
 //! The date-time with its offset that the parts of a text give.
 ghost use Rattle.std.specs.Prelude.{◌≡◌, ◌↔◌, ◌-ℤ◌, ℤ, true, false, Ok, Err, Some, None, IfOk, IfSome, IfErr, ◌⊎◌};
-ghost use Rattle.chrono_datetime.specs.Days.{IsDate};
 ghost use Rattle.chrono_datetime.specs.Moment.{Moment, IsMoment};
 ghost use Rattle.chrono_instant.specs.Instants.{IsEpochSecond, epoch_second};
 ghost use Rattle.chrono_instant.specs.Offsets.{IsOffset, moment_ahead};
 ghost use Rattle.chrono_zoned.specs.Zoned.{Zoned};
-ghost use Rattle.chrono_pattern.specs.TimeParts.{IsClockTime, counts};
-ghost use Rattle.chrono_pattern.specs.ZonedParts.{moment_fits, names_zoned, zoned_fits};
+ghost use Rattle.chrono_pattern.specs.TimeParts.{counts};
+ghost use Rattle.chrono_pattern.specs.ZonedParts.{IsClockZoned, moment_fits, names_zoned, zoned_fits};
 ghost use Rattle.chrono_pattern.specs.Parts.{fault_of_parts};
 ghost use Rattle.chrono_pattern.specs.declared.error.ReadFault.TheVariants.{NotEnough, OutOfRange};
 
@@ -39,12 +38,12 @@ impl Parsed {
         }
     }
 
-    /// Returns the date-time with its offset that fits all parts, as chrono's `to_datetime` does.
+    /// Returns the date-time with its offset that fits all parts. It is chrono's `to_datetime`.
     ///
     /// It has to be named in one of these ways:
     ///
     /// - by its date, its time of day and its offset;
-    /// - by the seconds from 1970, with any other parts. Its offset is 0 if none is given.
+    /// - by the seconds from 1970, with any other parts. Its offset is 0 if none is given. chrono 0.4.23 asks for one.
     ///
     /// The date and the time of day are local ones. Second 60 and the seconds from 1970 go together as [`Parsed::to_date_time`] says.
     ///
@@ -64,9 +63,9 @@ impl Parsed {
         ensures named { IfOk result (λ d. names_zoned self.now ≡ true) }
         // The local date-time and the offset fit.
         ensures fits { IfOk result (λ d. zoned_fits self.now (moment_ahead d.utc d.zone) d.zone ≡ true) }
-        // So no two date-times of one offset fit parts that name one.
-        ensures every { (d : Zoned ℤ) → IsMoment d.utc → IsOffset d.zone → IsDate (moment_ahead d.utc d.zone).date
-            → IsClockTime (moment_ahead d.utc d.zone).time → names_zoned self.now ≡ true
+        ensures clock { IfOk result (λ d. IsClockZoned d) }
+        // So no two date-times with their offsets fit parts that name one.
+        ensures every { (d : Zoned ℤ) → IsClockZoned d → names_zoned self.now ≡ true
             → zoned_fits self.now (moment_ahead d.utc d.zone) d.zone ≡ true → result ≡ Ok d }
         ensures not_enough { (result ≡ Err NotEnough) ↔ (names_zoned self.now ≡ false) }
         ensures error { IfErr result (λ e. e ≡ fault_of_parts (names_zoned self.now)) }
@@ -98,8 +97,8 @@ pub(crate) fn names_zoned(parts: Parsed) -> bool
 fn zoned_by(parts: Parsed) -> Option<DateTime<FixedOffset>>
     requires { names_zoned parts ≡ true }
     ensures fits { IfSome result (λ d. zoned_fits parts (moment_ahead d.utc d.zone) d.zone ≡ true) }
-    ensures every { (d : Zoned ℤ) → IsMoment d.utc → IsOffset d.zone → IsDate (moment_ahead d.utc d.zone).date
-        → IsClockTime (moment_ahead d.utc d.zone).time → zoned_fits parts (moment_ahead d.utc d.zone) d.zone ≡ true → result ≡ Some d }
+    ensures clock { IfSome result (λ d. IsClockZoned d) }
+    ensures every { (d : Zoned ℤ) → IsClockZoned d → zoned_fits parts (moment_ahead d.utc d.zone) d.zone ≡ true → result ≡ Some d }
 {
     match named_offset(parts) {
         Some(offset) => match named_moment(&parts, offset) {
@@ -113,6 +112,7 @@ fn zoned_by(parts: Parsed) -> Option<DateTime<FixedOffset>>
 // The offset that is given, or else 0. Nothing if it is a day or more.
 fn named_offset(parts: Parsed) -> Option<FixedOffset>
     ensures counted { IfSome result (λ x. counts parts.offset x ≡ true) }
+    ensures in_range { IfSome result (λ x. IsOffset x) }
     ensures every { (x : ℤ) → IsOffset x → counts parts.offset x ≡ true → result ≡ Some x }
 {
     FixedOffset::east_opt(offset_or_zero(parts.offset))
@@ -133,6 +133,7 @@ fn offset_or_zero(offset: Option<i32>) -> i32
 fn at_local(local: NaiveDateTime, offset: FixedOffset) -> Option<DateTime<FixedOffset>>
     ensures local { IfSome result (λ d. moment_ahead d.utc d.zone ≡ local) }
     ensures zone { IfSome result (λ d. d.zone ≡ offset) }
+    ensures utc { IfSome result (λ d. IsMoment d.utc) }
     ensures every { (d : Zoned ℤ) → IsMoment d.utc → d.zone ≡ offset → moment_ahead d.utc d.zone ≡ local → result ≡ Some d }
 {
     let utc = local.checked_sub_offset(offset)?;
