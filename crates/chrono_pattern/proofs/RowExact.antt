@@ -10,7 +10,7 @@ use Rattle.chrono_pattern.specs.PatternSteps.{pattern_step}
 use Rattle.chrono_pattern.specs.Progress.{Progress, literal_read, stopped, then_read}
 use Rattle.chrono_pattern.specs.Reads.{end_read, front_read, read_from, text_read}
 use Rattle.chrono_pattern.specs.SubsecondReads.{subsecond_read}
-use Rattle.chrono_pattern.specs.TextPieces.{Both, InRow, IsByte, Reads, ReadsBetween, ReadsGroup, ReadsIso, ReadsItem, ReadsSigned, ReadsSimple, ReadsSubsecond, ReadsUtc, ReadsZoned, clock_items, group_items, usual}
+use Rattle.chrono_pattern.specs.TextPieces.{Both, InRow, IsByte, Reads, ReadsBetween, ReadsFront, ReadsGroup, ReadsIso, ReadsItem, ReadsSigned, ReadsSimple, ReadsSubsecond, ReadsUtc, ReadsZoned, clock_items, group_items, usual}
 use Rattle.chrono_pattern.specs.WordReads.{word_read}
 use Rattle.chrono_pattern.specs.declared.error.ReadFault.TheVariants.{Invalid, TooLong}
 use Rattle.chrono_pattern.specs.declared.item.GroupField.{GroupField}
@@ -322,7 +322,13 @@ from_exact : (bytes : List ℕ) → FromExact bytes
 from_exact [] s r q = nothing_exact r q (read_from s [] r) (items_from s []) (read_from-nothing s r) (items_from-nothing s)
 from_exact (c ∷ bytes) s r q = step_exact c bytes (from_exact bytes) s r q (pattern_step s c) refl
 
--- ---- whole texts
+-- ---- fronts and whole texts
+
+-- a pattern reads the front of a text exactly if this is pieces in a row
+pub front_exact : (bytes text : List ℕ) (parts : Parsed) (rest : List ℕ)
+    → (front_read bytes text ≡ Ok (at_rest rest parts) → ReadsFront (pattern_items bytes) text parts rest)
+    × (ReadsFront (pattern_items bytes) text parts rest → front_read bytes text ≡ Ok (at_rest rest parts))
+front_exact bytes text parts rest = from_exact bytes Outside (at_rest text no_parts) (at_rest rest parts)
 
 end_by : (bytes text : List ℕ) (parts : Parsed) (q : Progress) → front_read bytes text ≡ Ok q → (b : Bool) → (length q.rest == 0) ≡ b
     → (if b then Ok q.parsed else Err (stopped TooLong q.rest)) ≡ Ok parts → Reads (pattern_items bytes) text parts

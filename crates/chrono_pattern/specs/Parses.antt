@@ -4,7 +4,9 @@ use Rattle.chrono_datetime.specs.Moment.{Moment}
 use Rattle.chrono_datetime.specs.Time.{TimeOfDay}
 use Rattle.chrono_pattern.specs.DateParts.{date_fits, names_date}
 use Rattle.chrono_pattern.specs.Parts.{fault_of_parts}
+use Rattle.chrono_pattern.specs.PatternItems.{pattern_items}
 use Rattle.chrono_pattern.specs.Reads.{front_read, read_error, text_read}
+use Rattle.chrono_pattern.specs.TextPieces.{ReadsFront}
 use Rattle.chrono_pattern.specs.TimeParts.{names_time, time_fits}
 use Rattle.chrono_pattern.specs.ZonedParts.{moment_fits, names_moment, names_zoned, zoned_fits}
 use Rattle.chrono_pattern.specs.declared.error.PatternReadError.{PatternReadError}
@@ -27,14 +29,14 @@ pub record IsTimeBy (bytes text : List ℕ) (t : TimeOfDay) : Type 0 where
 -- the front of the text is of the date, by the pattern, and this is behind it
 pub record IsDateInFront (bytes text : List ℕ) (n : ℤ) (rest : List ℕ) : Type 0 where
   pub parts : Parsed
-  pub read : front_read bytes text ≡ Ok (record { rest = rest; parsed = parts })
+  pub read : ReadsFront (pattern_items bytes) text parts rest
   pub named : names_date parts ≡ true
   pub fits : date_fits parts n ≡ true
 
 -- the front of the text is of the time of day, by the pattern, and this is behind it
 pub record IsTimeInFront (bytes text : List ℕ) (t : TimeOfDay) (rest : List ℕ) : Type 0 where
   pub parts : Parsed
-  pub read : front_read bytes text ≡ Ok (record { rest = rest; parsed = parts })
+  pub read : ReadsFront (pattern_items bytes) text parts rest
   pub named : names_time parts ≡ true
   pub fits : time_fits parts t ≡ true
 
@@ -48,7 +50,7 @@ pub record IsMomentBy (bytes text : List ℕ) (m : Moment) : Type 0 where
 -- the front of the text is of the date-time, by the pattern, and this is behind it
 pub record IsMomentInFront (bytes text : List ℕ) (m : Moment) (rest : List ℕ) : Type 0 where
   pub parts : Parsed
-  pub read : front_read bytes text ≡ Ok (record { rest = rest; parsed = parts })
+  pub read : ReadsFront (pattern_items bytes) text parts rest
   pub named : names_moment parts ≡ true
   pub fits : moment_fits parts m (pos 0) ≡ true
 
@@ -62,7 +64,7 @@ pub record IsZonedBy (bytes text : List ℕ) (m : Moment) (x : ℤ) : Type 0 whe
 -- the front of the text is of the local date-time with that offset, by the pattern, and this is behind it
 pub record IsZonedInFront (bytes text : List ℕ) (m : Moment) (x : ℤ) (rest : List ℕ) : Type 0 where
   pub parts : Parsed
-  pub read : front_read bytes text ≡ Ok (record { rest = rest; parsed = parts })
+  pub read : ReadsFront (pattern_items bytes) text parts rest
   pub named : names_zoned parts ≡ true
   pub fits : zoned_fits parts m x ≡ true
 

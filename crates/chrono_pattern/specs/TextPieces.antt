@@ -327,6 +327,10 @@ ReadsItem (Group group) r q = ReadsGroup group r q
 ReadsItem (Subsecond point count) r q = ReadsSubsecond point count r q
 ReadsItem (Zoned field) r q = ReadsZoned field r q
 
--- A text that the items of a pattern read, and the parts that it gives: it is their pieces in a row, and nothing is behind them.
+-- A text whose front the items of a pattern read, the parts that this gives, and the rest: the front is their pieces in a row.
+abbrev pub ReadsFront : List Item → List ℕ → Parsed → List ℕ → Type 0
+ReadsFront items text parts rest = InRow ReadsItem items (at_rest text no_parts) (at_rest rest parts)
+
+-- a text that they read: nothing is behind its front
 abbrev pub Reads : List Item → List ℕ → Parsed → Type 0
-Reads items text parts = InRow ReadsItem items (at_rest text no_parts) (at_rest [] parts)
+Reads items text parts = ReadsFront items text parts []

@@ -24,8 +24,8 @@ ghost use Rattle.chrono_pattern.specs.PatternItems.{pattern_items};
 ghost use Rattle.chrono_pattern.specs.Kept.{LosesNothing, given_parts, keeps_stamp, keeps_year, tells_date, tells_moment, tells_time, tells_zoned};
 ghost use Rattle.chrono_pattern.specs.ReadBack.{parts_of};
 ghost use Rattle.chrono_pattern.specs.Separable.{is_separable};
-ghost use Rattle.chrono_pattern.specs.Reads.{text_read};
-ghost use Rattle.chrono_pattern.specs.TextPieces.{Reads};
+ghost use Rattle.chrono_pattern.specs.Reads.{front_read, text_read};
+ghost use Rattle.chrono_pattern.specs.TextPieces.{Reads, ReadsFront};
 ghost use Rattle.chrono_pattern.specs.YearWeeks.{week_from_monday, week_from_sunday};
 ghost use Rattle.chrono_pattern.specs.declared.error.ReadFault.TheVariants.{Impossible, Invalid, OutOfRange, TooLong, TooShort};
 ghost use Rattle.chrono_pattern.specs.CutFractions.{as_written};
@@ -199,11 +199,14 @@ pub fn offsets_are_read_as_they_are_written()
     ensures nothing { offset_written false 9 [] 30 ≡ codes "+0930" }
 {}
 
-/// States that a pattern reads exactly the texts that are pieces in a row, one for each of its items, and with which parts.
+/// States that a pattern reads exactly the texts that are pieces in a row, one for each of its items, and with which parts. The same is so of
+/// the front of a text, with what is behind it.
 ///
 /// `Reads` says what the piece of each item is, and not how a reader finds it: blanks and digits for a number, letters of any case for a word.
 pub fn texts_are_read_by_their_pieces()
     ensures exact { (bytes text : List ℕ) → (parts : Parsed) → text_read bytes text ≡ Ok parts ↔ Reads (pattern_items bytes) text parts }
+    ensures front { (bytes text : List ℕ) → (parts : Parsed) → (rest : List ℕ)
+        → front_read bytes text ≡ Ok (record { rest = rest; parsed = parts }) ↔ ReadsFront (pattern_items bytes) text parts rest }
 {}
 
 /// States where known texts of an offset and of the seconds from 1970 are wrong, by the bytes that are left:

@@ -13,7 +13,7 @@ ghost use Rattle.chrono_pattern.specs.declared.item.State.TheVariants.{Outside};
 ghost use Rattle.chrono_pattern.specs.ZonedParts.{names_moment};
 ghost use Rattle.chrono_pattern.specs.declared.stop.Stop.{Stop};
 ghost use Rattle.chrono_pattern.specs.PatternItems.{pattern_items};
-ghost use Rattle.chrono_pattern.specs.TextPieces.{Reads};
+ghost use Rattle.chrono_pattern.specs.TextPieces.{Reads, ReadsFront};
 ghost use Rattle.chrono_pattern.specs.declared.parsed.Parsed.{Parsed};
 ghost use Rattle.chrono_pattern.specs.Patterns.{IsPattern, begun_at, cut_error, pattern_error, pattern_text};
 
@@ -88,8 +88,8 @@ impl<'a> Pattern<'a> {
     /// | `%H` `%k` `%I` `%l` | hour; hour of the half day, from 1 to 12. `%k` and `%l` have a space for a digit |
     /// | `%p` `%P` | `AM` or `PM`; `am` or `pm` |
     /// | `%M` `%S` `%f` | minute; second, 60 in a leap second; nanoseconds in nine digits |
-    /// | `%3f` `%6f` `%9f` | so many digits of the fraction of the second |
-    /// | `%.3f` `%.6f` `%.9f` `%.f` | the same behind a point; as few of them as hold it, with no point for none |
+    /// | `%3f` `%6f` `%9f` | the first digits of the fraction of the second, so many of them |
+    /// | `%.3f` `%.6f` `%.9f` `%.f` | the same behind a point; three, six or nine digits, the fewest that hold it, with no point for none |
     /// | `%F` `%D` `%T` `%R` | `%Y-%m-%d`, `%m/%d/%y`, `%H:%M:%S`, `%H:%M` |
     /// | `%x` `%X` `%r` | `%m/%d/%y`, `%H:%M:%S`, `%I:%M:%S %p` |
     /// | `%c` `%v` | `%a %b %e %H:%M:%S %Y`, `%e-%b-%Y` |
@@ -99,7 +99,11 @@ impl<'a> Pattern<'a> {
     /// | `%+` | `%Y-%m-%dT%H:%M:%S%.f%:z` (RFC 3339) |
     /// | `%n` `%t` `%%` | line feed, tab, `%` |
     ///
-    /// Before a number, `-` asks for no padding, `_` for spaces, and `0` for zeros: `%-d`. They change nothing at `%s`.
+    /// A number is filled up to four digits by `%Y` and `%G`, to three by `%j`, to nine by `%f`, to one by `%q`, `%u`, `%w` and `%s`. All others
+    /// fill it up to two, of which the sign of `%C` is one. Before a number, `-` asks for no padding, `_` for spaces, and `0` for zeros: `%-d`.
+    /// They change nothing at `%s`.
+    ///
+    /// Writing cuts and never rounds: `%.3f` of 999,999 microseconds is `.999`. What a pattern does not write is left out in the same way.
     ///
     /// What is smaller than the last number of an offset is left out. GNU date does so too, but not for `%:::z`, where it writes what there is.
     /// Such an offset keeps its sign: half a minute behind UTC is `-0000`. So the text of `%+` names another instant if the offset has seconds.
@@ -205,10 +209,13 @@ impl<'a> Pattern<'a> {
         names_moment(named_parts(self.bytes))
     }
 
-    /// Returns whether each text of a year from 0 to 9999 shows where every item ends. Then it reads back what it writes.
+    /// Returns whether the pattern is separable for the years 0 to 9999. Then each of its texts shows where every item ends, and it reads back
+    /// what it writes. The law `separable_patterns_read_back` says what that is.
     ///
     /// Such a pattern has no digit behind a number with fewer digits than are read at most. So `%Y%m%d` is separable, and `%Y%-m%d` is not.
-    /// Nothing reads the name of a zone, so no pattern with `%Z` is. The law `separable_patterns_read_back` says what is read back.
+    /// No pattern with `%Z` is, since `%Z` reads all bytes up to a blank, also those of what stands behind it.
+    ///
+    /// The test suffices and is not needed: `%R %Z` reads each of its texts too, though it is not separable.
     ///
     /// ```
     /// Pattern::new(b"%Y%m%d").ok()?.is_separable() // true
@@ -237,11 +244,13 @@ impl<'a> Pattern<'a> {
 
     /// Returns the parts that `text` gives.
     ///
-    /// - A blank of the pattern stands for any blanks and for none. Blanks before a number are left out.
-    /// - A number has one digit or more, at most those of its specifier, and as many as stand there. `%Y` and `%G` have at most four. They
-    ///   may have a sign, and then at most nine.
-    /// - `%f` is a number of nanoseconds. `%.f` and its like are a point and any digits behind it, or nothing.
-    /// - Names are in letters of any case. `%B` and `%A` read three letters too.
+    /// - A blank of the pattern stands for any blanks and for none. Blanks are also skipped before a number, an offset and `%s`, and nowhere
+    ///   else: not before a name, a fraction or another byte. A blank is a space or one of the bytes 9 to 13.
+    /// - A number takes all digits that stand there, at least one, and at most four by `%Y` and `%G`, three by `%j`, nine by `%f`, one by `%q`,
+    ///   `%u` and `%w`, and two by all others. `%Y` and `%G` may have a sign, and then at most nine digits. A padding changes nothing.
+    /// - `%f` is a number of nanoseconds: by it `5` is five of them. `%3f`, `%6f` and `%9f` read just so many digits of a fraction: by `%3f` `500`
+    ///   is half a second. `%.f`, `%.3f`, `%.6f` and `%.9f` are a point and any digits behind it, of which nine count, or nothing.
+    /// - Names are in letters of any case. `%B` and `%A` read three letters too, and `%b`, `%h` and `%a` only these.
     /// - `%z` and `%:z` are a sign, hours of two digits, and minutes below 60 of two digits. Any colons and blanks may be between them, and
     ///   none have to be. `%::z` also reads a colon and seconds, if a colon is there. `%:::z` and `%#z` may have no minutes: if no digit is
     ///   behind the colons and blanks, these are left alone. So `%:::z %H` reads the 09 of `+05 09` as minutes. An offset is less than a day.
@@ -250,7 +259,9 @@ impl<'a> Pattern<'a> {
     /// - `%+` is read as `%F`, then `T`, `t` or a space, then `%T%.f%:z`. `Z`, `z` or `UTC` in any case may be in place of the offset.
     /// - A field that stands twice has the same value in both places.
     ///
-    /// chrono 0.4.23 writes more than it reads: it reads no seconds of `%::z`, no `%:::z` without minutes, and no `%s` below 0.
+    /// chrono 0.4.23 reads no seconds of `%::z`, no `%:::z` without minutes, and no `%s` below 0, though it writes them. By `%+` it reads
+    /// RFC 3339 alone, and no other form. It has no `%q`. It reads any number of digits behind the sign of a year, and skips the white space of
+    /// Unicode. It looks at the range of an hour, a minute and a second only where a time is asked for.
     ///
     /// # Errors
     ///
@@ -290,6 +301,11 @@ impl<'a> Pattern<'a> {
     /// rest // [32, 90]
     /// ```
     pub fn read_front<'t>(&self, text: &'t [u8]) -> Result<(Parsed, &'t [u8]), PatternReadError>
+        // The front is pieces in a row, one for each item of the pattern.
+        ensures front { IfOk result (λ r. ReadsFront (pattern_items self.now) text.now r.0 r.1.now) }
+        ensures exists { (p : Parsed) → (rest : List ℕ) → ReadsFront (pattern_items self.now) text.now p rest → IsOk result }
+        ensures only { (p : Parsed) → (rest : List ℕ) → ReadsFront (pattern_items self.now) text.now p rest
+            → IfOk result (λ r. (r.0 ≡ p) × (r.1.now ≡ rest)) }
         ensures parts { IfOk result (λ r. front_read self.now text.now ≡ Ok (record { rest = r.1.now; parsed = r.0 })) }
         ensures error { IfErr result (λ e. (stop : Stop) × (front_read self.now text.now ≡ Err stop) × (e ≡ read_error text.now stop)) }
     {
