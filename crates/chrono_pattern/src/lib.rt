@@ -9,8 +9,14 @@
 //! Pattern::new(b"%e %B %Y").ok()?.parse_date(b"29 february 2024").ok() // Some(2024-02-29)
 //! ```
 //!
-//! The specifiers, listed at [`Pattern::new`], are chrono's. They have the same texts, with English names. But `%Z` writes an offset
-//! for every zone, and no name such as `UTC` or `CET`. A pattern borrows its bytes, and nothing here allocates.
+//! The specifiers, listed at [`Pattern::new`], are chrono's, with English names. They write what chrono 0.4.23 writes, but for these:
+//!
+//! - `%U` in years that begin on Monday, and `%W` in those that begin on Tuesday: chrono counts one week more than GNU date and Python;
+//! - `%q`, which chrono 0.4.23 does not have, and `%#z`, which it only reads;
+//! - `%Z`, which writes an offset for every zone, and no name such as `UTC` or `CET`.
+//!
+//! What is read otherwise than in chrono stands at [`Pattern::read_parts`], [`Parsed::to_date`] and [`Parsed::to_zoned`].
+//! A pattern borrows its bytes, and nothing here allocates.
 #![tactic(auto)]
 
 mod class;

@@ -165,7 +165,7 @@ fn takes_subsecond(bar: Bar, point: bool, count: u8) -> bool
     }
 }
 
-// Whether an offset or the seconds from 1970 may. Nothing reads the name of a zone.
+// Whether an offset or the seconds from 1970 may. The name of a zone has no end but a blank.
 fn takes_zoned(bar: Bar, field: ZonedField) -> bool
     ensures { result ≡ takes_zoned bar field }
 {
