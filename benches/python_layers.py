@@ -12,6 +12,7 @@ processor time. A row has the time of a call, or of an instance of a rule, of ou
 import datetime
 import itertools
 import os
+import random
 import sys
 import tempfile
 import time
@@ -124,6 +125,20 @@ def time_open_days(ours, rounds):
         tell(f"{name}, with {len(calendar.holidays)} holidays", mine, nanos(lambda: [their_call(it) for it in their_starts], 1000, rounds))
 
 
+def time_own_zone(ours, rounds, their_zone, moments, theirs, to_zone):
+    """The same moments by a Zone, in order and not, and back to UTC; how long zoneinfo takes to its clock is known."""
+    zone, utc, count = ours.Zone(their_zone.key), datetime.timezone.utc, len(moments)
+    shown, theirs_shown = [it.astimezone(zone) for it in moments], [it.astimezone(their_zone) for it in theirs]
+    wanted("Zone", [(it.replace(tzinfo=None), it.fold) for it in shown], [(it.replace(tzinfo=None), it.fold) for it in theirs_shown])
+    wanted("Zone, back", [it.astimezone(utc) for it in shown], [it.astimezone(utc) for it in theirs_shown])
+    mixed = random.Random(67).sample(moments, count)
+    tell("`astimezone(Zone)`", nanos(lambda: [it.astimezone(zone) for it in moments], count, rounds), to_zone)
+    tell("`astimezone(Zone)`, in any order", nanos(lambda: [it.astimezone(zone) for it in mixed], count, rounds), to_zone)
+    back = nanos(lambda: [it.astimezone(utc) for it in theirs_shown], count, rounds)
+    tell("`astimezone(utc)` from a `Zone`", nanos(lambda: [it.astimezone(utc) for it in shown], count, rounds), back)
+    tell("`utcoffset` in a `Zone`", nanos(lambda: [it.utcoffset() for it in shown], count, rounds), nanos(lambda: [it.utcoffset() for it in theirs_shown], count, rounds))
+
+
 def time_zones(ours, rounds):
     """Times of UTC by New York's clock, one by one and as a column, and their offsets."""
     from proved_calendar import columns
@@ -136,7 +151,9 @@ def time_zones(ours, rounds):
     offsets = [it.astimezone(zone).utcoffset() for it in theirs]
     wanted("offsets", columns.offsets(column, zone).tolist(), offsets)
     of_theirs = nanos(lambda: [it.astimezone(zone).utcoffset() for it in theirs], count, rounds)
-    tell("`astimezone`", nanos(lambda: [it.astimezone(zone) for it in moments], count, rounds), nanos(lambda: [it.astimezone(zone) for it in theirs], count, rounds))
+    to_zone = nanos(lambda: [it.astimezone(zone) for it in theirs], count, rounds)
+    tell("`astimezone` by zoneinfo's class", nanos(lambda: [it.astimezone(zone) for it in moments], count, rounds), to_zone)
+    time_own_zone(ours, rounds, zone, moments, theirs, to_zone)
     tell("`columns.offsets`, all different", nanos(lambda: columns.offsets(column, zone), count, rounds), of_theirs)
     for name, step in (("each hour", 3_600), ("each minute", 60)):
         often = column[:1] + numpy.arange(count) * numpy.timedelta64(step, "s")

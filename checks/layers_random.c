@@ -418,6 +418,12 @@ static void zones(void)
     fill(&schedule, sizeof schedule);
     calendar_date_time start = moment(), next = calendar_zone_schedule_next(&schedule, given, length, start);
     HOLDS(!is_moment(next) || (is_zone && is_before(start, next)));
+    calendar_date_time last = calendar_zone_schedule_prev(&schedule, given, length, start);
+    HOLDS(!is_moment(last) || (is_zone && is_before(last, start)));
+    if (is_moment(next) && is_moment(last)) {
+        calendar_date_time back = calendar_zone_schedule_prev(&schedule, given, length, next);
+        HOLDS(is_moment(back) && !is_before(back, last) && !is_before(start, back));
+    }
     free(given);
     fill(&fault, sizeof fault);
     fault.code = (uint32_t)(any() % 20);

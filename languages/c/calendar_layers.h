@@ -327,7 +327,7 @@ enum {
 typedef struct {
     /* 0 if the clock skips the local time, 1, or 2 if it shows it twice */
     uint32_t count;
-    /* at the only instant, or at the earlier one */
+    /* at the only instant, or at the earlier one; 0 if there is none */
     int32_t earlier;
     /* the same, or at the later one */
     int32_t later;
@@ -346,14 +346,18 @@ int32_t calendar_zone_offset_at(const uint8_t *zone, size_t length, int64_t seco
 /* Returns the offsets at all instants at which the zone's clock shows a local second. */
 calendar_offsets calendar_zone_offsets_of_local(const uint8_t *zone, size_t length, int64_t local);
 
-/* Returns a later second, up to which the zone keeps the offset of an instant: the next change, or INT64_MAX if there is none. The zone
- * can change to the same offset there. Returns INT64_MIN if the bytes are no zone. */
+/* Returns the next second at which the zone sets its clock, up to which it keeps the offset of an instant, or INT64_MAX if there is none.
+ * The zone can set it to the same offset there. Returns INT64_MIN if the bytes are no zone. */
 int64_t calendar_zone_holds_until(const uint8_t *zone, size_t length, int64_t second);
 
 /* Returns the first instant after start at which a schedule fires in the zone. Both are date-times in UTC. A time that the clock skips
  * fires as the gap ends, and one that it shows twice fires once. But a schedule that lists every minute or every hour goes by what the
  * clock shows. So do Vixie's cron and cronie. If there is none, returns 0 seconds and CALENDAR_NO_NANOS. */
 calendar_date_time calendar_zone_schedule_next(const calendar_schedule *schedule, const uint8_t *zone, size_t length,
+                                               calendar_date_time start);
+
+/* Returns the last instant before start at which a schedule fires in the zone, by the same rules. */
+calendar_date_time calendar_zone_schedule_prev(const calendar_schedule *schedule, const uint8_t *zone, size_t length,
                                                calendar_date_time start);
 
 /* ---- day counts */

@@ -35,6 +35,21 @@ static void schedules(void)
     }
 }
 
+/* == schedules in a zone */
+static void schedules_in_a_zone(void)
+{
+    const char *berlin = "CET-1CEST,M3.5.0,M10.5.0/3";
+    calendar_schedule nightly;
+    calendar_fault fault;
+    if (calendar_schedule_read(BYTES("30 2 * * *"), &nightly, &fault)) {
+        /* 12:00 in UTC on 30 March 2024, before the night in which the clock skips 02:30 */
+        calendar_date_time start = {.seconds = 1711800000};
+        calendar_date_time next = calendar_zone_schedule_next(&nightly, BYTES(berlin), start);
+        printf("%lld\n", (long long)next.seconds); /* = 1711846800 */
+        printf("%lld\n", (long long)calendar_zone_schedule_prev(&nightly, BYTES(berlin), next).seconds); /* = 1711762200 */
+    }
+}
+
 /* == recurrence rules */
 static void recurrence_rules(void)
 {
@@ -93,6 +108,7 @@ int main(void)
 {
     patterns();
     schedules();
+    schedules_in_a_zone();
     recurrence_rules();
     open_days();
     holidays();

@@ -10,8 +10,11 @@ use Rattle.zone_file.specs.ZoneFiles.{IsZoneFile}
 use Rattle.zone_file.specs.declared.rows.ZoneRowsError.{ZoneRowsError}
 use Rattle.zone_file.specs.declared.rows.ZoneRowsError.TheVariants.{NoRoom, NoRow}
 use Rattle.zone.specs.Parts.{IsZone, ZoneParts}
-use Rattle.zone_database.specs.OwnedZones.{IsFooterOf, IsZoneOfFile}
+use Rattle.zone_database.specs.OwnedZones.{IsFileWith, IsFooterOf, IsZoneOfFile}
 use Rattle.layers_c.specs.Zones.{IsZoneOfShortFile}
+use Rattle.layers_c.specs.ZoneFaults.{IsFileReason, IsPartsReason}
+use Rattle.layers_c.specs.declared.zone_bytes.NoZone.{NoZone}
+use Rattle.layers_c.specs.declared.zone_bytes.NoZone.TheVariants.{File, FirstKind, Rows, Rule, Parts}
 use Rattle.layers_c.proofs.ZoneLemmas.{same_parts, same_rows}
 
 -- why there is no value, told of something else
@@ -50,6 +53,50 @@ module _ (bytes : List ℕ) (version : ℕ) (times places kinds names footer : L
   pub rows_taken : (n : ℕ) (room : List Row) → AreFileRows version times places kinds n room → AreFileRows version times places kinds n (take n room)
   rows_taken n room are k lt = subst (λ (row : Row). IsFileRow version times places kinds k row) (sym (get_or-take n room k no_row lt)) (are k lt)
 
+  -- what the parts that were read make up
+  pub of_file : (first : ℤ) (is_dst : Bool) (name : List ℕ) (room : List Row) (n : ℕ) (rule : Option ZoneRule)
+      → IsZoneFile bytes version times places kinds names footer → IsKind kinds names 0 first is_dst name → n ≡ length places → n ≤ length room
+      → AreFileRows version times places kinds n room → IsFooterOf footer rule → IsZoneOfFile bytes (record { first = first; rows = take n room; rule = rule })
+  of_file first is_dst name room n rule file kind count within rows written =
+      let long : length (take n room) ≡ n = length-take-le n room within in
+      record {
+        version = version;
+        times = times;
+        places = places;
+        kinds = kinds;
+        names = names;
+        footer = footer;
+        file = file;
+        is_dst = is_dst;
+        first_name = name;
+        first = kind;
+        count = long ∙ count;
+        rows = subst (λ m. AreFileRows version times places kinds m (take n room)) count (rows_taken n room rows);
+        rule = written;
+      }
+
+  -- a fault of those is one of the file
+  pub faulty_parts : (z : ZoneParts) → IsZoneOfFile bytes z → (why : NoZone) → IsPartsReason z why → IsFileReason bytes why
+  faulty_parts z held (Parts fault) is = record { zone = z; held = held; faulty = is }
+  faulty_parts z held (File _) is = absurd is
+  faulty_parts z held FirstKind is = absurd is
+  faulty_parts z held (Rows _) is = absurd is
+  faulty_parts z held (Rule _ _) is = absurd is
+
+  -- a file of these parts is one of which P is true
+  pub file_with : (P : ℕ → List ℕ → List ℕ → List ℕ → List ℕ → List ℕ → Type 0) → IsZoneFile bytes version times places kinds names footer
+      → P version times places kinds names footer → IsFileWith bytes P
+  file_with P file is = record {
+    version = version;
+    times = times;
+    places = places;
+    kinds = kinds;
+    names = names;
+    footer = footer;
+    file = file;
+    is = is;
+  }
+
   -- the zone of the parts that were read
   pub held_zone : (first : ℤ) (is_dst : Bool) (name : List ℕ) (room : List Row) (n : ℕ) (rule : Option ZoneRule)
       → IsZoneFile bytes version times places kinds names footer → IsKind kinds names 0 first is_dst name → n ≡ length places → n ≤ length room
@@ -58,21 +105,7 @@ module _ (bytes : List ℕ) (version : ℕ) (times places kinds names footer : L
   held_zone first is_dst name room n rule file kind count within all rows written z is =
       let long : length (take n room) ≡ n = length-take-le n room within in
       subst (λ (y : ZoneParts). IsZoneOfShortFile bytes y) (sym is.0) (record {
-        file = record {
-          version = version;
-          times = times;
-          places = places;
-          kinds = kinds;
-          names = names;
-          footer = footer;
-          file = file;
-          is_dst = is_dst;
-          first_name = name;
-          first = kind;
-          count = long ∙ count;
-          rows = subst (λ m. AreFileRows version times places kinds m (take n room)) count (rows_taken n room rows);
-          rule = written;
-        };
+        file = of_file first is_dst name room n rule file kind count within rows written;
         zone_is = subst IsZone is.0 is.1;
         few = omega (arith, long, within, all);
       })

@@ -13,6 +13,9 @@ use Rattle.zone.specs.declared.fault.ZoneFault.TheVariants.{NotJoined, Unordered
 use Rattle.zone_text.specs.ZoneTexts.{IsZoneText}
 use Rattle.zone_database.specs.OwnedZones.{IsFooterOf, IsZoneRuleText}
 use Rattle.layers_c.specs.Zones.{IsZoneOfRule, zone_of_rule}
+use Rattle.layers_c.specs.ZoneFaults.{IsPartsReason, IsTextReason}
+use Rattle.layers_c.specs.declared.zone_bytes.NoZone.{NoZone}
+use Rattle.layers_c.specs.declared.zone_bytes.NoZone.TheVariants.{File, FirstKind, Rows, Rule, Parts}
 
 -- parts with a fault make up no zone
 pub faulty : (z : ZoneParts) (f : ZoneFault) → IsFault z f → IsZone z → ⊥
@@ -78,3 +81,13 @@ only_zone text rows rule none every z is y held =
     no_rows : (rows : List Row) → length rows ≡ 0 → rows ≡ []
     no_rows [] none = refl
     no_rows (row ∷ rest) none = absurd (omega (arith, none))
+
+-- with no row a rule is a zone always
+pub text_reason : (text : List ℕ) (first : ℤ) (rows : List Row) (rule : ZoneRule) → length rows ≡ 0 → (why : NoZone)
+    → IsPartsReason (record { first = first; rows = rows; rule = Some rule }) why → IsTextReason text why
+text_reason text first rows rule none (Parts (Unordered k)) is = let in_range = is.in_range in absurd (omega (arith, none, in_range))
+text_reason text first rows rule none (Parts NotJoined) is = absurd (is.1 (λ some. absurd (omega (arith, none, some))))
+text_reason text first rows rule none (File _) is = absurd is
+text_reason text first rows rule none FirstKind is = absurd is
+text_reason text first rows rule none (Rows _) is = absurd is
+text_reason text first rows rule none (Rule _ _) is = absurd is

@@ -7,5 +7,6 @@ pub mod OpenDays
 pub mod Patterns
 pub mod Rules
 pub mod Schedules
+pub mod ZoneFaults
 pub mod Zones
 pub mod ZonedSchedules

@@ -1,5 +1,5 @@
 -- Zones by the bytes that hold them: those of a TZif file, or the text of a rule.
-use Rattle.std.specs.Prelude.{◌≡◌, ◌≤◌, ◌==◌, if◌then◌else◌, ℕ, ℤ, Bool, true, false, List, [], length, codes, eqb, Option, Some, None as Nothing}
+use Rattle.std.specs.Prelude.{◌≡◌, ◌≤◌, ℕ, ℤ, pos, Bool, true, false, List, [], length, codes, eqb, Some}
 use Rattle.std.specs.List.{starts_with}
 use Rattle.chrono_zoned.specs.declared.mapped_local_time.MappedLocalTime.{MappedLocalTime}
 use Rattle.chrono_zoned.specs.declared.mapped_local_time.MappedLocalTime.TheVariants.{None, Single, Ambiguous}
@@ -33,14 +33,15 @@ pub record HoldsZone (bytes : List ℕ) (zone : ZoneParts) : Type 0 where
   pub file : is_of_file bytes ≡ true → IsZoneOfShortFile bytes zone
   pub text : is_of_file bytes ≡ false → IsZoneOfRule bytes zone
 
--- the offsets of a local time by how many there are, and two numbers; any other number stands for no answer
-abbrev pub offsets_numbered : ℕ → ℤ → ℤ → Option (MappedLocalTime ℤ)
-offsets_numbered n earlier later =
-    if n == 0 then Some None else if n == 1 then Some (Single earlier) else if n == 2 then Some (Ambiguous earlier later) else Nothing
+-- the offsets of a local time as numbers: how many there are, and the earlier and the later, which are zero without one
+abbrev pub offset_numbers : MappedLocalTime ℤ → CalendarOffsets
+offset_numbers None = record { count = 0; earlier = pos 0; later = pos 0 }
+offset_numbers (Single x) = record { count = 1; earlier = x; later = x }
+offset_numbers (Ambiguous x y) = record { count = 2; earlier = x; later = y }
 
--- the same by the numbers of C
-unfoldable pub offsets_from_c : CalendarOffsets → Option (MappedLocalTime ℤ)
-offsets_from_c a = offsets_numbered a.count a.earlier a.later
+-- the numbers of no zone
+abbrev pub no_offsets : CalendarOffsets
+no_offsets = record { count = 4_294_967_295; earlier = pos 0; later = pos 0 }
 
 -- a part from a byte up to another lies within a length
 pub record IsPartOf (byte end length : ℕ) : Type 0 where

@@ -4,6 +4,7 @@ ghost use Rattle.zone.specs.Parts.{IsZone, ZoneParts};
 ghost use Rattle.zone_rule.specs.declared.rule.ZoneRule.{ZoneRule};
 ghost use Rattle.zone_database.specs.OwnedZones.{IsFooterOf};
 ghost use Rattle.layers_c.specs.Zones.{HoldsZone, IsZoneOfRule, IsZoneOfShortFile, is_of_file};
+ghost use Rattle.layers_c.specs.ZoneFaults.{IsFileReason, IsPartsReason, IsReason, IsTextReason};
 
 use zone::{FixedOffset, Row, Zone, ZoneFault, ZoneRule};
 use zone_file::{ZoneFileError, ZoneRowsError};
@@ -43,6 +44,7 @@ pub(crate) fn zone_of<'a>(bytes: &[u8], room: &'a mut [Row]) -> Result<Zone<'a>,
     ensures held { IfOk result (λ z. HoldsZone bytes.now z) }
     ensures only { IfOk result (λ z. (y : ZoneParts) → HoldsZone bytes.now y → z ≡ y) }
     ensures none { IfErr result (λ _. (y : ZoneParts) → ¬ HoldsZone bytes.now y) }
+    ensures why { IfErr result (λ why. IsReason bytes.now why) }
 {
     if is_of_file(bytes) {
         zone_of_file(bytes, room)
@@ -65,6 +67,7 @@ fn zone_of_rule<'a>(text: &[u8], rows: &'a [Row]) -> Result<Zone<'a>, NoZone>
     ensures held { IfOk result (λ z. IsZoneOfRule text.now z) }
     ensures only { IfOk result (λ z. (y : ZoneParts) → IsZoneOfRule text.now y → z ≡ y) }
     ensures none { IfErr result (λ _. (y : ZoneParts) → ¬ IsZoneOfRule text.now y) }
+    ensures why { IfErr result (λ why. IsTextReason text.now why) }
 {
     match zone_text::read(text) {
         Ok(read) => {
@@ -89,6 +92,7 @@ fn zone_of_file<'a>(bytes: &[u8], room: &'a mut [Row]) -> Result<Zone<'a>, NoZon
     ensures held { IfOk result (λ z. IsZoneOfShortFile bytes.now z) }
     ensures only { IfOk result (λ z. (y : ZoneParts) → IsZoneOfShortFile bytes.now y → z ≡ y) }
     ensures none { IfErr result (λ _. (y : ZoneParts) → ¬ IsZoneOfShortFile bytes.now y) }
+    ensures why { IfErr result (λ why. IsFileReason bytes.now why) }
 {
     let file = match zone_file::read(bytes) {
         Ok(file) => file,
@@ -115,6 +119,7 @@ fn zone_of_parts<'a>(
 ) -> Result<Zone<'a>, NoZone>
     ensures parts { IfOk result (λ z. (z ≡ record { first = first; rows = rows.now; rule = rule }) × IsZone z) }
     ensures none { IfErr result (λ _. ¬ IsZone (record { first = first; rows = rows.now; rule = rule })) }
+    ensures why { IfErr result (λ why. IsPartsReason (record { first = first; rows = rows.now; rule = rule }) why) }
 {
     match Zone::new(first, rows, rule) {
         Ok(zone) => Ok(zone),

@@ -1,7 +1,10 @@
 //! What is wrong with bytes that hold no zone.
-ghost use Rattle.std.specs.Prelude.{◌≡◌, ◌≤◌, true, false, length};
+ghost use Rattle.std.specs.Prelude.{◌≡◌, ◌≤◌, ◌-◌, Some, true, false, length};
 ghost use Rattle.zone.specs.Parts.{ZoneParts};
 ghost use Rattle.layers_c.specs.Zones.{HoldsZone, IsPartOf};
+ghost use Rattle.layers_c.specs.ZoneFaults.{IsNumberedReason, IsReason, file_faults, row_number, text_faults};
+ghost use Rattle.layers_c.specs.Faults.{numbered};
+ghost use Rattle.layers_c.specs.declared.zone_bytes.NoZone.{NoZone};
 
 use crate::faults::CalendarFault;
 use crate::part_end::part_end;
@@ -20,6 +23,7 @@ pub extern "C" fn calendar_zone_check(zone: &[u8], fault: &mut CalendarFault) ->
     ensures read { result ≡ true → (z : ZoneParts) × HoldsZone zone.now z }
     ensures every { (z : ZoneParts) → HoldsZone zone.now z → result ≡ true }
     ensures place { result ≡ false → IsPartOf fault.new.byte fault.new.end (length zone.now) }
+    ensures fault { result ≡ false → (why : NoZone) × IsReason zone.now why × IsNumberedReason fault.new.code fault.new.field why }
     ensures no_fault { result ≡ true → fault.new ≡ fault.old }
 {
     let mut room = row_room();
@@ -44,7 +48,8 @@ pub extern "C" fn calendar_zone_fault_text(fault: &CalendarFault, text: &mut [u8
 
 // The numbers of what is wrong with bytes.
 fn fault_of(bytes: &[u8], reason: NoZone) -> CalendarFault
-    ensures { IsPartOf result.byte result.end (length bytes.now) }
+    ensures place { IsPartOf result.byte result.end (length bytes.now) }
+    ensures why { IsNumberedReason result.code result.field reason }
 {
     match reason {
         NoZone::File(error) => in_file(bytes, file_code(error.fault), 0, error.byte),
@@ -63,7 +68,9 @@ fn fault_of(bytes: &[u8], reason: NoZone) -> CalendarFault
 
 // What is wrong from a byte of a file on.
 fn in_file(bytes: &[u8], code: u32, row: u32, byte: usize) -> CalendarFault
-    ensures { IsPartOf result.byte result.end (length bytes.now) }
+    ensures place { IsPartOf result.byte result.end (length bytes.now) }
+    ensures code { result.code ≡ code }
+    ensures row { result.field ≡ row }
 {
     numbers(code, row, byte.min(bytes.len()), bytes.len())
 }
@@ -81,12 +88,16 @@ fn numbers(code: u32, field: u32, byte: usize, end: usize) -> CalendarFault
 }
 
 // The number of a row, from 1. No more than 512 are looked at.
-fn row_number(place: usize) -> u32 {
-    place.min(512) as u32 + 1
+fn row_number(place: usize) -> u32
+    ensures { result ≡ row_number place }
+{
+    if place <= 512 { place as u32 + 1 } else { 513 }
 }
 
 // The number of what is wrong with a file.
-fn file_code(fault: ZoneFileFault) -> u32 {
+fn file_code(fault: ZoneFileFault) -> u32
+    ensures { numbered file_faults result ≡ Some fault }
+{
     match fault {
         ZoneFileFault::NoHeader => 1,
         ZoneFileFault::UnknownVersion => 2,
@@ -98,7 +109,9 @@ fn file_code(fault: ZoneFileFault) -> u32 {
 }
 
 // The number of what is wrong with the text of a rule.
-fn text_code(fault: ZoneTextFault) -> u32 {
+fn text_code(fault: ZoneTextFault) -> u32
+    ensures { numbered text_faults (result - 9) ≡ Some fault }
+{
     match fault {
         ZoneTextFault::NoName => 10,
         ZoneTextFault::NoOffset => 11,

@@ -1,10 +1,10 @@
 //! Time zones: how far a clock is ahead of UTC, and the offsets of a local time.
-ghost use Rattle.std.specs.Prelude.{◌≡◌, ◌<ℤ◌, ◌^◌, IfSome, IsSome, None, Some, neg_ℤ, pos};
+ghost use Rattle.std.specs.Prelude.{◌≡◌, ◌⊎◌, ℤ, ◌<ℤ◌, ◌≤ℤ◌, ◌^◌, neg_ℤ, pos};
 ghost use Rattle.chrono_zoned.specs.Zones.{HoldsUntil, IsMapped};
 ghost use Rattle.chrono_zoned.specs.declared.mapped_local_time.MappedLocalTime.{MappedLocalTime};
 ghost use Rattle.numbers_c.specs.Answers.{none_number};
-ghost use Rattle.zone.specs.Parts.{ZoneParts, zone_offset};
-ghost use Rattle.layers_c.specs.Zones.{HoldsZone, offsets_from_c};
+ghost use Rattle.zone.specs.Parts.{SetsAt, ZoneParts, zone_offset};
+ghost use Rattle.layers_c.specs.Zones.{HoldsZone, no_offsets, offset_numbers};
 
 use crate::zone_bytes::{row_room, zone_of};
 use chrono_zoned::{FixedOffset, MappedLocalTime};
@@ -38,9 +38,9 @@ pub extern "C" fn calendar_zone_offset_at(zone: &[u8], second: i64) -> i32
 /// Returns the offsets at all instants at which the clock of a zone shows a local second, counted since 1970.
 #[unsafe(no_mangle)]
 pub extern "C" fn calendar_zone_offsets_of_local(zone: &[u8], local: i64) -> CalendarOffsets
-    ensures offsets { (z : ZoneParts) → HoldsZone zone.now z → IfSome (offsets_from_c result) (IsMapped (zone_offset z) local) }
-    ensures exists { (z : ZoneParts) → HoldsZone zone.now z → IsSome (offsets_from_c result) }
-    ensures no_zone { ((z : ZoneParts) → ¬ HoldsZone zone.now z) → offsets_from_c result ≡ None }
+    ensures offsets { (z : ZoneParts) → HoldsZone zone.now z
+        → (found : MappedLocalTime ℤ) × (result ≡ offset_numbers found) × IsMapped (zone_offset z) local found }
+    ensures no_zone { ((z : ZoneParts) → ¬ HoldsZone zone.now z) → result ≡ no_offsets }
 {
     let mut room = row_room();
     match zone_of(zone, &mut room) {
@@ -49,11 +49,15 @@ pub extern "C" fn calendar_zone_offsets_of_local(zone: &[u8], local: i64) -> Cal
     }
 }
 
-/// Returns a later second up to which the clock of a zone keeps the offset that it has at a second.
+/// Returns the next second at which a zone sets its clock, up to which it keeps the offset that it has at a second. The greatest `i64` says
+/// that there is none before it.
 #[unsafe(no_mangle)]
 pub extern "C" fn calendar_zone_holds_until(zone: &[u8], second: i64) -> i64
     ensures holds { (z : ZoneParts) → HoldsZone zone.now z → HoldsUntil (zone_offset z) second result }
     ensures later { (z : ZoneParts) → HoldsZone zone.now z → second <ℤ pos 9_223_372_036_854_775_807 → second <ℤ result }
+    ensures first { (z : ZoneParts) → HoldsZone zone.now z → (t : ℤ) → SetsAt z t → second <ℤ t → result ≤ℤ t }
+    ensures end { (z : ZoneParts) → HoldsZone zone.now z
+        → (result ≡ pos 9_223_372_036_854_775_807) ⊎ (SetsAt z result × (second <ℤ result)) }
     ensures no_zone { ((z : ZoneParts) → ¬ HoldsZone zone.now z) → result ≡ neg_ℤ (pos (2 ^ 63)) }
 {
     let mut room = row_room();
@@ -64,9 +68,8 @@ pub extern "C" fn calendar_zone_holds_until(zone: &[u8], second: i64) -> i64
 }
 
 // The numbers of offsets.
-#[tactic(auto, unfolding(crate::specs::Zones::offsets_from_c))]
 fn offset_numbers(found: MappedLocalTime<FixedOffset>) -> CalendarOffsets
-    ensures { offsets_from_c result ≡ Some found }
+    ensures { result ≡ offset_numbers found }
 {
     match found {
         MappedLocalTime::None => offsets(0, 0, 0),
@@ -81,9 +84,8 @@ fn offset_numbers(found: MappedLocalTime<FixedOffset>) -> CalendarOffsets
 }
 
 // The numbers of no zone.
-#[tactic(auto, unfolding(crate::specs::Zones::offsets_from_c))]
 fn no_offsets() -> CalendarOffsets
-    ensures { offsets_from_c result ≡ None }
+    ensures { result ≡ no_offsets }
 {
     offsets(u32::MAX, 0, 0)
 }

@@ -1,6 +1,6 @@
 -- Which of a zone's two clocks shows a local time.
 use Rattle.std.proofs.Common.{◌≡◌, ◌↔◌, ℕ, ◌+◌, ◌-◌, ◌<◌, ◌≤◌, ℤ, pos, ◌+ℤ◌, ◌≤ℤ◌, ◌<ℤ◌, true, false, int_le, List, length, inl, inr, refl, sym, ap, ◌∙◌, arith}
-use Rattle.std.specs.Prelude.{None, Some}
+use Rattle.std.specs.Prelude.{◌⊎◌, None, Option, Some}
 use Rattle.std.proofs.lemmas.Bool.{both_ways, cond_both}
 use Rattle.std.proofs.lemmas.Bool.Decides.{leb_tells, nat_tests}
 use Rattle.std.proofs.lemmas.Int.{by_lt_z, int_min_is, ints}
@@ -8,15 +8,15 @@ use Rattle.chrono_zoned.specs.Offsets.{IsOffset}
 use Rattle.chrono_zoned.specs.Zones.{HoldsUntil, IsMapped, Shows}
 use Rattle.chrono_zoned.specs.declared.mapped_local_time.MappedLocalTime.{MappedLocalTime}
 use Rattle.chrono_zoned.specs.declared.mapped_local_time.MappedLocalTime.TheVariants.{None as NoInstant, Single, Ambiguous}
-use Rattle.zone_rule.specs.Rules.{rule_offset}
+use Rattle.zone_rule.specs.Rules.{IsSetAt, rule_offset}
 use Rattle.zone_rule.specs.declared.rule.ZoneRule.{ZoneRule}
 use Rattle.zone_table.specs.Sequence.{Come, IsRising, come_by, local_start}
-use Rattle.zone_table.specs.Table.{IsTable, offset_after, row_at, row_second, table_offset}
+use Rattle.zone_table.specs.Table.{BeginsAt, IsTable, offset_after, row_at, row_second, table_offset}
 use Rattle.zone_table.specs.declared.row.Row.{Row}
 use Rattle.zone_table.proofs.LocalTimes.{mapped_after, seconds_rise, starts_rise}
 use Rattle.zone_table.proofs.SequenceLemmas.{IsRising-le, come_by-Come}
 use Rattle.zone_table.proofs.TableLemmas.{offset_after-some}
-use Rattle.zone.specs.Parts.{is_behind, last_row, offset_with}
+use Rattle.zone.specs.Parts.{IsSetBehind, is_behind, last_row, offset_with}
 use Rattle.zone.specs.Private.{KeepsOffset, ShowAlike}
 
 -- clocks that show a local time at the same instants have the same offsets there
@@ -159,6 +159,59 @@ holds_before first rows r s t table front holds by u from to =
           let end : t ≤ℤ (last_row rows).second = by (length rows - 1) (omega (arith, some.1)) early in
           sym (by_rows first rows r u (is_behind-later rows up u some.1 (omega (arith, ints, to, end)))) ∙ holds u from to ∙ by_rows first rows r s front
     ]
+
+-- ---- the seconds at which a zone sets its clock
+
+-- behind the rows, where all have begun
+come_behind : (first : ℤ) (rows : List Row) (s : ℤ) → IsTable first rows → is_behind rows s ≡ true → 0 < length rows → (last_row rows).second ≤ℤ s
+come_behind first rows s table behind some =
+    let up = seconds_rise (row_second rows) (offset_after first rows) (length rows) table in
+    by_lt_z s (last_row rows).second
+    (λ (early : s <ℤ (last_row rows).second). absurd (both_ways (is_behind rows s) (is_behind-later rows up s some early) behind))
+    (λ (late : (last_row rows).second ≤ℤ s). late)
+
+-- the first is the rule's
+pub first_behind : (first : ℤ) (rows : List Row) (r : ZoneRule) (s until : ℤ) → IsTable first rows → is_behind rows s ≡ true → ((t : ℤ) → IsSetAt r t → s <ℤ t → until ≤ℤ t) → (t : ℤ) → BeginsAt rows t ⊎ IsSetBehind rows (Some r) t → s <ℤ t → until ≤ℤ t
+first_behind first rows r s until table behind next t (inl row) later =
+    let up = seconds_rise (row_second rows) (offset_after first rows) (length rows) table in
+    let lt = row.1 in
+    let begins = row.2 in
+    let rise = IsRising-le (row_second rows) (length rows) up row.0 (length rows - 1) (omega (arith, lt)) (omega (arith, lt)) in
+    let come = come_behind first rows s table behind (omega (arith, lt)) in
+    absurd (omega (arith, ints, begins, rise, come, later))
+first_behind first rows r s until table behind next t (inr set) later = next t set.1 later
+
+pub end_behind : (first : ℤ) (rows : List Row) (r : ZoneRule) (s t most : ℤ) → IsTable first rows → is_behind rows s ≡ true → (t ≡ most) ⊎ (IsSetAt r t × (s <ℤ t)) → (t ≡ most) ⊎ ((BeginsAt rows t ⊎ IsSetBehind rows (Some r) t) × (s <ℤ t))
+end_behind first rows r s t most table behind (inl none) = inl none
+end_behind first rows r s t most table behind (inr set) =
+    let up = seconds_rise (row_second rows) (offset_after first rows) (length rows) table in
+    let later = set.1 in
+    let come : 0 < length rows → (last_row rows).second ≤ℤ t = λ some. let front = come_behind first rows s table behind some in omega (arith, ints, front, later) in
+    inr (inr (is_behind-come rows up t come, set.0), later)
+
+-- in front of the last row it is the next row
+pub first_before : (first : ℤ) (rows : List Row) (o : Option ZoneRule) (s until : ℤ) → IsTable first rows → ((r : ZoneRule) → o ≡ Some r → is_behind rows s ≡ false) → ((k : ℕ) → k < length rows → s <ℤ row_second rows k → until ≤ℤ row_second rows k) → (t : ℤ) → BeginsAt rows t ⊎ IsSetBehind rows o t → s <ℤ t → until ≤ℤ t
+first_before first rows o s until table front by t (inl row) later =
+    let begins = row.2 in
+    let least = by row.0 row.1 (omega (arith, ints, begins, later)) in
+    omega (arith, ints, begins, least)
+first_before first rows None s until table front by t (inr set) later = absurd set
+first_before first rows (Some r) s until table front by t (inr set) later =
+    let up = seconds_rise (row_second rows) (offset_after first rows) (length rows) table in
+    let ahead = front r refl in
+    elim (leb_tells (length rows) 0) [
+      | inl none ↦ absurd (both_ways (is_behind rows s) ahead (is_behind-come rows up s (λ some. absurd (omega (arith, some, none.1)))))
+      | inr some ↦
+          let early : s <ℤ (last_row rows).second = by_lt_z s (last_row rows).second (λ (lt : s <ℤ (last_row rows).second). lt)
+          (λ (come : (last_row rows).second ≤ℤ s). absurd (both_ways (is_behind rows s) ahead (is_behind-come rows up s (λ _. come)))) in
+          let end = by (length rows - 1) (omega (arith, some.1)) early in
+          let come = come_behind first rows t table set.0 some.1 in
+          omega (arith, ints, end, come)
+    ]
+
+pub end_before : (rows : List Row) (o : Option ZoneRule) (s t most : ℤ) → (t ≡ most) ⊎ (BeginsAt rows t × (s <ℤ t)) → (t ≡ most) ⊎ ((BeginsAt rows t ⊎ IsSetBehind rows o t) × (s <ℤ t))
+end_before rows o s t most (inl none) = inl none
+end_before rows o s t most (inr row) = inr (inl row.0, row.1)
 
 -- each offset is less than a day
 table_near : (first : ℤ) (rows : List Row) → IsTable first rows → ((k : ℕ) → k ≤ length rows → IsOffset (offset_after first rows k)) → (u : ℤ) → IsOffset (table_offset first rows u)

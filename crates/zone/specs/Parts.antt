@@ -1,9 +1,9 @@
 -- A zone: rows that each set the offset of a clock, and the rule that goes on behind them (RFC 9636, section 3.3).
-use Rattle.std.specs.Prelude.{◌≡◌, ◌-◌, ◌<◌, ◌==◌, Bool, if◌then◌else◌, ℤ, pos, ◌+ℤ◌, ◌<ℤ◌, List, length, Option, Some, None}
+use Rattle.std.specs.Prelude.{◌≡◌, ◌⊎◌, ◌-◌, ◌<◌, ◌==◌, Bool, true, if◌then◌else◌, ℤ, pos, ◌+ℤ◌, ◌<ℤ◌, List, length, Option, Some, None}
 use Rattle.zone_rule.specs.Rules.{IsSetAt, rule_offset}
 use Rattle.zone_rule.specs.declared.rule.ZoneRule.{ZoneRule}
 use Rattle.zone_table.specs.Sequence.{come_by}
-use Rattle.zone_table.specs.Table.{IsFirstUnordered, IsTable, row_at, row_second, table_offset}
+use Rattle.zone_table.specs.Table.{BeginsAt, IsFirstUnordered, IsTable, row_at, row_second, table_offset}
 use Rattle.zone_table.specs.declared.row.Row.{Row}
 use Rattle.zone.specs.declared.fault.ZoneFault.{ZoneFault}
 use Rattle.zone.specs.declared.fault.ZoneFault.TheVariants.{Unordered, NotJoined}
@@ -30,6 +30,15 @@ offset_with first rows (Some r) u = if is_behind rows u then rule_offset r u els
 -- the same of a zone in its parts
 abbrev pub zone_offset : ZoneParts → ℤ → ℤ
 zone_offset z u = offset_with z.first z.rows z.rule u
+
+-- the rule, if there is one, sets the clock at the second t, where all rows have begun
+abbrev pub IsSetBehind : List Row → Option ZoneRule → ℤ → Type 0
+IsSetBehind rows None t = ⊥
+IsSetBehind rows (Some r) t = (is_behind rows t ≡ true) × IsSetAt r t
+
+-- the zone sets its clock at the second t: a row begins there, or the rule sets it behind all rows. The offset may stay as it was
+abbrev pub SetsAt : ZoneParts → ℤ → Type 0
+SetsAt z t = BeginsAt z.rows t ⊎ IsSetBehind z.rows z.rule t
 
 -- the rule goes on from a row: "evaluating the TZ string at the time of the last transition should yield the same time type as was
 -- specified in the last transition". A type is an offset here. It sets the clock at no second in the two days behind the row

@@ -1,11 +1,11 @@
 //! `Zone`: a table of changes, and the rule behind them.
-ghost use Rattle.std.specs.Prelude.{◌≡◌, ◌↔◌, ◌-◌, ◌<◌, ℤ, pos, ◌+ℤ◌, ◌≤ℤ◌, ◌<ℤ◌, IfErr, IfOk, IfSome, IsFalse, IsSome, IsTrue, Some, length};
+ghost use Rattle.std.specs.Prelude.{◌≡◌, ◌↔◌, ◌⊎◌, ◌-◌, ◌<◌, ℤ, pos, ◌+ℤ◌, ◌≤ℤ◌, ◌<ℤ◌, IfErr, IfOk, IfSome, IsFalse, IsSome, IsTrue, Some, length};
 ghost use Rattle.chrono_zoned.specs.Offsets.{IsOffset};
 ghost use Rattle.chrono_zoned.specs.Zones.{HoldsUntil, IsMapped};
 ghost use Rattle.zone_rule.specs.Rules.{rule_offset};
 ghost use Rattle.zone_table.specs.Sequence.{IsRising};
 ghost use Rattle.zone_table.specs.Table.{IsTable, offset_after, row_second, table_offset};
-ghost use Rattle.zone.specs.Parts.{GoesOn, IsFault, IsJoined, IsZone, is_behind, last_row, offset_with, zone_offset};
+ghost use Rattle.zone.specs.Parts.{GoesOn, IsFault, IsJoined, IsZone, SetsAt, is_behind, last_row, offset_with, zone_offset};
 ghost use Rattle.zone.specs.Private.{KeepsOffset, KeepsOn, ShowAlike};
 
 use crate::fault::ZoneFault;
@@ -120,6 +120,8 @@ impl<'a> Zone<'a> {
         ensures holds { HoldsUntil (zone_offset self.now) second result.until }
         ensures later { second <ℤ pos 9_223_372_036_854_775_807 → second <ℤ result.until }
         ensures near { (u : ℤ) → IsOffset (zone_offset self.now u) }
+        ensures first { (t : ℤ) → SetsAt self.now t → second <ℤ t → result.until ≤ℤ t }
+        ensures end { (result.until ≡ pos 9_223_372_036_854_775_807) ⊎ (SetsAt self.now result.until × (second <ℤ result.until)) }
     {
         if let Some(rule) = &self.rule {
             // A proof knows the range of what is read. The compiler leaves it out.

@@ -8,7 +8,7 @@ use Rattle.chrono_calendar.proofs.Signed.{signed}
 use Rattle.chrono_zoned.specs.Offsets.{IsOffset}
 use Rattle.chrono_zoned.specs.Zones.{HoldsUntil}
 use Rattle.zone_rule.specs.Changes.{IsChange, IsNextOf, YearlyChange, change_second, last_by, year_of_second}
-use Rattle.zone_rule.specs.Rules.{IsNextSetting, IsSetBy, IsSteadyUntil, ahead_by, is_daylight, rule_offset}
+use Rattle.zone_rule.specs.Rules.{IsNextSetting, IsSetAt, IsSetBy, IsSteadyUntil, ahead_by, is_daylight, rule_offset}
 use Rattle.zone_rule.specs.declared.rule.Daylight.{Daylight}
 use Rattle.zone_rule.specs.declared.rule.ZoneRule.{ZoneRule}
 use Rattle.zone_rule.proofs.LastChanges.{last_by-some}
@@ -140,6 +140,19 @@ steady_holds r d s t until is steady le u from to =
 -- where there is no daylight time, standard time holds
 pub always_standard : (r : ZoneRule) → r.daylight ≡ None → (u : ℤ) → rule_offset r u ≡ r.standard
 always_standard r is u = ap (λ (o : Option Daylight). ahead_by r.standard o u) is
+
+-- and the rule sets the clock at no second
+pub never_set : (r : ZoneRule) → r.daylight ≡ None → (t : ℤ) → IsSetAt r t → ⊥
+never_set r is t sets = subst (λ (o : Option Daylight). IsSetBy r.standard o t) is sets
+
+-- where there is, its settings are the rule's
+pub set_by : (r : ZoneRule) (d : Daylight) (t u : ℤ) → r.daylight ≡ Some d → u ≡ t → IsSetBy r.standard (Some d) t → IsSetAt r u
+set_by r d t u is same sets = subst (λ (x : ℤ). IsSetAt r x) (sym same) (subst (λ (o : Option Daylight). IsSetBy r.standard o t) (sym is) sets)
+
+pub first_set : (r : ZoneRule) (d : Daylight) (s next until : ℤ) → r.daylight ≡ Some d → IsNextSetting (record { standard = r.standard; daylight = Some d }) s next → until ≤ℤ next → (t : ℤ) → IsSetAt r t → s <ℤ t → until ≤ℤ t
+first_set r d s next until is at most t sets later =
+    let least = at.first t later (subst (λ (o : Option Daylight). IsSetBy r.standard o t) is sets) in
+    omega (arith, signed, most, least)
 
 -- the offset of the time that holds is the rule's
 pub offset_is : (r : ZoneRule) (d : Daylight) (s here : ℤ) (holds : Bool) (o : ℤ) → r.daylight ≡ Some d → here ≡ s → holds ≡ is_daylight r.standard d here → o ≡ cond holds d.offset r.standard → o ≡ rule_offset r s

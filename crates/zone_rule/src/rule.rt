@@ -1,5 +1,5 @@
 //! `ZoneRule`: standard time, and daylight time in a part of each year.
-ghost use Rattle.std.specs.Prelude.{◌≡◌, ◌↔◌, Bool, if◌then◌else◌, ℤ, pos, neg_ℤ, ◌+ℤ◌, ◌-ℤ◌, ◌<ℤ◌, ◌≤ℤ◌, IfNone, IfSome, IsSome, Some};
+ghost use Rattle.std.specs.Prelude.{◌≡◌, ◌↔◌, ◌⊎◌, Bool, if◌then◌else◌, ℤ, pos, neg_ℤ, ◌+ℤ◌, ◌-ℤ◌, ◌<ℤ◌, ◌≤ℤ◌, IfNone, IfSome, IsSome, Some};
 ghost use Rattle.chrono_units.specs.Years.{IsYear};
 ghost use Rattle.chrono_zoned.specs.Offsets.{IsOffset};
 ghost use Rattle.chrono_zoned.specs.Zones.{HoldsUntil, IsMapped};
@@ -184,6 +184,8 @@ impl ZoneRule {
         ensures holds { HoldsUntil (rule_offset self.now) second result.until }
         ensures later { second <ℤ pos 9_223_372_036_854_775_807 → second <ℤ result.until }
         ensures near { (u : ℤ) → IsOffset (rule_offset self.now u) }
+        ensures first { (t : ℤ) → IsSetAt self.now t → second <ℤ t → result.until ≤ℤ t }
+        ensures end { (result.until ≡ pos 9_223_372_036_854_775_807) ⊎ (IsSetAt self.now result.until × (second <ℤ result.until)) }
     {
         let Some(daylight) = self.daylight else {
             return Stretch::without_end(self.standard);

@@ -15,6 +15,10 @@ row_at rows k = get_or rows k no_row
 abbrev pub row_second : List Row → ℕ → ℤ
 row_second rows k = (row_at rows k).second
 
+-- a row begins at the second t
+abbrev pub BeginsAt : List Row → ℤ → Type 0
+BeginsAt rows t = (k : ℕ) × (k < length rows) × (row_second rows k ≡ t)
+
 -- the offset once k rows have begun
 unfoldable pub offset_after : ℤ → List Row → ℕ → ℤ
 offset_after first rows zero = first

@@ -1,10 +1,10 @@
 //! The offset at an instant, and the offsets of a local time.
-ghost use Rattle.std.specs.Prelude.{◌≡◌, ℕ, ◌≤◌, ◌<◌, ◌+◌, ◌-◌, pos, ◌+ℤ◌, ◌≤ℤ◌, ◌<ℤ◌, IfSome, length};
+ghost use Rattle.std.specs.Prelude.{◌≡◌, ◌⊎◌, ℕ, ◌≤◌, ◌<◌, ◌+◌, ◌-◌, pos, ◌+ℤ◌, ◌≤ℤ◌, ◌<ℤ◌, IfSome, length};
 ghost use Rattle.chrono_zoned.specs.declared.mapped_local_time.MappedLocalTime.TheVariants.{Single};
 ghost use Rattle.chrono_zoned.specs.Offsets.{IsOffset};
 ghost use Rattle.chrono_zoned.specs.Zones.{HoldsUntil, IsMapped};
 ghost use Rattle.zone_table.specs.Sequence.{Come, IsRising, local_start};
-ghost use Rattle.zone_table.specs.Table.{IsTable, offset_after, table_offset, row_second};
+ghost use Rattle.zone_table.specs.Table.{BeginsAt, IsTable, offset_after, table_offset, row_second};
 
 use crate::row::{Row, second_at, table_offset};
 use crate::search::{last_begun, rows_begun};
@@ -54,8 +54,9 @@ pub fn stretch_of_instant(first: FixedOffset, rows: &[Row], second: i64) -> Stre
     ensures offset { result.offset ≡ table_offset first rows.now second }
     ensures holds { HoldsUntil (table_offset first rows.now) second result.until }
     ensures later { second <ℤ pos 9_223_372_036_854_775_807 → second <ℤ result.until }
-    // It ends no later than where a row begins.
+    // It ends where the first of the later rows begins, if there is one.
     ensures rows { (k : ℕ) → k < length rows.now → second <ℤ row_second rows.now k → result.until ≤ℤ row_second rows.now k }
+    ensures end { (result.until ≡ pos 9_223_372_036_854_775_807) ⊎ (BeginsAt rows.now result.until × (second <ℤ result.until)) }
 {
     let count = rows_begun(rows, second);
     let offset = offset_of_count(first, rows, count);

@@ -11,7 +11,7 @@ from typing import Any
 
 from . import _calendar
 from ._texts import iso_text_of_duration, nanoseconds_of_text, ratio_of, rounded, text_of_offset
-from ._zoned import asked, from_utc, length_asked, local_zone, of_timestamp, timestamp_of_local, utc_of, wanted
+from ._zoned import asked, from_utc, length_asked, of_timestamp, timestamp_of_local, utc_of, wanted
 from .time_of_day import Time, attributes
 
 _DAYS = ("Mon", "Tue", "Wed", "Thu", "Fri", "Sat", "Sun")
@@ -183,10 +183,6 @@ class DateTime:
         utc = self if self.utcoffset() is None else utc_of(self)
         return _named(utc, (utc.hour, utc.minute, utc.second), 0)
 
-    def utcoffset(self) -> _calendar.Duration | None:
-        """Returns the offset from UTC that the time zone has, east of it above 0, or None without a time zone."""
-        return length_asked(self, "utcoffset")
-
     def dst(self) -> _calendar.Duration | None:
         """Returns how far the time zone's clock is put ahead, as in summer, or None if it does not say."""
         return length_asked(self, "dst")
@@ -194,19 +190,6 @@ class DateTime:
     def tzname(self) -> Any:
         """Returns the name of the time zone's time, such as CEST, or None without a time zone."""
         return asked(self, "tzname")
-
-    def astimezone(self: Any, tz: Any = None) -> Any:
-        """Returns the same instant by the clock of a time zone, or of this machine. Without a zone it is taken as local time.
-
-        >>> import zoneinfo
-        >>> berlin = zoneinfo.ZoneInfo('Europe/Berlin')
-        >>> print(DateTime.fromisoformat('2024-07-01T10:00:00Z').astimezone(berlin))
-        2024-07-01T12:00:00+02:00
-        """
-        is_utc = self.tzinfo is datetime.timezone.utc and not self.fold
-        utc = self if is_utc and wanted(tz) is not None else utc_of(self)
-        zone = local_zone(utc) if wanted(tz) is None else tz
-        return self if zone is self.tzinfo else from_utc(utc, zone)
 
     def timestamp(self: Any) -> float:
         """Returns the POSIX timestamp. Without a time zone it is that of the local time, by the fold where that comes twice."""

@@ -25,7 +25,8 @@ _OF_OFFSET = re.compile(
     r"(?P<sign>[-+])(?P<hours>[0-9]{2})(?:(?P<colon>:?)(?P<minutes>[0-9]{2})(?:(?P=colon)(?P<seconds>[0-9]{2})(?:[.,](?P<fraction>[0-9]{1,9}))?)?)?"
 )
 _OF_DATE = re.compile(_DATE)
-_OF_DATE_TIME = re.compile(rf"(?:{_DATE})(?:[^0-9]{_CLOCK}{_OFFSET})?", re.S)
+# (any character separates, but that behind a weekday with a hyphen is no digit)
+_OF_DATE_TIME = re.compile(rf"(?:{_DATE})(?:(?(weekday)[^0-9]|.){_CLOCK}{_OFFSET})?", re.S)
 _OF_TIME = re.compile(rf"T?{_CLOCK}{_OFFSET}")
 _OF_DURATION = re.compile(
     r"(?P<sign>[-+]?)P(?=[0-9T])(?:(?P<weeks>[0-9]+)W)?(?:(?P<days>[0-9]+)D)?"

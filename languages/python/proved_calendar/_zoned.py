@@ -3,10 +3,14 @@
 A zone is any `datetime.tzinfo`. It is asked about the `datetime.datetime` that shows the same time. Nothing here is proved.
 """
 import datetime
+import importlib.resources
+import os
+import re
 import time as c_time
+import zoneinfo
 from typing import Any
 
-from ._calendar import DateTime, Duration
+from ._calendar import DateTime, Duration, Zone
 
 _DAY = Duration(days=1)
 _DAY_SECONDS = 86_400
@@ -35,6 +39,8 @@ def asked(moment: Any, name: str) -> Any:
     zone = moment.tzinfo
     if zone is None:
         return None
+    if isinstance(zone, Zone):
+        return getattr(zone, name)(moment)
     return getattr(zone, name)(None if isinstance(zone, datetime.timezone) else _theirs(moment))
 
 
@@ -49,6 +55,11 @@ def length_asked(moment: Any, name: str) -> Duration | None:
     if abs(found) >= _DAY:
         raise ValueError(f"tzinfo.{name}() answers less than a day either way, not {found}")
     return found
+
+
+def utc_offset(moment: Any) -> Duration | None:
+    """How far the clock of a date-time is ahead of UTC, or None without a zone."""
+    return length_asked(moment, "utcoffset")
 
 
 def wanted(zone: Any) -> Any:
@@ -78,6 +89,8 @@ def from_utc(moment: Any, zone: Any) -> Any:
     """The date-time of a zone at the instant at which UTC shows a date-time, which has no other zone."""
     if isinstance(zone, datetime.timezone):
         return (moment + zone.utcoffset(None)).replace(tzinfo=zone)
+    if isinstance(zone, Zone):
+        return zone.fromutc(moment.replace(tzinfo=zone, fold=0))
     if type(zone).fromutc is datetime.tzinfo.fromutc:
         return _of_offsets(moment, zone)
     shown = type(moment).from_datetime(zone.fromutc(_shown(moment, zone, 0)))
@@ -128,3 +141,39 @@ def local_zone(utc: Any) -> datetime.timezone:
     """The offset that the clock of this machine has where UTC shows a date-time."""
     it = c_time.localtime(utc.seconds)
     return datetime.timezone(datetime.timedelta(seconds=it.tm_gmtoff), it.tm_zone)
+
+
+def as_time_zone(moment: Any, tz: Any) -> Any:
+    """The date-time at the same instant by the clock of a time zone, or of this machine if it is None."""
+    is_utc = moment.tzinfo is datetime.timezone.utc and not moment.fold
+    utc = moment if is_utc and wanted(tz) is not None else utc_of(moment)
+    zone = local_zone(utc) if wanted(tz) is None else tz
+    return moment if zone is moment.tzinfo else from_utc(utc, zone)
+
+
+# ---- files of zones
+
+_KEY = re.compile(r"[A-Za-z0-9_+-]+(?:/[A-Za-z0-9_+-]+)*")
+
+
+def bytes_of_zone(key: str) -> bytes:
+    """The bytes of the file of a zone, from where zoneinfo looks; a ValueError if there is none."""
+    if _KEY.fullmatch(key):
+        for folder in zoneinfo.TZPATH:
+            path = os.path.join(folder, *key.split("/"))
+            if os.path.isfile(path):
+                with open(path, "rb") as it:
+                    return it.read()
+        found = _of_tzdata(key)
+        if found is not None:
+            return found
+    raise ValueError(f"no time zone is named {key!r}")
+
+
+def _of_tzdata(key: str) -> bytes | None:
+    """The bytes of the same from the package tzdata, if it is there."""
+    try:
+        file = importlib.resources.files("tzdata").joinpath("zoneinfo", *key.split("/"))
+    except ModuleNotFoundError:
+        return None
+    return file.read_bytes() if file.is_file() else None

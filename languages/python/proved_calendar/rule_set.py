@@ -4,6 +4,8 @@ from __future__ import annotations
 import datetime
 import heapq
 import itertools
+import math
+import re
 from collections.abc import Iterable, Iterator
 from typing import Any, Generic, TypeVar, overload
 
@@ -19,6 +21,56 @@ def _ours(it: Any) -> Any:
     if isinstance(it, datetime.datetime):
         return DateTime.from_datetime(it)
     return Date.from_date(it)
+
+
+# The days after which the calendar repeats: 400 years. And no year has more.
+_CYCLE, _YEAR = 146_097, 366
+
+
+def _is_endless(rule: Any) -> bool:
+    return not re.search("COUNT=|UNTIL=", rule.text, re.I)
+
+
+def _interval(rule: Any) -> int:
+    found = re.search("INTERVAL=([0-9]+)", rule.text, re.I)
+    return int(found[1]) if found else 1
+
+
+class _Stretch:
+    """A stretch of days that endless rules leave out.
+
+    Endless rules repeat with the calendar, after as many cycles as their intervals need. So once all days of one such time are left
+    out, no day of an endless rule is an instance, from `begin` on.
+    """
+
+    def __init__(self, rules: Iterable[Any], except_rules: Iterable[Any]) -> None:
+        self.except_rules = [it for it in except_rules if _is_endless(it)]
+        endless = [*self.except_rules, *(it for it in rules if _is_endless(it))]
+        interval = math.lcm(*map(_interval, endless))
+        self.begin = max((it.start.toordinal() for it in endless), default=0) + _YEAR * interval
+        self.is_over = False
+        self._most, self._first = _CYCLE * interval, None
+
+    def has(self, it: Any) -> bool:
+        """Whether a day is left out so. The days are asked about in order."""
+        if not self.except_rules:
+            return False
+        is_left_out, day = any(it in rule for rule in self.except_rules), it.toordinal()
+        if not is_left_out or day < self.begin:
+            self._first = None
+        elif self._first is None:
+            self._first = day
+        elif abs(day - self._first) > self._most:
+            self.is_over = True
+        return is_left_out
+
+    def walk(self, rule: Any, instances: Iterable[Any]) -> Iterable[Any]:
+        """The instances of a rule in order, as long as there may be one that is not left out."""
+        return itertools.takewhile(lambda _: not self.is_over, instances) if _is_endless(rule) else instances
+
+    def place(self, rule: Any, dt: Any) -> Any:
+        """Where to look before a day: before the time of which all days of endless rules are left out."""
+        return type(rule.start).fromordinal(self.begin) if self.is_over and _is_endless(rule) and dt.toordinal() > self.begin else dt
 
 
 class RuleSet(Generic[_Instance]):
@@ -65,19 +117,20 @@ class RuleSet(Generic[_Instance]):
     def _is_left_out(self, it: Any) -> bool:
         return it in self.except_dates or any(it in rule for rule in self.except_rules)
 
-    def _merged(self, walks: Iterable[Iterable[Any]]) -> Iterator[_Instance]:
-        """What some walks in order give together, each once."""
-        for it, _ in itertools.groupby(heapq.merge(*walks)):
-            if not self._is_left_out(it):
+    def _merged(self, walks: Iterable[Iterable[Any]], dates: Iterable[Any]) -> Iterator[_Instance]:
+        """What walks over the rules and some dates, all in order, give together, each once."""
+        stretch = _Stretch(self.rules, self.except_rules)
+        for it, _ in itertools.groupby(heapq.merge(*map(stretch.walk, self.rules, walks), dates)):
+            if not stretch.has(it) and not self._is_left_out(it):
                 yield it
 
     def __iter__(self) -> Iterator[_Instance]:
-        return self._merged([*self.rules, self.dates])
+        return self._merged(self.rules, self.dates)
 
     def xafter(self, dt: Any, count: int | None = None, inc: bool = False) -> Iterator[_Instance]:
         """Returns an iterator over the instances after dt, with inc also at it, and at most count of them."""
         later = [it for it in self.dates if it > dt or (inc and it == dt)]
-        return itertools.islice(self._merged([*(rule.xafter(dt, inc=inc) for rule in self.rules), later]), count)
+        return itertools.islice(self._merged([rule.xafter(dt, inc=inc) for rule in self.rules], later), count)
 
     def after(self, dt: Any, inc: bool = False) -> _Instance | None:
         """Returns the first instance after dt, with inc also at it, or None if there is none."""
@@ -85,11 +138,12 @@ class RuleSet(Generic[_Instance]):
 
     def before(self, dt: Any, inc: bool = False) -> _Instance | None:
         """Returns the last instance before dt, with inc also at it, or None if there is none."""
+        stretch = _Stretch(self.rules, self.except_rules)
         while True:
-            found = [rule.before(dt, inc) for rule in self.rules]
+            found = [rule.before(stretch.place(rule, dt), inc) for rule in self.rules]
             found += [it for it in self.dates if it < dt or (inc and it == dt)][-1:]
             last = max((it for it in found if it is not None), default=None)
-            if last is None or not self._is_left_out(last):
+            if last is None or (not stretch.has(last) and not self._is_left_out(last)):
                 return last
             dt, inc = last, False
 

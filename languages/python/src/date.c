@@ -295,7 +295,7 @@ static PyObject *moved(PyObject *self, int64_t days)
     return reached(Py_TYPE(self), calendar_add_days(number_of(self), days));
 }
 
-/* The whole days of a duration or a timedelta; a ValueError if there is a part of a day. *is_one says whether it is either. */
+/* The whole days of a duration or a timedelta, rounded down, as datetime moves a date by one. *is_one says whether it is either. */
 static bool read_days(PyObject *it, int64_t *days, bool *is_one)
 {
     enum { DAY = 86400 };
@@ -303,11 +303,7 @@ static bool read_days(PyObject *it, int64_t *days, bool *is_one)
     if (!read_length(it, &length, is_one) || !*is_one) {
         return false;
     }
-    *days = length.seconds / DAY;
-    if (length.seconds % DAY != 0 || length.nanos != 0) {
-        PyErr_SetString(PyExc_ValueError, "a date is moved by whole days, and the duration has a part of a day");
-        return false;
-    }
+    *days = length.seconds / DAY - (length.seconds % DAY < 0);
     return true;
 }
 
@@ -430,7 +426,7 @@ static PyObject *from_iso_format(PyObject *kind, PyObject *text)
         return date_of((PyTypeObject *)kind, number);
     }
     /* (a compact text or a week; None says that it is neither) */
-    PyObject *date = by_python("date_of_text", "(OO)", kind, text);
+    PyObject *date = by_python(TEXTS, "date_of_text", "(OO)", kind, text);
     if (date == Py_None) {
         Py_CLEAR(date);
         refuse_text(text, bytes, (size_t)length, "date");

@@ -26,6 +26,9 @@ static Signature of_replace = {
 static Signature of_iso_format = {
     .call = "isoformat", .count = 2, .needed = 0, .places = 2, .names = {"sep", "timespec"},
 };
+static Signature of_as_time_zone = {
+    .call = "astimezone", .count = 1, .needed = 0, .places = 1, .names = {"tz"},
+};
 static Signature of_fields = {
     .call = "from_seconds", .count = 2, .needed = 1, .places = 2, .names = {"seconds", "nanos"},
 };
@@ -486,11 +489,28 @@ static PyObject *date_time_add(PyObject *left, PyObject *right)
     return is_date_time(left) ? moved_by(left, right, false) : moved_by(right, left, false);
 }
 
+/* Whether it is a date-time in a Zone. */
+static bool is_by_zone(PyObject *it)
+{
+    return is_date_time(it) && zoning_of(it).zone && is_zone(zoning_of(it).zone);
+}
+
+/* The offset that the clock of its Zone has. */
+static calendar_duration own_offset(PyObject *self)
+{
+    Zoning zoning = zoning_of(self);
+    return (calendar_duration){.seconds = offset_by_zone(zoning.zone, moment_of(self), zoning.fold)};
+}
+
 /* The offset from UTC that the time zone of a date-time gives; *has_one says whether there is one. */
 static bool read_offset(PyObject *it, calendar_duration *offset, bool *has_one)
 {
     *has_one = !is_date_time(it) || zoning_of(it).zone;
     if (!*has_one) {
+        return true;
+    }
+    if (Py_IS_TYPE(it, date_time_type) && is_by_zone(it)) {
+        *offset = own_offset(it);
         return true;
     }
     PyObject *given = PyObject_CallMethod(it, "utcoffset", NULL);
@@ -563,7 +583,7 @@ static PyObject *with_offset(PyObject *text, PyObject *self)
         return text;
     }
     PyObject *offset = PyObject_CallMethod(self, "utcoffset", NULL);
-    PyObject *shown = offset ? by_python("text_of_offset", "(O)", offset) : NULL;
+    PyObject *shown = offset ? by_python(TEXTS, "text_of_offset", "(O)", offset) : NULL;
     PyObject *result = shown ? PyUnicode_Concat(text, shown) : NULL;
     Py_XDECREF(offset);
     Py_XDECREF(shown);
@@ -687,7 +707,7 @@ static PyObject *from_iso_format(PyObject *kind, PyObject *text)
     }
     /* (another form; None says that it is none that is known. Half of a surrogate pair has no UTF-8, but may be a separator) */
     PyErr_Clear();
-    PyObject *result = by_python("date_time_of_text", "(OO)", kind, text);
+    PyObject *result = by_python(TEXTS, "date_time_of_text", "(OO)", kind, text);
     if (result == Py_None) {
         Py_CLEAR(result);
         if (bytes) {
@@ -719,8 +739,7 @@ static PyObject *date_time_repr(PyObject *self)
 
 /* ---- as Python's objects do */
 
-/* Reads a DateTime or a datetime.datetime and its zoning, of which the zone is a new reference; *is_one says whether it is either. */
-static bool read_moment(PyObject *it, calendar_date_time *moment, Zoning *zoning, bool *is_one)
+bool read_moment(PyObject *it, calendar_date_time *moment, Zoning *zoning, bool *is_one)
 {
     int32_t number;
     int64_t clock[CLOCK];
@@ -820,6 +839,82 @@ bool take_moment(PyObject *it, calendar_date_time *moment)
     bool is_read = read_python_datetime(it, &number, clock) && moment_at(number, clock, moment) && read_python_zoning(it, &zoning);
     Py_XDECREF(zoning.zone);
     return is_read && has_no_zone(zoning);
+}
+
+bool take_instant(PyObject *it, calendar_date_time *utc)
+{
+    Zoning zoning;
+    calendar_duration offset;
+    bool is_one, has_one = false;
+    if (!read_moment(it, utc, &zoning, &is_one)) {
+        return false;
+    }
+    bool has_zone = zoning.zone;
+    Py_XDECREF(zoning.zone);
+    if (!is_one || !has_zone) {
+        refuse_type("a date-time with a time zone", it);
+        return false;
+    }
+    if (!read_offset(it, &offset, &has_one)) {
+        return false;
+    }
+    if (has_one) {
+        *utc = in_utc(*utc, offset);
+    } else {
+        PyErr_SetString(PyExc_ValueError, "the time zone has no offset");
+    }
+    return has_one;
+}
+
+/* ---- by the clocks of zones */
+
+PyObject *date_time_by_zone(PyTypeObject *kind, PyObject *zone, calendar_date_time utc)
+{
+    Zoning zoning;
+    calendar_date_time shown = shown_by_zone(zone, utc, &zoning);
+    if (shown.nanos == CALENDAR_NO_NANOS) {
+        PyErr_SetString(PyExc_OverflowError, "the date-time lies beyond the calendar");
+        return NULL;
+    }
+    return date_time_in(kind, shown, zoning);
+}
+
+/* What UTC shows, where a date-time is one of UTC or of a Zone; whether it is. */
+static bool has_utc(PyObject *self, calendar_date_time *utc)
+{
+    Zoning zoning = zoning_of(self);
+    *utc = moment_of(self);
+    if (zoning.zone && is_utc(zoning.zone)) {
+        return true;
+    }
+    bool is_one = is_by_zone(self);
+    if (is_one) {
+        *utc = utc_by_zone(zoning.zone, *utc, zoning.fold);
+    }
+    return is_one && utc->nanos != CALENDAR_NO_NANOS;
+}
+
+static PyObject *as_time_zone(PyObject *self, PyObject *const *arguments, Py_ssize_t count, PyObject *keywords)
+{
+    PyObject *parts[PARTS];
+    calendar_date_time utc;
+    if (!take_array(&of_as_time_zone, arguments, count, keywords, parts)) {
+        return NULL;
+    }
+    PyObject *zone = parts[0] ? parts[0] : Py_None;
+    if (zone == zoning_of(self).zone) {
+        return Py_NewRef(self);
+    }
+    if ((is_zone(zone) || is_utc(zone)) && has_utc(self, &utc)) {
+        return is_utc(zone) ? date_time_in(Py_TYPE(self), utc, (Zoning){.zone = zone}) : date_time_by_zone(Py_TYPE(self), zone, utc);
+    }
+    return by_python(ZONED, "as_time_zone", "(OO)", self, zone);
+}
+
+static PyObject *utc_offset(PyObject *self, PyObject *unused)
+{
+    (void)unused;
+    return is_by_zone(self) ? duration_of(duration_type, own_offset(self)) : by_python(ZONED, "utc_offset", "(O)", self);
 }
 
 calendar_date_time last_moment(void)
@@ -956,8 +1051,8 @@ static PyMethodDef methods[] = {
     {"fromisoformat", from_iso_format, METH_O | METH_CLASS,
      "fromisoformat($type, text, /)\n--\n\n"
      "Returns the date-time with this text: a date, T or a space, and HH:MM:SS. A point and up to nine digits may follow.\n"
-     "It also reads the other forms of datetime: compact texts, ISO weeks, a date alone, hours and minutes alone, a\n"
-     "separator that is no digit, and an offset, which gives a datetime.timezone.\n\n"
+     "It also reads the other forms of datetime: compact texts, ISO weeks, a date alone, hours and minutes alone, any\n"
+     "separator, and an offset, which gives a datetime.timezone.\n\n"
      ">>> DateTime.fromisoformat('20240229T1230') == DateTime.fromisoformat('2024-W09-4 12:30')\nTrue"},
     {"isoformat", METHOD(iso_format), METH_FASTCALL | METH_KEYWORDS,
      "isoformat($self, /, sep='T', timespec='auto')\n--\n\n"
@@ -982,6 +1077,13 @@ static PyMethodDef methods[] = {
      "        tzinfo=..., fold=...)\n--\n\n"
      "Returns the date-time with these parts in place of its own; ValueError if it does not exist. microsecond and\n"
      "nanosecond each replace the whole fraction, so one of them can be given."},
+    {"utcoffset", utc_offset, METH_NOARGS,
+     "utcoffset($self, /)\n--\n\n"
+     "Returns the offset from UTC that the time zone has, east of it above 0, or None without a time zone."},
+    {"astimezone", METHOD(as_time_zone), METH_FASTCALL | METH_KEYWORDS,
+     "astimezone($self, /, tz=None)\n--\n\n"
+     "Returns the same instant by the clock of a time zone, or of this machine. Without a zone it is taken as local time.\n\n"
+     ">>> print(DateTime.fromisoformat('2024-07-01T10:00:00Z').astimezone(Zone('Europe/Berlin')))\n2024-07-01T12:00:00+02:00"},
     {"to_datetime", to_datetime, METH_NOARGS,
      "to_datetime($self, /)\n--\n\n"
      "Returns the same date-time as a datetime.datetime. Raises OverflowError outside the years 1 to 9999. Raises ValueError in\n"

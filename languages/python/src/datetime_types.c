@@ -10,7 +10,7 @@ enum { FIRST_DAY = 1, LAST_DAY = 3652059, LONGEST_DAYS = 999999999 };
 enum { MICROSECOND = 1000 };
 
 static PyTypeObject *date_class, *datetime_class, *timedelta_class, *tzinfo_class;
-static PyObject *from_ordinal;
+static PyObject *from_ordinal, *utc;
 
 /* A field of timedelta, as its class reads it, and where an object has it. */
 typedef struct {
@@ -172,9 +172,12 @@ bool take_datetime(void)
     PyObject *module = PyImport_ImportModule("datetime");
     bool is_taken = module && take_class(module, "date", &date_class) && take_class(module, "datetime", &datetime_class)
         && take_class(module, "timedelta", &timedelta_class) && take_class(module, "tzinfo", &tzinfo_class);
+    PyObject *fixed = is_taken ? PyObject_GetAttrString(module, "timezone") : NULL;
+    utc = fixed ? PyObject_GetAttrString(fixed, "utc") : NULL;
+    Py_XDECREF(fixed);
     Py_XDECREF(module);
     from_ordinal = is_taken ? PyObject_GetAttrString((PyObject *)date_class, "fromordinal") : NULL;
-    return from_ordinal && take_names() && take_field(&fields[0]) && take_field(&fields[1]) && take_field(&fields[2])
+    return from_ordinal && utc && take_names() && take_field(&fields[0]) && take_field(&fields[1]) && take_field(&fields[2])
         && find_places() && look_at_hashes();
 }
 
@@ -191,6 +194,21 @@ bool is_python_datetime(PyObject *it)
 bool is_tzinfo(PyObject *it)
 {
     return PyObject_TypeCheck(it, tzinfo_class);
+}
+
+PyObject *tzinfo_type(void)
+{
+    return (PyObject *)tzinfo_class;
+}
+
+bool is_utc(PyObject *it)
+{
+    return it == utc;
+}
+
+PyObject *utc_zone(void)
+{
+    return utc;
 }
 
 bool is_timedelta(PyObject *it)

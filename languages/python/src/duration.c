@@ -162,7 +162,7 @@ static bool sum_of_large(PyObject *const *parts, calendar_duration *length)
         }
     }
     if (is_read && PyList_Size(fractions) > 0) {
-        sum = by_python("sum_of_fractions", "(NO)", sum, fractions);
+        sum = by_python(TEXTS, "sum_of_fractions", "(NO)", sum, fractions);
     }
     Py_XDECREF(fractions);
     return is_read ? split_nanoseconds(sum, length) : (Py_XDECREF(sum), false);
@@ -247,12 +247,12 @@ static PyObject *duration_microseconds(PyObject *self, void *unused)
 
 static PyObject *duration_repr(PyObject *self)
 {
-    return by_python("repr_of_duration", "(O)", self);
+    return by_python(TEXTS, "repr_of_duration", "(O)", self);
 }
 
 static PyObject *duration_text(PyObject *self)
 {
-    return by_python("text_of_duration", "(O)", self);
+    return by_python(TEXTS, "text_of_duration", "(O)", self);
 }
 
 /* ---- timedelta */
@@ -323,7 +323,7 @@ static PyObject *duration_subtract(PyObject *left, PyObject *right)
 static PyObject *scaled(PyObject *length, PyObject *number, const char *how)
 {
     PyObject *nanoseconds = nanoseconds_of(length_of(length));
-    return of_nanoseconds(nanoseconds ? by_python(how, "(NO)", nanoseconds, number) : NULL);
+    return of_nanoseconds(nanoseconds ? by_python(TEXTS, how, "(NO)", nanoseconds, number) : NULL);
 }
 
 static PyObject *duration_multiply(PyObject *left, PyObject *right)

@@ -79,7 +79,7 @@ PyMODINIT_FUNC PyInit__calendar(void)
     PyObject *module = PyModule_Create(&definition);
     bool is_made = module && take_weekdays() && take_datetime() && make_iso_calendar_type(module)
         && make_date_type(module) && make_duration_type(module) && make_date_time_type(module)
-        && make_pattern_type(module) && make_schedule_types(module) && make_rule_types(module) && make_business_type(module)
+        && make_zone_type(module) && make_pattern_type(module) && make_schedule_types(module) && make_rule_types(module) && make_business_type(module)
         && PyModule_AddStringConstant(module, "__version__", CALENDAR_VERSION) == 0;
     if (!is_made) {
         Py_CLEAR(module);

@@ -41,19 +41,28 @@ PyObject *extend(PyObject *module, PyObject *const *arguments, Py_ssize_t count)
     Py_RETURN_NONE;
 }
 
-PyObject *by_python(const char *name, const char *format, ...)
+PyObject *by_python(const char *module_name, const char *name, const char *format, ...)
 {
     va_list values;
     va_start(values, format);
     PyObject *arguments = Py_VaBuildValue(format, values);
     va_end(values);
-    PyObject *module = arguments ? PyImport_ImportModule("proved_calendar._texts") : NULL;
+    PyObject *module = arguments ? PyImport_ImportModule(module_name) : NULL;
     PyObject *function = module ? PyObject_GetAttrString(module, name) : NULL;
     PyObject *result = function ? PyObject_Call(function, arguments, NULL) : NULL;
     Py_XDECREF(function);
     Py_XDECREF(module);
     Py_XDECREF(arguments);
     return result;
+}
+
+/* A type that was just made as a member of the module; null if that fails. */
+static PyTypeObject *added(PyObject *module, PyObject *type, const char *name)
+{
+    if (type && PyModule_AddObjectRef(module, name, type) < 0) {
+        Py_CLEAR(type);
+    }
+    return (PyTypeObject *)type;
 }
 
 PyTypeObject *add_type(PyObject *module, PyType_Spec *spec, const char *name, const char *match_args)
@@ -66,10 +75,15 @@ PyTypeObject *add_type(PyObject *module, PyType_Spec *spec, const char *name, co
         }
         Py_XDECREF(names);
     }
-    if (type && PyModule_AddObjectRef(module, name, type) < 0) {
-        Py_CLEAR(type);
-    }
-    return (PyTypeObject *)type;
+    return added(module, type, name);
+}
+
+PyTypeObject *add_type_of(PyObject *module, PyType_Spec *spec, const char *name, PyObject *base)
+{
+    PyObject *bases = PyTuple_Pack(1, base);
+    PyObject *type = bases ? PyType_FromSpecWithBases(spec, bases) : NULL;
+    Py_XDECREF(bases);
+    return added(module, type, name);
 }
 
 /* What a user's class gave an object, as `__getstate__` has it, or before Python 3.11 its attributes; null and no error if nothing. */
@@ -119,7 +133,7 @@ bool is_made_of_state(PyTypeObject *kind, PyObject *arguments, PyObject *keyword
     if (!first || !(PyBytes_Check(first) || PyUnicode_Check(first))) {
         return false;
     }
-    *made = by_python(name, "(OO)", (PyObject *)kind, arguments);
+    *made = by_python(TEXTS, name, "(OO)", (PyObject *)kind, arguments);
     if (*made == Py_None) {
         Py_CLEAR(*made);
         return false;

@@ -129,13 +129,20 @@ static inline void free_object(PyObject *self, PyTypeObject *base, Blocks *kept)
 /* Adds a type to the module, with the names that a pattern takes in order, if it takes any; null if that fails. */
 PyTypeObject *add_type(PyObject *module, PyType_Spec *spec, const char *name, const char *match_args);
 
+/* The same of a type that stands on another. */
+PyTypeObject *add_type_of(PyObject *module, PyType_Spec *spec, const char *name, PyObject *base);
+
 bool set_on_type(PyObject *type, const char *name, PyObject *value);
 
 /* Gives a type of this module a member that is written in Python. */
 PyObject *extend(PyObject *module, PyObject *const *arguments, Py_ssize_t count);
 
-/* What a function of the module proved_calendar._texts returns, which is written in Python; the arguments as Py_BuildValue has them. */
-PyObject *by_python(const char *name, const char *format, ...);
+/* Modules of the package that are written in Python. */
+#define TEXTS "proved_calendar._texts"
+#define ZONED "proved_calendar._zoned"
+
+/* What a function of a module of the package returns, which is written in Python; the arguments as Py_BuildValue has them. */
+PyObject *by_python(const char *module, const char *name, const char *format, ...);
 
 /* The hash of an object that has two fields. */
 static inline Py_hash_t hash_of(int64_t seconds, uint32_t nanos)
@@ -240,8 +247,30 @@ PyObject *date_time_of(PyTypeObject *kind, calendar_date_time moment);
 /* Reads a DateTime or a datetime.datetime; a TypeError if it is neither, and a ValueError if it has a time zone. */
 bool take_moment(PyObject *it, calendar_date_time *moment);
 
+/* Reads a DateTime or a datetime.datetime and its zoning, of which the zone is a new reference; *is_one says whether it is either. */
+bool read_moment(PyObject *it, calendar_date_time *moment, Zoning *zoning, bool *is_one);
+
+/* Reads a date-time with a time zone as what UTC shows there; a TypeError if it is none. */
+bool take_instant(PyObject *it, calendar_date_time *utc);
+
+/* The date-time of a type that the clock of a Zone shows where UTC shows a moment; an OverflowError beyond the calendar. */
+PyObject *date_time_by_zone(PyTypeObject *kind, PyObject *zone, calendar_date_time utc);
+
 /* The last date-time of the calendar. */
 calendar_date_time last_moment(void);
+
+/* ---- time zones (zone.c) */
+
+bool make_zone_type(PyObject *module);
+bool is_zone(PyObject *it);
+const uint8_t *bytes_of_zone(PyObject *zone, size_t *length);
+
+/* The offset of what the clock of a Zone shows, and what UTC shows there; by a fold the second one of two. No nanos beyond the calendar. */
+int32_t offset_by_zone(PyObject *zone, calendar_date_time moment, bool fold);
+calendar_date_time utc_by_zone(PyObject *zone, calendar_date_time moment, bool fold);
+
+/* What the clock of a Zone shows where UTC shows a moment, in whose zoning the zone is no new reference. No nanos beyond the calendar. */
+calendar_date_time shown_by_zone(PyObject *zone, calendar_date_time utc, Zoning *zoning);
 
 /* ---- patterns, schedules, rules and open days (pattern.c, schedule.c, rule.c, business.c) */
 
@@ -283,6 +312,11 @@ bool is_timedelta(PyObject *it);
 bool read_timedelta(PyObject *it, int64_t *days, int64_t *seconds, int64_t *nanoseconds);
 
 bool is_tzinfo(PyObject *it);
+PyObject *tzinfo_type(void);
+
+/* Whether it is datetime.timezone.utc, and that itself. */
+bool is_utc(PyObject *it);
+PyObject *utc_zone(void);
 
 /* The day number of a `datetime.date`, and the parts of a `datetime.datetime`, with the nanoseconds past its microseconds that a
  * class derived from it keeps, as pandas' does. */

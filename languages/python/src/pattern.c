@@ -111,30 +111,38 @@ static PyObject *format(PyObject *self, PyObject *value)
 
 /* ---- reading */
 
-static PyObject *parse_date(PyObject *self, PyObject *text)
+/* Reads the bytes of a text by a pattern; null without an error if fault says what is wrong. */
+typedef PyObject *Reader(const Pattern *of, const uint8_t *bytes, size_t length, calendar_fault *fault);
+
+static PyObject *read_date(const Pattern *of, const uint8_t *bytes, size_t length, calendar_fault *fault)
 {
-    const Pattern *of = (Pattern *)self;
+    int32_t number = calendar_parse_date(of->bytes, of->length, bytes, length, fault);
+    return number == CALENDAR_NONE ? NULL : date_of(date_type, number);
+}
+
+static PyObject *read_date_time(const Pattern *of, const uint8_t *bytes, size_t length, calendar_fault *fault)
+{
+    calendar_date_time moment = calendar_parse_date_time(of->bytes, of->length, bytes, length, fault);
+    return moment.nanos == CALENDAR_NO_NANOS ? NULL : date_time_of(date_time_type, moment);
+}
+
+static PyObject *parsed(PyObject *self, PyObject *text, Reader *read)
+{
     calendar_fault fault;
     size_t length;
     const uint8_t *bytes = bytes_of(text, &length);
-    if (!bytes) {
-        return NULL;
-    }
-    int32_t number = calendar_parse_date(of->bytes, of->length, bytes, length, &fault);
-    return number == CALENDAR_NONE ? refuse_by_pattern(text, &fault) : date_of(date_type, number);
+    PyObject *value = bytes ? read((Pattern *)self, bytes, length, &fault) : NULL;
+    return value || PyErr_Occurred() ? value : refuse_by_pattern(text, &fault);
+}
+
+static PyObject *parse_date(PyObject *self, PyObject *text)
+{
+    return parsed(self, text, read_date);
 }
 
 static PyObject *parse_date_time(PyObject *self, PyObject *text)
 {
-    const Pattern *of = (Pattern *)self;
-    calendar_fault fault;
-    size_t length;
-    const uint8_t *bytes = bytes_of(text, &length);
-    if (!bytes) {
-        return NULL;
-    }
-    calendar_date_time moment = calendar_parse_date_time(of->bytes, of->length, bytes, length, &fault);
-    return moment.nanos == CALENDAR_NO_NANOS ? refuse_by_pattern(text, &fault) : date_time_of(date_time_type, moment);
+    return parsed(self, text, read_date_time);
 }
 
 /* ---- as Python's objects do */

@@ -147,6 +147,6 @@ void refuse_text(PyObject *text, const char *bytes, size_t length, const char *k
 
 PyObject *refuse_bytes(PyObject *text, const uint8_t *said, int32_t length, size_t start, size_t end)
 {
-    return by_python("refuse", "(Os#nn)", text, (const char *)said, (Py_ssize_t)(length < 0 ? 0 : length), (Py_ssize_t)start,
+    return by_python(TEXTS, "refuse", "(Os#nn)", text, (const char *)said, (Py_ssize_t)(length < 0 ? 0 : length), (Py_ssize_t)start,
                      (Py_ssize_t)end);
 }

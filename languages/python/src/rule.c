@@ -371,7 +371,7 @@ static PyObject *rule_item(PyObject *self, PyObject *key)
 {
     int64_t place, passed;
     if (PySlice_Check(key)) {
-        return by_python("slice_of", "(OO)", self, key);
+        return by_python(TEXTS, "slice_of", "(OO)", self, key);
     }
     if (!PyIndex_Check(key)) {
         return refuse_type("a whole number or a slice", key);

@@ -14,9 +14,11 @@ typedef struct {
 
 enum { FIRST_FILL = 2, FILLED = 64 };
 
-/* The moments of a schedule that are still to come: those that are found already, and the last one, after which to search. */
+/* The moments of a schedule that are still to come: those that are found already, and the last one, after which to search. With a Zone
+ * they are those of UTC; else it is null. */
 typedef struct {
     PyObject_HEAD
+    PyObject *zone;
     calendar_schedule fields;
     calendar_date_time last, until;
     size_t place, count, room;
@@ -86,16 +88,68 @@ static PyObject *moment_or_none(calendar_date_time moment)
     return date_time_of(date_time_type, moment);
 }
 
-static PyObject *next_after(PyObject *self, PyObject *it)
+/* The same by the clock of a Zone where UTC shows the moment. */
+static PyObject *zoned_or_none(PyObject *zone, calendar_date_time utc)
+{
+    if (utc.nanos == CALENDAR_NO_NANOS) {
+        Py_RETURN_NONE;
+    }
+    return date_time_by_zone(date_time_type, zone, utc);
+}
+
+/* Reads a date-time without a time zone, or one in a Zone as that of UTC; the zone, of which there is a new reference, or null. */
+static bool take_start(PyObject *it, calendar_date_time *start, PyObject **zone)
+{
+    Zoning zoning;
+    bool is_one;
+    *zone = NULL;
+    if (!read_moment(it, start, &zoning, &is_one)) {
+        return false;
+    }
+    if (!is_one) {
+        refuse_type("a DateTime or a datetime.datetime", it);
+        return false;
+    }
+    if (!zoning.zone) {
+        return true;
+    }
+    if (!is_zone(zoning.zone)) {
+        PyErr_Format(PyExc_ValueError, "the time zone of the date-time is no Zone of proved_calendar, but %R", zoning.zone);
+        Py_DECREF(zoning.zone);
+        return false;
+    }
+    *start = utc_by_zone(zoning.zone, *start, zoning.fold);
+    *zone = zoning.zone;
+    return true;
+}
+
+/* A moment of a schedule, that which a function finds from a start on; in a Zone another function finds it. */
+static PyObject *found_from(PyObject *self, PyObject *it, calendar_date_time (*find)(const calendar_schedule *, calendar_date_time),
+                            calendar_date_time (*find_in_zone)(const calendar_schedule *, const uint8_t *, size_t, calendar_date_time))
 {
     calendar_date_time start;
-    return take_moment(it, &start) ? moment_or_none(calendar_schedule_next(fields_of(self), start)) : NULL;
+    PyObject *zone;
+    size_t length;
+    if (!take_start(it, &start, &zone)) {
+        return NULL;
+    }
+    if (!zone) {
+        return moment_or_none(find(fields_of(self), start));
+    }
+    const uint8_t *bytes = bytes_of_zone(zone, &length);
+    PyObject *found = zoned_or_none(zone, find_in_zone(fields_of(self), bytes, length, start));
+    Py_DECREF(zone);
+    return found;
+}
+
+static PyObject *next_after(PyObject *self, PyObject *it)
+{
+    return found_from(self, it, calendar_schedule_next, calendar_zone_schedule_next);
 }
 
 static PyObject *prev_before(PyObject *self, PyObject *it)
 {
-    calendar_date_time start;
-    return take_moment(it, &start) ? moment_or_none(calendar_schedule_prev(fields_of(self), start)) : NULL;
+    return found_from(self, it, calendar_schedule_prev, calendar_zone_schedule_prev);
 }
 
 static PyObject *is_due(PyObject *self, PyObject *it)
@@ -108,14 +162,16 @@ static PyObject *is_due(PyObject *self, PyObject *it)
 
 static PyObject *iterate(PyObject *self, PyObject *const *arguments, Py_ssize_t count, PyObject *keywords)
 {
-    PyObject *parts[PARTS];
+    PyObject *parts[PARTS], *zone;
     calendar_date_time start, until = last_moment();
-    if (!take_array(&of_iterate, arguments, count, keywords, parts) || !take_moment(parts[0], &start)
-        || (parts[1] && parts[1] != Py_None && !take_moment(parts[1], &until))) {
+    if (!take_array(&of_iterate, arguments, count, keywords, parts) || !take_start(parts[0], &start, &zone)) {
         return NULL;
     }
-    Moments *moments = PyObject_New(Moments, iterator_type);
+    bool has_end = parts[1] && parts[1] != Py_None;
+    bool is_read = !has_end || (zone ? take_instant(parts[1], &until) : take_moment(parts[1], &until));
+    Moments *moments = is_read ? PyObject_New(Moments, iterator_type) : NULL;
     if (moments) {
+        moments->zone = Py_XNewRef(zone);
         moments->fields = *fields_of(self);
         moments->last = start;
         moments->until = until;
@@ -123,21 +179,37 @@ static PyObject *iterate(PyObject *self, PyObject *const *arguments, Py_ssize_t 
         moments->room = FIRST_FILL;
         moments->is_filling = false;
     }
+    Py_XDECREF(zone);
     return (PyObject *)moments;
+}
+
+/* Writes the moments of UTC at which a schedule fires in a zone, and returns how many there are. */
+static size_t due_in_zone(const Moments *of, const uint8_t *zone, size_t length, calendar_date_time *found)
+{
+    calendar_date_time last = of->last;
+    for (size_t i = 0; i < of->room; i++) {
+        last = calendar_zone_schedule_next(&of->fields, zone, length, last);
+        if (last.nanos == CALENDAR_NO_NANOS || last.seconds > of->until.seconds) {
+            return i;
+        }
+        found[i] = last;
+    }
+    return of->room;
 }
 
 /* Finds the moments that come next: few at first, since the caller may want no more. Other threads run meanwhile. */
 static bool fill(Moments *of)
 {
     calendar_date_time found[FILLED];
-    size_t count;
+    size_t count, length = 0;
     if (of->is_filling) {
         PyErr_SetString(PyExc_ValueError, "another thread is using the iterator");
         return false;
     }
     of->is_filling = true;
+    const uint8_t *zone = of->zone ? bytes_of_zone(of->zone, &length) : NULL;
     Py_BEGIN_ALLOW_THREADS
-    count = calendar_schedule_due(&of->fields, of->last, of->until, found, of->room);
+    count = zone ? due_in_zone(of, zone, length, found) : calendar_schedule_due(&of->fields, of->last, of->until, found, of->room);
     Py_END_ALLOW_THREADS
     of->is_filling = false;
     memcpy(of->found, found, count * sizeof found[0]);
@@ -157,7 +229,8 @@ static PyObject *moments_next(PyObject *self)
     if (of->place == of->count && (of->room == 0 || !fill(of))) {
         return NULL;
     }
-    return date_time_of(date_time_type, of->found[of->place++]);
+    calendar_date_time found = of->found[of->place++];
+    return of->zone ? date_time_by_zone(date_time_type, of->zone, found) : date_time_of(date_time_type, found);
 }
 
 static PyObject *moments_iter(PyObject *self)
@@ -168,6 +241,7 @@ static PyObject *moments_iter(PyObject *self)
 static void moments_free(PyObject *self)
 {
     PyTypeObject *kind = Py_TYPE(self);
+    Py_XDECREF(((Moments *)self)->zone);
     PyObject_Free(self);
     Py_DECREF(kind);
 }
@@ -215,17 +289,20 @@ static PyObject *schedule_reduce(PyObject *self, PyObject *unused)
 static PyMethodDef methods[] = {
     {"next_after", next_after, METH_O,
      "next_after($self, moment, /)\n--\n\n"
-     "Returns the first DateTime after a moment at which the schedule is due, or None if there is none.\n\n"
+     "Returns the first DateTime after a moment at which the schedule is due, or None if there is none.\n"
+     "In a Zone it is the first at which cron fires.\n\n"
      ">>> print(Schedule('30 4 1,15 * fri').next_after(DateTime(2024, 2, 9, 4, 30)))\n2024-02-15T04:30:00"},
     {"prev_before", prev_before, METH_O,
      "prev_before($self, moment, /)\n--\n\n"
-     "Returns the last DateTime before a moment at which the schedule is due, or None if there is none."},
+     "Returns the last DateTime before a moment at which the schedule is due, or None if there is none.\n"
+     "In a Zone it is the last at which cron fires."},
     {"is_due", is_due, METH_O,
      "is_due($self, moment, /)\n--\n\n"
      "Returns whether the schedule is due at a moment. It is due at the beginning of a minute, and never within one."},
     {"iterate", METHOD(iterate), METH_FASTCALL | METH_KEYWORDS,
      "iterate($self, /, start, until=None)\n--\n\n"
-     "Returns an iterator over the DateTimes after start at which the schedule is due, in order, and none after until.\n\n"
+     "Returns an iterator over the DateTimes after start at which the schedule is due, in order, and none after until.\n"
+     "In a Zone they are those at which cron fires.\n\n"
      ">>> [it.day for it in Schedule('@daily').iterate(DateTime(2024, 2, 27), DateTime(2024, 3, 1))]\n[28, 29, 1]"},
     {"__reduce__", schedule_reduce, METH_NOARGS, "__reduce__($self, /)\n--\n\nWhat pickle and copy keep."},
     {NULL, NULL, 0, NULL},
@@ -238,7 +315,12 @@ PyDoc_STRVAR(documentation,
 ">>> schedule.is_due(DateTime(2024, 2, 16, 4, 30))\nTrue\n\n"
 "A field is '*', a number, a range, a list or a step. Months and weekdays have their English names too. Days can be L, 15W,\n"
 "5L and 5#2, and the whole text a nickname such as '@daily'. If days of the month and weekdays are both given, one of them is\n"
-"enough, unless one field begins with '*'. A schedule knows no time zone.\n\n"
+"enough, unless one field begins with '*'.\n\n"
+"From a start without a time zone it goes by a clock that is never set. From one in a Zone it fires as cron does: a time that the\n"
+"clock skips fires as the gap ends, and one that it shows twice fires once. But a schedule of every minute or hour goes by what\n"
+"the clock shows.\n\n"
+">>> nightly = Schedule('30 2 * * *').iterate(DateTime(2024, 3, 30, tzinfo=Zone('Europe/Berlin')))\n"
+">>> print(next(nightly), next(nightly))\n2024-03-30T02:30:00+01:00 2024-03-31T03:00:00+02:00\n\n"
 "A text that is no schedule raises TextError, a ValueError with start and end.\n\n"
 ">>> Schedule('0 25 * * *')\n"
 "Traceback (most recent call last):\n"

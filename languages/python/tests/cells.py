@@ -12,6 +12,12 @@ from proved_calendar import Schedule
 
 print(Schedule("30 4 1,15 * fri").next_after(DateTime(2024, 2, 9, 4, 30)))  # = 2024-02-15T04:30:00
 
+# == schedules in a zone
+from proved_calendar import Zone
+
+nightly = Schedule("30 2 * * *").iterate(DateTime(2024, 3, 30, tzinfo=Zone("Europe/Berlin")))
+print(next(nightly), next(nightly))  # = 2024-03-30T02:30:00+01:00 2024-03-31T03:00:00+02:00
+
 # == recurrence rules
 from proved_calendar import Rule, RuleSet
 
@@ -38,11 +44,9 @@ from proved_calendar import day_count
 print(day_count(Date(2024, 1, 31), Date(2024, 3, 1), "actual_360"))  # = 1/12
 
 # == zones
-import datetime
-import zoneinfo
-
-berlin: datetime.tzinfo = zoneinfo.ZoneInfo("Europe/Berlin")
+berlin = Zone("Europe/Berlin")
 print(DateTime.fromisoformat("2024-07-01T10:00:00Z").astimezone(berlin))  # = 2024-07-01T12:00:00+02:00
+print(len(berlin.offsets(DateTime(2024, 3, 31, 2, 30))))  # = 0
 
 # == columns
 import numpy

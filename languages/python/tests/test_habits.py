@@ -242,7 +242,7 @@ class Keeping(unittest.TestCase):
             failing(Date.fromisoformat, 1)
             failing(LEAP_DAY.first_on, [1, 8])
             failing(LEAP_DAY.first_on, [1, "8"])
-            failing(LEAP_DAY.__add__, timedelta(seconds=1))
+            failing(LEAP_DAY.__add__, timedelta.max)
             failing(LEAP_DAY.add_months, 10**9)
             failing(lambda: LEAP_DAY + "1")
             failing(DateTime, LEAP_DAY, 24)
@@ -302,8 +302,9 @@ class Moves(unittest.TestCase):
                 self.assertEqual(by + LEAP_DAY, LEAP_DAY + by)
                 self.assertEqual((LEAP_DAY + by) - by, LEAP_DAY)
         for part in (timedelta(hours=36), timedelta(microseconds=-1), Duration(nanoseconds=1), Duration(days=1, seconds=-1)):
-            for call in (lambda: LEAP_DAY + part, lambda: part + LEAP_DAY, lambda: LEAP_DAY - part):
-                self.assertRaisesRegex(ValueError, "whole days", call)
+            self.assertEqual([LEAP_DAY + part, part + LEAP_DAY, LEAP_DAY - part], [LEAP_DAY + part.days, LEAP_DAY + part.days, LEAP_DAY - part.days])
+            for by in (part, -part) if isinstance(part, timedelta) else ():
+                self.assertEqual([LEAP_DAY + by, LEAP_DAY - by], [THEIR_LEAP_DAY + by, THEIR_LEAP_DAY - by])
         self.assertRaises(OverflowError, lambda: LEAP_DAY + timedelta.max.days)
         self.assertRaises(OverflowError, lambda: LEAP_DAY + timedelta(timedelta.max.days))
         self.assertRaises(OverflowError, lambda: LEAP_DAY - Duration(days=10**11))

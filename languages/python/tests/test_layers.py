@@ -305,6 +305,26 @@ class RuleSets(unittest.TestCase):
         self.assertEqual([*RuleSet(dates=[extra, JANUARY.to_date()])], [JANUARY, extra])
         self.assertEqual([*RuleSet()], [])
 
+    def test_all_left_out(self):
+        far, weekly, daily = Date(200_000, 3, 3), Rule("FREQ=WEEKLY;BYDAY=MO", JANUARY), Rule("FREQ=DAILY", JANUARY)
+        seldom = Rule("FREQ=YEARLY;INTERVAL=1000;BYMONTH=3;BYMONTHDAY=2,3;COUNT=4", JANUARY)
+        self.assertEqual([it.isoweekday() for it in (far, *seldom)].count(1), 0)
+        made = RuleSet([weekly, seldom], [far], [weekly])
+        self.assertEqual([*made], [*seldom, far])
+        self.assertEqual((made.after(seldom[3]), made.after(far), made.before(far), made.before(Date.max)), (far, None, seldom[3], far))
+        odd, even = (Rule("FREQ=DAILY;INTERVAL=2", JANUARY + it) for it in (0, 1))
+        none = RuleSet([daily], except_rules=[odd, even])
+        self.assertEqual((none.after(JANUARY), none.before(Date.max), [*none]), (None, None, []))
+        timed, later = Rule("FREQ=DAILY", DateTime(2024, 1, 1, 12)), Rule("FREQ=DAILY", DateTime(2600, 1, 1, 12))
+        ends = RuleSet([timed], except_rules=[later])
+        self.assertEqual((ends.before(DateTime.max), ends.after(DateTime(2599, 12, 31, 12))), (DateTime(2599, 12, 31, 12), None))
+
+    def test_seldom(self):
+        leap_days, others = (Rule(f"FREQ=DAILY;BYMONTH=2;BYMONTHDAY=29{it}", JANUARY) for it in ("", ";BYDAY=MO,TU,WE,TH,FR,SA"))
+        sundays = RuleSet([leap_days], except_rules=[others])
+        self.assertEqual([it.year for it in sundays[:4]], [2032, 2060, 2088, 2128])
+        self.assertEqual(sundays.before(Date(262_000, 1, 1)).isoweekday(), 7)
+
     def test_values(self):
         made = RuleSet([FRIDAYS], [JANUARY], except_dates=[datetime.date(2024, 1, 26)])
         self.assertEqual(repr(made), f"RuleSet(rules=[{FRIDAYS!r}], dates=[Date(2024, 1, 1)], except_dates=[Date(2024, 1, 26)])")

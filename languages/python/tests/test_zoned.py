@@ -12,7 +12,7 @@ import unittest
 import zoneinfo
 from datetime import timedelta, timezone
 
-from proved_calendar import Date, DateTime, Duration, Instant, Time
+from proved_calendar import Date, DateTime, Duration, Instant, Schedule, TextError, Time, Zone
 
 COUNT = 1_000
 NAMES = ("Europe/Berlin", "America/New_York", "Australia/Lord_Howe", "Pacific/Apia", "Africa/Casablanca", "Europe/Dublin", "Asia/Kathmandu")
@@ -89,6 +89,122 @@ class Cases(unittest.TestCase):
         for _ in range(COUNT):
             theirs = self.a_moment()
             yield DateTime.from_datetime(theirs), theirs
+
+
+class OwnZones(Cases):
+    """The package's own Zone beside zoneinfo's."""
+
+    def own_pairs(self):
+        for ours, theirs in self.pairs():
+            if isinstance(theirs.tzinfo, zoneinfo.ZoneInfo):
+                zone = Zone(theirs.tzinfo.key)
+                yield ours.replace(tzinfo=zone), theirs.replace(tzinfo=zone), theirs
+
+    def test_offsets(self):
+        for ours, as_datetime, theirs in self.own_pairs():
+            self.assertEqual((ours.utcoffset(), as_datetime.utcoffset(), ours.timestamp()), (theirs.utcoffset(), theirs.utcoffset(), theirs.timestamp()), theirs)
+            self.assertEqual((hash(ours), hash(as_datetime), ours.isoformat()), (hash(theirs), hash(theirs), DateTime.from_datetime(theirs).isoformat()))
+            self.assertEqual((ours.dst(), as_datetime.dst(), ours.tzname()), (None, None, timezone(theirs.utcoffset()).tzname(None)))
+            self.assertEqual([ours == theirs, ours < theirs], [theirs == theirs.astimezone(timezone.utc), False])
+            self.assertEqual(ours - DateTime.from_datetime(theirs), Duration())
+            self.assertIs(ours.astimezone(ours.tzinfo), ours)
+            again = {it.utcoffset() for it in (ours.replace(fold=0), ours.replace(fold=1))}
+            shown = ours.tzinfo.offsets(ours)
+            self.assertEqual(len(shown) == 1, len(again) == 1)
+            self.assertEqual(list(shown), [] if not shown else sorted(again, reverse=True))
+            self.assertEqual(shown, ours.tzinfo.offsets(as_datetime))
+
+    def test_conversions(self):
+        for ours, as_datetime, theirs in self.own_pairs():
+            name = self.chance.choice([it for it in NAMES if it != theirs.tzinfo.key])
+            for zone, their_zone in [(Zone(name), zoneinfo.ZoneInfo(name)), (timezone.utc, timezone.utc), (FIXED[2], FIXED[2])]:
+                wanted = theirs.astimezone(their_zone)
+                for source in (ours, DateTime.from_datetime(theirs)):
+                    found = source.astimezone(zone)
+                    self.assertEqual((found.replace(tzinfo=None), found.fold), (wanted.replace(tzinfo=None), wanted.fold), (theirs, name))
+                    self.assertIs(found.tzinfo, zone)
+                for source in (as_datetime, theirs):
+                    found = source.astimezone(zone)
+                    self.assertEqual((type(found), found.replace(tzinfo=None), found.fold), (datetime.datetime, wanted.replace(tzinfo=None), wanted.fold))
+            stamp = theirs.timestamp()
+            found, wanted = DateTime.fromtimestamp(stamp, Zone(name)), datetime.datetime.fromtimestamp(stamp, zoneinfo.ZoneInfo(name))
+            self.assertEqual((found.replace(tzinfo=None), found.fold), (wanted.replace(tzinfo=None), wanted.fold))
+            self.assertEqual(Instant.from_datetime(Instant.from_datetime(ours).astimezone(Zone(name))), Instant.from_datetime(ours))
+
+    def test_all_years(self):
+        berlin, at = Zone("Europe/Berlin"), DateTime(1, 1, 1, tzinfo=timezone.utc)
+        for _ in range(2_000):
+            moment = DateTime.from_seconds(self.chance.randrange(-6 * 10**10, 25 * 10**10)).replace(tzinfo=timezone.utc)
+            shown, wanted = moment.astimezone(berlin), moment.to_datetime().astimezone(BERLIN)
+            self.assertEqual((shown.replace(tzinfo=None), shown.fold), (wanted.replace(tzinfo=None), wanted.fold))
+            self.assertEqual(shown.astimezone(timezone.utc), moment)
+        self.assertEqual(at.astimezone(berlin).isoformat(), "0001-01-01T00:53:28+00:53:28")
+        far = DateTime(20_000, 7, 1, tzinfo=timezone.utc).astimezone(berlin)
+        self.assertEqual((far.isoformat(), far.tzname()), ("+20000-07-01T02:00:00+02:00", "UTC+02:00"))
+        self.assertEqual(at.astimezone(berlin).tzname(), "UTC+00:53:28")
+        self.assertEqual(DateTime(2016, 12, 31, 23, 59, 60, tzinfo=timezone.utc).astimezone(berlin).isoformat(), "2017-01-01T00:59:60+01:00")
+        self.assertEqual(DateTime(1016, 12, 31, 23, 59, 60, tzinfo=timezone.utc).astimezone(berlin).isoformat(), "1017-01-01T00:53:27+00:53:28")
+        self.assertRaises(OverflowError, DateTime.max.replace(tzinfo=timezone.utc).astimezone, berlin)
+        self.assertRaises(OverflowError, DateTime.min.replace(tzinfo=berlin).astimezone, timezone.utc)
+
+    def test_gap(self):
+        for fold, wanted in ((0, 1), (1, 2)):
+            self.assertEqual(DateTime.from_datetime(GAP).replace(tzinfo=Zone("Europe/Berlin"), fold=fold).utcoffset(), timedelta(hours=wanted))
+        skipped = DateTime(2011, 12, 30, 12, tzinfo=Zone("Pacific/Apia"))
+        self.assertEqual([skipped.replace(fold=it).utcoffset() for it in (0, 1)], [timedelta(hours=-10), timedelta(hours=14)])
+
+    def test_values(self):
+        berlin, tokyo = Zone("Europe/Berlin"), Zone.from_rule("JST-9")
+        with open(os.path.join(zoneinfo.TZPATH[0], "Europe/Berlin"), "rb") as it:
+            data = it.read()
+        file, named = Zone.from_tzif(data), Zone.from_tzif(bytearray(data), key="here")
+        self.assertIs(Zone(key="Europe/Berlin"), berlin)
+        self.assertEqual([it.key for it in (berlin, tokyo, file, named)], ["Europe/Berlin", None, None, "here"])
+        self.assertEqual([str(it) for it in (berlin, tokyo, file, named)], ["Europe/Berlin", "JST-9", "a TZif file", "here"])
+        self.assertEqual((repr(berlin), repr(tokyo)), ("Zone('Europe/Berlin')", "Zone.from_rule('JST-9')"))
+        self.assertEqual(len({berlin, tokyo, file, named, Zone.from_rule("JST-9"), Zone.from_tzif(data)}), 4)
+        for it in (berlin, tokyo, file, named):
+            for again in (eval(repr(it)), copy.copy(it), copy.deepcopy(it), pickle.loads(pickle.dumps(it))):
+                self.assertEqual((again, again.key, again is it or it is not berlin), (it, it.key, True))
+            moment = DateTime(2024, 2, 29, 12, tzinfo=it)
+            self.assertEqual(pickle.loads(pickle.dumps(moment)), moment)
+            self.assertEqual(eval(repr(moment)), moment)
+        self.assertFalse(berlin == file or berlin != Zone("Europe/Berlin") or berlin == "Europe/Berlin")
+        self.assertEqual((berlin.utcoffset(None), berlin.tzname(None), tokyo.tzname(None)), (None, "Europe/Berlin", None))
+        self.assertRaises(AttributeError, setattr, berlin, "key", "")
+
+    def test_refused(self):
+        for key in ("Europe/Berlim", "", "/etc/passwd", "../zoneinfo/Europe/Berlin", "Europe", "Europe/Berlin\0", "tzdata.zi"):
+            self.assertRaises(ValueError, Zone, key)
+        with self.assertRaises(TextError) as caught:
+            Zone.from_rule("EST5EDT")
+        self.assertEqual((str(caught.exception), caught.exception.start), ("the days of daylight time are missing", 7))
+        for wrong in (lambda: Zone.from_rule("TZif2"), lambda: Zone.from_tzif(b"TZif2"), lambda: Zone.from_tzif(b"JST-9"), lambda: Zone("Europe/Berlin").fromutc(DateTime(2024, 1, 1))):
+            self.assertRaises(ValueError, wrong)
+        for wrong in (lambda: Zone(), lambda: Zone(7), lambda: Zone.from_rule(b"JST-9"), lambda: Zone.from_tzif("TZif"), lambda: Zone.from_tzif(b"TZif", key=7),
+                      lambda: Zone("Europe/Berlin").utcoffset(7), lambda: Zone("Europe/Berlin").offsets(None), lambda: type("Own", (Zone,), {})):
+            self.assertRaises(TypeError, wrong)
+
+    def test_schedules(self):
+        berlin, nightly, hourly = Zone("Europe/Berlin"), Schedule("30 2 * * *"), Schedule("30 * * * *")
+        start, winter = DateTime(2024, 3, 30, 12, tzinfo=berlin), DateTime(2024, 10, 26, 12, tzinfo=berlin)
+        nights = [it.isoformat() for it in nightly.iterate(start, until=DateTime(2024, 4, 1, 0, 30, tzinfo=timezone.utc))]
+        self.assertEqual(nights, ["2024-03-31T03:00:00+02:00", "2024-04-01T02:30:00+02:00"])
+        for source in (start, start.to_datetime()):
+            self.assertEqual((nightly.next_after(source).isoformat(), nightly.next_after(source).tzinfo), (nights[0], berlin))
+        first = nightly.next_after(winter)
+        self.assertEqual((first.isoformat(), first.fold, nightly.next_after(first).isoformat()), ("2024-10-27T02:30:00+02:00", 0, "2024-10-28T02:30:00+01:00"))
+        second = hourly.next_after(first)
+        self.assertEqual((second.isoformat(), second.fold, hourly.prev_before(second)), ("2024-10-27T02:30:00+01:00", 1, first))
+        self.assertEqual(nightly.prev_before(nightly.next_after(start)), DateTime(2024, 3, 30, 2, 30, tzinfo=berlin))
+        many = [*hourly.iterate(winter, until=winter + Duration(days=10))]
+        self.assertEqual((len(many), many[-1]), (241, winter + Duration(days=9, hours=23, minutes=30)))
+        self.assertEqual(len({it.timestamp() for it in many}), 241)
+        self.assertEqual((Schedule("0 0 30 2 *").next_after(start), Schedule("0 0 30 2 *").prev_before(start), [*Schedule("0 0 30 2 *").iterate(start)]), (None, None, []))
+        self.assertRaises(ValueError, nightly.next_after, DateTime(2024, 3, 30, tzinfo=BERLIN))
+        self.assertRaises(ValueError, nightly.is_due, start)
+        for wrong in (lambda: nightly.iterate(start, DateTime(2024, 4, 1)), lambda: nightly.iterate(start, 7), lambda: nightly.next_after(7)):
+            self.assertRaises(TypeError, wrong)
 
 
 class Zones(Cases):

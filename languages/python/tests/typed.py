@@ -3,7 +3,7 @@ import datetime
 from fractions import Fraction
 
 from proved_calendar import (
-    BusinessCalendar, Date, DateTime, Duration, Instant, Pattern, Rule, RuleSet, Schedule, TextError, Time, Weekday, day_count, days_in_month, days_until, easter,
+    BusinessCalendar, Date, DateTime, Duration, Instant, Pattern, Rule, RuleSet, Schedule, TextError, Time, Weekday, Zone, day_count, days_in_month, days_until, easter,
     is_leap_year,
 )
 
@@ -52,6 +52,11 @@ try:
     Schedule("0 25 * * *")
 except TextError as error:
     wrong: str = error.text[error.start:error.end]
+berlin: Zone = Zone("Europe/Berlin")
+in_berlin: DateTime = Zone.from_rule("JST-9").fromutc(moment) if berlin.key else DateTime.now(berlin)
+there: datetime.datetime = standard.astimezone(berlin)
+firings: list[DateTime] = list(daily.iterate(in_berlin, there))
+lengths: tuple[Duration, ...] = berlin.offsets(moment)
 fridays: Rule[Date] = Rule("FREQ=WEEKLY;BYDAY=FR", day)
 meetings: Rule[DateTime] = Rule("FREQ=WEEKLY;COUNT=3", moment)
 without: RuleSet[Date] = RuleSet([fridays], [day, theirs], except_dates=[day + 7])

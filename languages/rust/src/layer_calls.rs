@@ -226,4 +226,10 @@ unsafe extern "C" {
         length: usize,
         start: Moment,
     ) -> Moment;
+    pub(crate) fn calendar_zone_schedule_prev(
+        schedule: &Sets,
+        zone: *const u8,
+        length: usize,
+        start: Moment,
+    ) -> Moment;
 }

@@ -36,6 +36,84 @@ fn put(dates: &mut Vec<Date>, date: Date) {
     }
 }
 
+/// The days after which the calendar repeats: 400 years. And no year has more.
+const CYCLE: i64 = 146_097;
+const YEAR: i64 = 366;
+
+/// Whether a rule has neither a count nor a last day.
+fn is_endless(rule: &Rule) -> bool {
+    let has = |name: &str| part_of(rule, name).is_some();
+    !has("COUNT") && !has("UNTIL")
+}
+
+/// The value of the part of a rule with a name.
+fn part_of<'a>(rule: &'a Rule, name: &str) -> Option<&'a str> {
+    let mut parts = rule.as_str().split(';').filter_map(|it| it.split_once('='));
+    parts.find_map(|(key, value)| key.eq_ignore_ascii_case(name).then_some(value))
+}
+
+/// The least number that two divide, or the greatest of all where that is too large.
+fn common(one: i64, other: i64) -> i64 {
+    let (mut low, mut high) = (one, other);
+    while high != 0 {
+        (low, high) = (high, low % high);
+    }
+    (one / low).saturating_mul(other)
+}
+
+/// A stretch of days that endless rules leave out.
+///
+/// Endless rules repeat with the calendar, after as many cycles as their intervals need. So once all days of one such time are left
+/// out, no day of an endless rule is an instance, from `begin` on.
+#[derive(Clone, Debug)]
+struct Stretch {
+    begin: i64,
+    most: i64,
+    first: Option<i64>,
+    is_over: bool,
+}
+
+impl Stretch {
+    fn new(set: &RuleSet) -> Stretch {
+        let all = set.rules.iter().chain(&set.except_rules);
+        let (mut last, mut interval) = (0, 1);
+        for (rule, start) in all.filter(|(rule, _)| is_endless(rule)) {
+            last = last.max(i64::from(start.number()));
+            let own = part_of(rule, "INTERVAL").and_then(|it| it.parse().ok());
+            interval = common(interval, own.unwrap_or(1));
+        }
+        Stretch {
+            begin: interval.saturating_mul(YEAR).saturating_add(last),
+            most: interval.saturating_mul(CYCLE),
+            first: None,
+            is_over: false,
+        }
+    }
+
+    /// Whether a day is left out so. The days are asked about in order.
+    fn has(&mut self, set: &RuleSet, day: Date) -> bool {
+        let mut endless = set.except_rules.iter().filter(|(it, _)| is_endless(it));
+        let is_left_out = endless.any(|(rule, start)| rule.is_instance(*start, day));
+        let number = i64::from(day.number());
+        self.first = match self.first {
+            _ if !is_left_out || number < self.begin => None,
+            None => Some(number),
+            first => first,
+        };
+        self.is_over |= self.first.is_some_and(|it| (it - number).abs() > self.most);
+        is_left_out
+    }
+
+    /// Where to look before a day for a rule: before the time of which all days of endless rules are left out.
+    fn place(&self, rule: &Rule, day: Date) -> Date {
+        if !self.is_over || !is_endless(rule) || i64::from(day.number()) <= self.begin {
+            return day;
+        }
+        let begin = i32::try_from(self.begin).ok();
+        begin.and_then(Date::from_number).unwrap_or(day)
+    }
+}
+
 /// Whether a day is an instance of one of some rules.
 fn is_of_rules(rules: &[(Rule, Date)], day: Date) -> bool {
     rules
@@ -133,13 +211,14 @@ impl RuleSet {
     /// ```
     #[must_use]
     pub fn prev_before(&self, day: Date) -> Option<Date> {
-        let mut day = day;
+        let (mut day, mut stretch) = (day, Stretch::new(self));
         loop {
             let earlier = self.dates.iter().copied().filter(|it| *it < day);
             let of_rules = self.rules.iter();
-            let of_rules = of_rules.filter_map(|(rule, start)| rule.prev_before(*start, day));
+            let of_rules = of_rules
+                .filter_map(|(rule, start)| rule.prev_before(*start, stretch.place(rule, day)));
             day = earlier.chain(of_rules).max()?;
-            if !self.is_left_out(day) {
+            if !stretch.has(self, day) && !self.is_left_out(day) {
                 return Some(day);
             }
         }
@@ -184,12 +263,13 @@ impl RuleSet {
         let of_rules = self.rules.iter();
         let of_rules = of_rules.map(|(rule, start)| {
             let walk = rule.instances_between(*start, from.max(*start), until);
-            walk.peekable()
+            (is_endless(rule), walk.peekable())
         });
         let first = self.dates.partition_point(|it| *it < from);
         let end = self.dates.partition_point(|it| *it <= until).max(first);
         RuleSetDays {
             set: self,
+            stretch: Stretch::new(self),
             walks: of_rules.collect(),
             dates: self.dates[first..end].iter().copied().peekable(),
         }
@@ -205,7 +285,9 @@ impl RuleSet {
 #[derive(Clone, Debug)]
 pub struct RuleSetDays<'a> {
     set: &'a RuleSet,
-    walks: Vec<Peekable<RuleDays<'a>>>,
+    stretch: Stretch,
+    /// The walk over each rule, and whether the rule is endless.
+    walks: Vec<(bool, Peekable<RuleDays<'a>>)>,
     dates: Peekable<Copied<slice::Iter<'a, Date>>>,
 }
 
@@ -214,14 +296,18 @@ impl Iterator for RuleSetDays<'_> {
 
     fn next(&mut self) -> Option<Date> {
         loop {
-            let heads = self.walks.iter_mut().filter_map(|it| it.peek().copied());
+            let heads = self.walks.iter_mut();
+            let heads = heads.filter_map(|(_, walk)| walk.peek().copied());
             let found = heads.chain(self.dates.peek().copied()).min()?;
-            for walk in &mut self.walks {
+            for (_, walk) in &mut self.walks {
                 walk.next_if_eq(&found);
             }
             self.dates.next_if_eq(&found);
-            if !self.set.is_left_out(found) {
+            if !self.stretch.has(self.set, found) && !self.set.is_left_out(found) {
                 return Some(found);
+            }
+            if self.stretch.is_over {
+                self.walks.retain(|(is_endless, _)| !is_endless);
             }
         }
     }

@@ -9,6 +9,10 @@ use crate::layer_calls::*;
 use crate::text_error::{Kind, TextError};
 use crate::{DateTime, Schedule};
 
+/// What a TZif file begins with, and the number of the fault of bytes that do not.
+const MAGIC: &[u8] = b"TZif";
+const NO_HEADER: u32 = 1;
+
 /// A time zone: the bytes of a TZif file, or the text of a POSIX rule, which is parsed.
 ///
 /// It needs the feature `alloc`. With `std`, [`Zone::named`] reads a zone of the machine. Each call reads the bytes, which takes 1 to 4
@@ -88,6 +92,7 @@ impl LocalOffsets {
 
 impl Zone {
     /// The zone that the bytes of a TZif file hold, such as those of `/usr/share/zoneinfo/Europe/Berlin`. It has at most 512 rows.
+    /// The text of a rule is no such file: parse it.
     ///
     /// ```
     /// let wrong = proved_calendar::Zone::from_tzif(*b"TZif").unwrap_err();
@@ -98,7 +103,19 @@ impl Zone {
     ///
     /// The error says why the bytes hold no zone.
     pub fn from_tzif(bytes: impl Into<Vec<u8>>) -> Result<Zone, TextError> {
-        Zone::checked(bytes.into())
+        let bytes = bytes.into();
+        if bytes.starts_with(MAGIC) {
+            Zone::checked(bytes)
+        } else {
+            Err(TextError {
+                fault: Fault {
+                    code: NO_HEADER,
+                    end: bytes.len(),
+                    ..Fault::NONE
+                },
+                kind: Kind::Zone,
+            })
+        }
     }
 
     /// The zone of a name, such as `Europe/Berlin`, from the machine's files: those of the folder `TZDIR`, or else of `/usr/share/zoneinfo`.
@@ -129,10 +146,7 @@ impl Zone {
         }
         let folder = std::env::var_os("TZDIR").unwrap_or_else(|| "/usr/share/zoneinfo".into());
         let bytes = std::fs::read(std::path::Path::new(&folder).join(name))?;
-        if !bytes.starts_with(b"TZif") {
-            return Err(Error::new(ErrorKind::InvalidData, "no TZif file"));
-        }
-        Zone::checked(bytes).map_err(|it| Error::new(ErrorKind::InvalidData, it))
+        Zone::from_tzif(bytes).map_err(|it| Error::new(ErrorKind::InvalidData, it))
     }
 
     /// The zone of bytes, if they are one.
@@ -404,5 +418,43 @@ impl Schedule {
         // SAFETY: so many bytes lie there.
         let found = unsafe { calendar_zone_schedule_next(self.sets(), bytes, length, moment) };
         start.zone.at(DateTime::found(found)?)
+    }
+
+    /// The last instant before `start` at which the schedule fires in a zone; `None` if there is none. It needs the feature `alloc`.
+    ///
+    /// ```
+    /// use proved_calendar::{DateTime, Schedule, Zone};
+    /// let berlin: Zone = "CET-1CEST,M3.5.0,M10.5.0/3".parse().unwrap();
+    /// let nightly: Schedule = "30 2 * * *".parse().unwrap();
+    /// let start = berlin.of_local("2024-03-31T12:00:00".parse::<DateTime>().unwrap()).unwrap();
+    /// assert_eq!(nightly.prev_in_zone(start).unwrap().to_string(), "2024-03-31T03:00:00+02:00");
+    /// ```
+    #[must_use]
+    pub fn prev_in_zone<'z>(&self, start: ZonedDateTime<'z>) -> Option<ZonedDateTime<'z>> {
+        let (bytes, length) = (start.zone.bytes.as_ptr(), start.zone.bytes.len());
+        let moment: Moment = start.utc.moment();
+        // SAFETY: so many bytes lie there.
+        let found = unsafe { calendar_zone_schedule_prev(self.sets(), bytes, length, moment) };
+        start.zone.at(DateTime::found(found)?)
+    }
+
+    /// The instants after `start` at which the schedule fires in a zone, in order. It needs the feature `alloc`.
+    ///
+    /// ```
+    /// use proved_calendar::{DateTime, Schedule, Zone};
+    /// let berlin: Zone = "CET-1CEST,M3.5.0,M10.5.0/3".parse().unwrap();
+    /// let nightly: Schedule = "30 2 * * *".parse().unwrap();
+    /// let start = berlin.of_local("2024-10-26T12:00:00".parse::<DateTime>().unwrap()).unwrap();
+    /// let nights: Vec<String> = nightly.after_in_zone(start).take(2).map(|it| it.to_string()).collect();
+    /// assert_eq!(nights, ["2024-10-27T02:30:00+02:00", "2024-10-28T02:30:00+01:00"]);
+    /// ```
+    pub fn after_in_zone<'z>(
+        &self,
+        start: ZonedDateTime<'z>,
+    ) -> impl Iterator<Item = ZonedDateTime<'z>> + 'z {
+        let schedule = *self;
+        core::iter::successors(schedule.next_in_zone(start), move |last| {
+            schedule.next_in_zone(*last)
+        })
     }
 }

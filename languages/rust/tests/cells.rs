@@ -16,6 +16,14 @@ fn main() {
     let start: DateTime = "2024-02-09T04:30:00".parse().unwrap();
     println!("{}", schedule.next_after(start).unwrap()); // = 2024-02-15T04:30:00
 
+    // == schedules in a zone
+    let berlin: Zone = "CET-1CEST,M3.5.0,M10.5.0/3".parse().unwrap();
+    let nightly: Schedule = "30 2 * * *".parse().unwrap();
+    let start = berlin.of_local("2024-03-30T12:00:00".parse().unwrap());
+    let night = nightly.next_in_zone(start.unwrap()).unwrap();
+    println!("{night}"); // = 2024-03-31T03:00:00+02:00
+    println!("{}", nightly.prev_in_zone(night).unwrap()); // = 2024-03-30T02:30:00+01:00
+
     // == recurrence rules
     let fridays: Rule = "FREQ=MONTHLY;BYDAY=-1FR".parse().unwrap();
     let start = date("2024-01-01");

@@ -819,9 +819,19 @@ fn zone_offsets_of_local() {
 
 #[test]
 fn ends_of_local_offsets() {
-    let [fold, only, gap] = [LocalOffsets::Two(7_200, 3_600), LocalOffsets::One(0), LocalOffsets::None];
-    assert_eq!([fold, only, gap].map(|it| it.earliest()), [Some(7_200), Some(0), None]);
-    assert_eq!([fold, only, gap].map(|it| it.latest()), [Some(3_600), Some(0), None]);
+    let [fold, only, gap] = [
+        LocalOffsets::Two(7_200, 3_600),
+        LocalOffsets::One(0),
+        LocalOffsets::None,
+    ];
+    assert_eq!(
+        [fold, only, gap].map(|it| it.earliest()),
+        [Some(7_200), Some(0), None]
+    );
+    assert_eq!(
+        [fold, only, gap].map(|it| it.latest()),
+        [Some(3_600), Some(0), None]
+    );
 }
 
 #[test]
@@ -857,6 +867,38 @@ fn zone_schedule_next() {
         "2024-10-27T02:30:00+01:00"
     );
     assert_eq!(schedule("0 0 30 2 *").next_in_zone(first), None);
+}
+
+#[test]
+fn zone_schedule_prev() {
+    let (berlin, nightly, hourly) = (zone(BERLIN), schedule("30 2 * * *"), schedule("30 * * * *"));
+    let start = |local| berlin.of_local(moment(local)).unwrap();
+    assert_eq!(
+        text(nightly.prev_in_zone(start("2024-04-01T02:30:00"))),
+        "2024-03-31T03:00:00+02:00"
+    );
+    assert_eq!(
+        text(nightly.prev_in_zone(start("2024-03-31T03:00:00"))),
+        "2024-03-30T02:30:00+01:00"
+    );
+    let [first, last] = berlin.ends_of_local(moment("2024-10-27T02:30:00")).unwrap();
+    assert_eq!(
+        nightly.prev_in_zone(start("2024-10-28T02:30:00")),
+        Some(first)
+    );
+    assert_eq!(hourly.prev_in_zone(last), Some(first));
+    assert_eq!(schedule("0 0 30 2 *").prev_in_zone(first), None);
+    let nights: Vec<_> = nightly.after_in_zone(first).take(2).collect();
+    assert_eq!(text(Some(nights[1])), "2024-10-29T02:30:00+01:00");
+    assert_eq!(schedule("0 0 30 2 *").after_in_zone(first).next(), None);
+}
+
+#[test]
+fn zones_of_rules_are_no_files() {
+    let wrong = Zone::from_tzif(*b"HST10").unwrap_err();
+    assert_eq!(wrong.to_string(), "no header of a TZif file stands there");
+    assert_eq!((wrong.start(), wrong.end()), (0, 5));
+    assert!(Zone::from_tzif(*b"").is_err());
 }
 
 /// Fridays and the last day of each month, from March 2024 on; 13 March is added, and the 29th left out.
@@ -895,6 +937,48 @@ fn rule_sets() {
         assert_eq!(set.prev_before(day).map(|it| it.day()), previous);
     }
     assert_eq!(set.next_after(Date::MAX), None);
+}
+
+#[test]
+fn rule_sets_of_which_all_days_are_left_out() {
+    let [start, next, far] = ["2024-01-01", "2024-01-02", "+200000-03-03"].map(date);
+    let seldom = rule("FREQ=YEARLY;INTERVAL=1000;BYMONTH=3;BYMONTHDAY=2,3;COUNT=4");
+    let weekly = || rule("FREQ=WEEKLY;BYDAY=MO");
+    let set = RuleSet::new()
+        .with_rule(weekly(), start)
+        .with_rule(seldom, start)
+        .with_date(far)
+        .without_rule(weekly(), start);
+    let days: Vec<i32> = set.instances().map(|it| it.year()).collect();
+    assert_eq!(days, [2024, 2024, 3024, 3024, 200_000]);
+    assert_eq!(set.next_after(far), None);
+    assert_eq!(text(set.prev_before(far)), "3024-03-03");
+    assert_eq!(set.prev_before(Date::MAX), Some(far));
+    let halves = || rule("FREQ=DAILY;INTERVAL=2");
+    let none = RuleSet::new()
+        .with_rule(rule("FREQ=DAILY"), start)
+        .without_rule(halves(), start)
+        .without_rule(halves(), next);
+    assert_eq!(
+        (none.next_after(start), none.prev_before(Date::MAX)),
+        (None, None)
+    );
+    assert_eq!(none.instances().next(), None);
+}
+
+#[test]
+fn rule_sets_with_few_instances() {
+    let start = date("2024-01-01");
+    let sundays = RuleSet::new()
+        .with_rule(rule("FREQ=DAILY;BYMONTH=2;BYMONTHDAY=29"), start)
+        .without_rule(
+            rule("FREQ=DAILY;BYMONTH=2;BYMONTHDAY=29;BYDAY=MO,TU,WE,TH,FR,SA"),
+            start,
+        );
+    let years: Vec<i32> = sundays.instances().take(4).map(|it| it.year()).collect();
+    assert_eq!(years, [2032, 2060, 2088, 2128]);
+    let last = sundays.prev_before(date("+262000-01-01")).unwrap();
+    assert_eq!(last.weekday(), Weekday::Sun);
 }
 
 #[test]

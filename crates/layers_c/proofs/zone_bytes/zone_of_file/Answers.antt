@@ -1,7 +1,12 @@
-use Rattle.std.proofs.Common.{◌∙◌, sym, subst, arith}
+use Rattle.std.proofs.Common.{◌∙◌, ℕ, ℤ, Bool, List, sym, subst, arith}
+use Rattle.std.specs.Prelude.{Option}
+use Rattle.zone_file.specs.Kinds.{IsKind}
+use Rattle.zone_file.specs.Tables.{IsRowsError}
+use Rattle.zone_rule.specs.declared.rule.ZoneRule.{ZoneRule}
+use Rattle.zone_database.specs.OwnedZones.{IsFooterOf}
 use Rattle.std.proofs.lemmas.Result.{IfOk-weaker}
 use Rattle.zone.specs.Parts.{IsZone}
-use Rattle.layers_c.proofs.FileLemmas.{held_zone, if_err, no_rows, of_parts, only_parts}
+use Rattle.layers_c.proofs.FileLemmas.{faulty_parts, file_with, held_zone, if_err, no_rows, of_file, of_parts, only_parts}
 use Rattle.layers_c.proofs.zone_bytes.zone_of_file.Goals as goal
 
 pub returns-in-Err-clause-none : goal.returns-in-Err-clause-none
@@ -61,3 +66,41 @@ returns-in-Err-read_rows-clause-none c =
     let f = c.in-Ok.file in
     no_rows c.args.bytes.now f.version f.times.now f.places.now f.kinds.now f.names.now f.footer.now c.in-Ok.ensures.every _ c.in-Err-read_rows.error c.requires
     c.in-Err-read_rows.ensures.error
+
+pub returns-in-Err-clause-why : goal.returns-in-Err-clause-why
+returns-in-Err-clause-why c = λ version times places kinds names footer file. c.in-Err.ensures.every version times places kinds names footer file
+
+pub returns-in_default-clause-why : goal.returns-in_default-clause-why
+returns-in_default-clause-why c =
+    let f = c.in-Ok.file in
+    file_with c.args.bytes.now f.version f.times.now f.places.now f.kinds.now f.names.now f.footer.now
+    (λ version times places kinds names footer. (first : ℤ) (is_dst : Bool) (name : List ℕ) → IsKind kinds names 0 first is_dst name → ⊥)
+    c.in-Ok.ensures.read (λ first is_dst name kind. c.in_default.ensures.every first is_dst name kind)
+
+pub returns-in-Err-rule_of_footer-clause-why : goal.returns-in-Err-rule_of_footer-clause-why
+returns-in-Err-rule_of_footer-clause-why c =
+    let f = c.in-Ok.file in
+    file_with c.args.bytes.now f.version f.times.now f.places.now f.kinds.now f.names.now f.footer.now
+    (λ version times places kinds names footer. (rule : Option ZoneRule) → IsFooterOf footer rule → ⊥)
+    c.in-Ok.ensures.read c.in-Err-rule_of_footer.ensures.none
+
+pub returns-in-Err-read_rows-clause-why : goal.returns-in-Err-read_rows-clause-why
+returns-in-Err-read_rows-clause-why c =
+    let f = c.in-Ok.file in
+    file_with c.args.bytes.now f.version f.times.now f.places.now f.kinds.now f.names.now f.footer.now
+    (λ version times places kinds names footer. IsRowsError version times places kinds 512 c.in-Err-read_rows.error)
+    c.in-Ok.ensures.read
+    (subst (λ n. IsRowsError f.version f.times.now f.places.now f.kinds.now n c.in-Err-read_rows.error) c.requires c.in-Err-read_rows.ensures.error)
+
+pub returns-in-Ok-read_rows-clause-why : goal.returns-in-Ok-read_rows-clause-why
+returns-in-Ok-read_rows-clause-why c =
+    let f = c.in-Ok.file in
+    let k = c.in-Some.kind in
+    let room = c.in-Ok-read_rows.ensures.room in
+    let within = c.in-Ok-read_rows.ensures.within in
+    if_err c.zone_of_parts.result _ _
+    (faulty_parts c.args.bytes.now f.version f.times.now f.places.now f.kinds.now f.names.now f.footer.now _
+    (of_file c.args.bytes.now f.version f.times.now f.places.now f.kinds.now f.names.now f.footer.now k.offset k.is_dst k.name.now c.read_rows.new.rows
+    c.in-Ok-read_rows.count c.in-Ok-rule_of_footer.rule c.in-Ok.ensures.read c.in-Some.ensures.read c.in-Ok-read_rows.ensures.count (omega (arith, room, within))
+    c.in-Ok-read_rows.ensures.rows c.in-Ok-rule_of_footer.ensures.read))
+    (rw c.first_rows.ensures at c.zone_of_parts.ensures.why)

@@ -58,3 +58,14 @@ pub returns-clause-rows : goal.returns-clause-rows
 returns-clause-rows c = λ k lt behind.
     let come = c.rows_begun-count.ensures.come k (omega (arith, lt, c.if-count-rows.false)) in
     absurd (omega (arith, ints, come, to_z-of_z w64 c.args.second c.ranges.second, behind))
+
+pub returns-then-count-rows-clause-end : goal.returns-then-count-rows-clause-end
+returns-then-count-rows-clause-end c =
+    let rows = c.args.rows.now in
+    let row : to_z w64 (of_z w64 c.second_at-until.result) ≡ row_second rows c.rows_begun-count.result = to_z-of_z w64 c.second_at-until.result (record { sfits = c.second_at-until.type_inv }) ∙ c.second_at-until.ensures in
+    let later = c.rows_begun-count.ensures.later c.rows_begun-count.result (omega arith) c.if-count-rows.true in
+    let here = to_z-of_z w64 c.args.second c.ranges.second in
+    inr ((c.rows_begun-count.result, c.if-count-rows.true, sym row), omega (arith, ints, row, later, here))
+
+pub returns-clause-end : goal.returns-clause-end
+returns-clause-end c = inl c.without_end.ensures.end

@@ -1,9 +1,9 @@
-use Rattle.std.proofs.Common.{rules, ◌≡◌, ◌∙◌, ℤ, pos, negsuc, SFits, ◌+ℤ◌, ◌≤ℤ◌, ◌<ℤ◌, ap, arith, subst, sym, to_z, of_z, w64}
+use Rattle.std.proofs.Common.{rules, inl, inr, refl, ◌≡◌, ◌∙◌, ℤ, pos, negsuc, SFits, ◌+ℤ◌, ◌≤ℤ◌, ◌<ℤ◌, ap, arith, subst, sym, to_z, of_z, w64}
 use Rattle.std.specs.Prelude.{Some}
 use Rattle.std.proofs.lemmas.Int.{by_lt_z, ints, to_z-of_z}
 use Rattle.chrono_zoned.specs.Offsets.{IsOffset}
-use Rattle.zone_rule.specs.Rules.{IsSteadyUntil}
-use Rattle.zone_rule.proofs.NextChanges.{all_near, always_standard, offset_is, steady_holds}
+use Rattle.zone_rule.specs.Rules.{IsNextSetting, IsSteadyUntil}
+use Rattle.zone_rule.proofs.NextChanges.{all_near, always_standard, first_set, never_set, offset_is, set_by, steady_holds}
 use Rattle.zone_rule.proofs.rule.ZoneRule.stretch_of_instant.Goals as goal
 
 pub returns-in_default-clause-offset : goal.returns-in_default-clause-offset
@@ -14,6 +14,12 @@ returns-in_default-clause-holds c = λ u from to. always_standard c.args.self.no
 
 pub returns-in_default-clause-near : goal.returns-in_default-clause-near
 returns-in_default-clause-near c = λ u. subst (λ (x : ℤ). IsOffset x) (sym (always_standard c.args.self.now c.in_default.is u)) c.without_end.ensures.near
+
+pub returns-in_default-clause-first : goal.returns-in_default-clause-first
+returns-in_default-clause-first c = λ t sets later. absurd (never_set c.args.self.now c.in_default.is t sets)
+
+pub returns-in_default-clause-end : goal.returns-in_default-clause-end
+returns-in_default-clause-end c = inl c.without_end.ensures.end
 
 pub returns-in_default-checked_add-clause-offset : goal.returns-in_default-checked_add-clause-offset
 returns-in_default-checked_add-clause-offset c = offset_is c.args.self.now c.in-Some.daylight c.args.second _ c.hold_from-hold.result.is_daylight c.offset_if-offset.result c.in-Some.is (to_z-of_z w64 c.args.second c.ranges.second) c.hold_from-hold.ensures.holds c.offset_if-offset.ensures
@@ -49,6 +55,25 @@ returns-in_default-checked_add-clause-near c =
     let near : IsOffset c.args.self.now.standard = subst (λ (x : ℤ). IsOffset x) c.local_minus_utc.ensures.value c.local_minus_utc.ensures.in_range in
     let far : IsOffset c.in-Some.daylight.offset = subst (λ (x : ℤ). IsOffset x) c.local_minus_utc-2.ensures.value c.local_minus_utc-2.ensures.in_range in
     all_near c.args.self.now c.in-Some.daylight c.in-Some.is near far
+
+pub returns-in_default-checked_add-clause-first : goal.returns-in_default-checked_add-clause-first
+returns-in_default-checked_add-clause-first c =
+    let r = c.args.self.now in
+    let d = c.in-Some.daylight in
+    let second = c.args.second in
+    let here : to_z w64 (of_z w64 second) ≡ second = to_z-of_z w64 second c.ranges.second in
+    let wait : ℤ = c.hold_from-hold.result.wait in
+    let kept : to_z w64 (of_z w64 wait) ≡ wait = to_z-of_z w64 wait (search rules) in
+    let next : IsNextSetting (record { standard = r.standard; daylight = Some d }) second (second +ℤ wait) =
+    subst (λ (x : ℤ). IsNextSetting (record { standard = r.standard; daylight = Some d }) x (x +ℤ wait)) here c.hold_from-hold.ensures.next in
+    let more : pos 0 <ℤ wait = let later = next.later in omega (arith, ints, later) in
+    let past : pos 9_223_372_036_854_775_807 ≤ℤ (second +ℤ wait) = by_lt_z (second +ℤ wait) (pos 9_223_372_036_854_775_807)
+    (λ lt. absurd (c.in_default-checked_add.ensures (fits_under second wait c.ranges.second more lt (to_z w64 (of_z w64 second) +ℤ to_z w64 (of_z w64 wait)) (omega (arith, ints, here, kept)))))
+    (λ ge. ge) in
+    first_set r d second (second +ℤ wait) (pos 9_223_372_036_854_775_807) c.in-Some.is next past
+
+pub returns-in_default-checked_add-clause-end : goal.returns-in_default-checked_add-clause-end
+returns-in_default-checked_add-clause-end c = inl refl
 
 pub returns-clause-offset : goal.returns-clause-offset
 returns-clause-offset c = offset_is c.args.self.now c.in-Some.daylight c.args.second _ c.hold_from-hold.result.is_daylight c.offset_if-offset.result c.in-Some.is (to_z-of_z w64 c.args.second c.ranges.second) c.hold_from-hold.ensures.holds c.offset_if-offset.ensures
@@ -89,3 +114,34 @@ returns-clause-near c =
     let near : IsOffset c.args.self.now.standard = subst (λ (x : ℤ). IsOffset x) c.local_minus_utc.ensures.value c.local_minus_utc.ensures.in_range in
     let far : IsOffset c.in-Some.daylight.offset = subst (λ (x : ℤ). IsOffset x) c.local_minus_utc-2.ensures.value c.local_minus_utc-2.ensures.in_range in
     all_near c.args.self.now c.in-Some.daylight c.in-Some.is near far
+
+pub returns-clause-first : goal.returns-clause-first
+returns-clause-first c =
+    let r = c.args.self.now in
+    let d = c.in-Some.daylight in
+    let second = c.args.second in
+    let here : to_z w64 (of_z w64 second) ≡ second = to_z-of_z w64 second c.ranges.second in
+    let wait : ℤ = c.hold_from-hold.result.wait in
+    let kept : to_z w64 (of_z w64 wait) ≡ wait = to_z-of_z w64 wait (search rules) in
+    let next : IsNextSetting (record { standard = r.standard; daylight = Some d }) second (second +ℤ wait) =
+    subst (λ (x : ℤ). IsNextSetting (record { standard = r.standard; daylight = Some d }) x (x +ℤ wait)) here c.hold_from-hold.ensures.next in
+    let until = c.in-Some-checked_add.until in
+    let sum : to_z w64 (of_z w64 until) ≡ (second +ℤ wait) =
+    to_z-of_z w64 until (subst (λ (x : ℤ). SFits w64 x) (sym c.in-Some-checked_add.ensures.1) c.in-Some-checked_add.ensures.0) ∙ c.in-Some-checked_add.ensures.1 ∙ ap (λ (x : ℤ). x +ℤ to_z w64 (of_z w64 wait)) here ∙ ap (λ (x : ℤ). second +ℤ x) kept in
+    first_set r d second (second +ℤ wait) (to_z w64 (of_z w64 until)) c.in-Some.is next (omega (arith, ints, sum))
+
+pub returns-clause-end : goal.returns-clause-end
+returns-clause-end c =
+    let r = c.args.self.now in
+    let d = c.in-Some.daylight in
+    let second = c.args.second in
+    let here : to_z w64 (of_z w64 second) ≡ second = to_z-of_z w64 second c.ranges.second in
+    let wait : ℤ = c.hold_from-hold.result.wait in
+    let kept : to_z w64 (of_z w64 wait) ≡ wait = to_z-of_z w64 wait (search rules) in
+    let next : IsNextSetting (record { standard = r.standard; daylight = Some d }) second (second +ℤ wait) =
+    subst (λ (x : ℤ). IsNextSetting (record { standard = r.standard; daylight = Some d }) x (x +ℤ wait)) here c.hold_from-hold.ensures.next in
+    let until = c.in-Some-checked_add.until in
+    let sum : to_z w64 (of_z w64 until) ≡ (second +ℤ wait) =
+    to_z-of_z w64 until (subst (λ (x : ℤ). SFits w64 x) (sym c.in-Some-checked_add.ensures.1) c.in-Some-checked_add.ensures.0) ∙ c.in-Some-checked_add.ensures.1 ∙ ap (λ (x : ℤ). x +ℤ to_z w64 (of_z w64 wait)) here ∙ ap (λ (x : ℤ). second +ℤ x) kept in
+    let later = next.later in
+    inr (set_by r d (second +ℤ wait) (to_z w64 (of_z w64 until)) c.in-Some.is sum next.sets, omega (arith, ints, sum, later))
