@@ -1,4 +1,4 @@
-use Rattle.std.proofs.Common.{◌≡◌, rules, ℤ, pos, SFits, ◌+ℤ◌, ◌-ℤ◌, ◌≤ℤ◌, ◌<ℤ◌, of_z, to_z, w64, arith, refl, subst, sym}
+use Rattle.std.proofs.Common.{◌≡◌, rules, ℤ, pos, SFits, ◌-ℤ◌, of_z, to_z, w64, arith, refl, subst, sym}
 use Rattle.std.proofs.lemmas.Bool.{both_ways}
 use Rattle.std.proofs.lemmas.Int.{ints, to_z-of_z}
 use Rattle.chrono_instant.specs.Instants.{epoch_second}

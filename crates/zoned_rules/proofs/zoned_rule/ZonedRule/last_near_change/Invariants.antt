@@ -1,5 +1,5 @@
 -- Each instant of the last two days lies before the second that the search has come to.
-use Rattle.std.proofs.Common.{pos, neg_ℤ, ◌-ℤ◌, ◌≤ℤ◌, unsigned_abs}
+use Rattle.std.proofs.Common.{pos, ◌-ℤ◌, ◌≤ℤ◌, unsigned_abs}
 use Rattle.zoned_rules.proofs.Candidates.{LieBefore}
 use Rattle.zoned_rules.proofs.zoned_rule.ZonedRule.last_near_change.Given as goal
 
