@@ -95,6 +95,22 @@ def answers_in_parts(room, folder, lines, most):
     return told
 
 
+def answers_of(room, folder, uses, lines, most):
+    """The same. Where the libraries that it uses are proved here, `rt run` proves and builds the program, which takes all lines at once."""
+    if not take_proved(room, all_below(uses, listed_crates())):
+        return answers_in_parts(room, folder, lines, most)
+    name = os.path.basename(folder)
+    built = subprocess.run(["rt", "run", "--jobs", "1"], cwd=folder, stdin=subprocess.DEVNULL, stdout=subprocess.PIPE, stderr=subprocess.STDOUT, text=True)
+    if not os.path.isfile(f"{folder}/out/{name}"):
+        sys.exit(built.stdout[-3000:])
+    asked = "".join(f"{it}\n" for it in lines)
+    said = subprocess.run([f"{folder}/out/{name}"], input=asked, stdout=subprocess.PIPE, text=True, errors="replace").stdout
+    told = [line[2:] for line in said.split("\n") if line.startswith("= ")]
+    if len(told) != len(lines):
+        sys.exit(f"{len(told)} answers for {len(lines)} lines:\n{said[-3000:]}")
+    return told
+
+
 def make_repository(room):
     """Writes the repository; the names of its libraries and of its callers."""
     crates, files = listed_crates(), quoted_files()

@@ -1,8 +1,10 @@
 #!/usr/bin/env python3
 """Holds zoned_rules to dateutil's rules over local times, which two sentences of RFC 5545 lead to instants by Python's zoneinfo.
 
-    checks/zoned_rules.py [--zones N] [--years N]      (2 zones of six and 1 year of each, if left out)
-    checks/zoned_rules.py --lines N [--seed N]         (so many questions drawn by chance near changes of all six zones)
+    checks/zoned_rules.py [--zones N] [--years N] [--lines N] [--seed N]
+
+All changes of N zones of six are gone through, in so many years of each (2 and 1, if left out). N lines more are drawn by chance near changes
+of all six zones from 2000 to 2029 (20,000, if left out). A line asks about seven questions.
 
 dateutil's `rrule` gives the local times of a rule, with no zone. Each stands for an instant by RFC 5545, 3.3.5: the first at which the clock
 shows it, or by the offset before the gap. Instants that are one count once, and those before the start's instant do not count.
@@ -11,17 +13,26 @@ interval that never meets a list of the rule, where the program finds no instanc
 COUNT and UNTIL are held to the instants here, not to the local times. Of some rules one instant is made an exception, and the instant ten
 minutes behind it is set beside the rule. The zones have gaps and folds of half an hour, of one hour and of two, four
 changes in a year, and a day that the clock skips. Some days around each change are gone through by `next_after` and by `prev_before`, and
-some hours by `is_instance` at each quarter of an hour. `rt try` runs a small program unproved, in a copy of the crates.
+some hours by `is_instance` at each quarter of an hour. A small program answers, in a copy of the crates. Where they are proved here, `rt run`
+proves it too, and its answers take seconds. Otherwise `rt try` runs it unproved, a hundred times as slowly.
+
+dateutil is also asked for the instants of `next` itself, with the zone at the start. Where it answers otherwise, it is for one of these reasons:
+- `order`: it lists the instants in the order of the local times. A gap moves some behind later ones, or twice onto one.
+- `count` and `until`: COUNT counts local times there, and a rule ends at the first local time that is past UNTIL.
+- `start`: a gap moves a local time before the start's behind the start's instant. dateutil leaves it out.
+We list each instant once, in order, and hold the bounds to them. Any other difference is a failure.
 """
 import argparse
+import collections
 import datetime
+import functools
 import itertools
 import random
 import tempfile
 import zoneinfo
 
-from outside import answers_in_parts, put_program
-from zoned_schedules import MAIN, WALKS, end
+from outside import answers_of, put_program
+from zoned_schedules import MAIN, MOST_STEPS, WALKS, end
 
 from debian import restart_without  # noqa: E402
 
@@ -80,17 +91,17 @@ use chrono_datetime::NaiveDateTime;
 use chrono_instant::{FromTimestamp, Timestamp};
 use chrono_sets::NumberSet;
 use std::io::{self, BufRead, BufReader};
-use zone_database::{Zone, system_database};
-use zoned_rules::{Bound, ClockSteps, ClockUnit, DateTime, DayTimes, InZone, LocalRule, ZonedRecurrence, ZonedRule, instant_of, read_rule};
+use zone_database::system_database;
+use zoned_rules::{Bound, ClockSteps, ClockUnit, DayTimes, InZone, LocalRule, TimeZone, ZonedRecurrence, ZonedRule, instant_of, read_rule};
 
 ''' + MAIN + r'''
 // The numbers that commas separate.
 fn listed(text: &str) -> NumberSet {
     let mut set = NumberSet::none();
     let mut rest = text;
-    while rest.len() > 1 {
+    for _ in 0..64 {
         let (first, others) = rest.split_once(',').unwrap_or((rest, ""));
-        let number: u32 = first.parse().unwrap_or(63);
+        let number: u32 = first.parse().unwrap_or(64);
         if number < 64 {
             set = set.with(number);
         }
@@ -115,7 +126,7 @@ fn steps_of(text: &str) -> ClockSteps {
 }
 
 // Answers `CALL START END DTSTART BOUND NUMBER HOURS MINUTES SECONDS STEPS RULE`.
-fn answer(rt: &HostRuntime, zone: &Zone, words: &str) -> io::Result<()> {
+fn answer<Z: TimeZone>(rt: &HostRuntime, zone: Z, words: &str) -> io::Result<()> {
     let (call, words) = words.split_once(' ').unwrap_or((words, ""));
     let (start, words) = words.split_once(' ').unwrap_or((words, ""));
     let (end, words) = words.split_once(' ').unwrap_or((words, ""));
@@ -155,16 +166,23 @@ fn answer(rt: &HostRuntime, zone: &Zone, words: &str) -> io::Result<()> {
     match call {
 WALKS        "set" => {
             // (the bound's number is the exception)
-            let (Some(left_out), Some(beside)) = (zone.timestamp_opt(except, 0), zone.timestamp_opt(except + 600, 0)) else {
+            let (Some(left_out), Some(beside)) = (zone.timestamp_opt(except, 0), zone.timestamp_opt(except.saturating_add(600), 0)) else {
                 return println!(rt; "no instants");
             };
+            let (mut dates, mut exceptions) = (Vec::new(rt.alloc()), Vec::new(rt.alloc()));
+            if dates.push(beside).is_err() || exceptions.push(left_out).is_err() {
+                return println!(rt; "no memory");
+            }
             let set = ZonedRecurrence {
                 rule,
-                dates: &[beside],
-                exceptions: &[left_out],
+                dates: &dates,
+                exceptions: &exceptions,
             };
-            let mut from = zone.timestamp_opt(start - 1, 999_999_999);
-            while let Some(instant) = from {
+            let mut from = zone.timestamp_opt(start.saturating_sub(1), 999_999_999);
+            for _ in 0..STEPS {
+                let Some(instant) = from else {
+                    break;
+                };
                 from = None;
                 if let Some(next) = set.next_after(instant) {
                     if next.timestamp() < end && set.is_instance(next) {
@@ -173,8 +191,11 @@ WALKS        "set" => {
                     }
                 }
             }
-            let mut to = zone.timestamp_opt(end - 1, 1);
-            while let Some(instant) = to {
+            let mut to = zone.timestamp_opt(end.saturating_sub(1), 1);
+            for _ in 0..STEPS {
+                let Some(instant) = to else {
+                    break;
+                };
                 to = None;
                 if let Some(prev) = set.prev_before(instant) {
                     if start <= prev.timestamp() {
@@ -186,30 +207,37 @@ WALKS        "set" => {
         }
         "local" => {
             let mut second = start;
-            while second < end {
+            for _ in 0..STEPS {
+                if second >= end {
+                    break;
+                }
                 if let Some(shown) = NaiveDateTime::from_timestamp(second, 0) {
                     if let Some(instant) = instant_of(zone, shown) {
                         print!(rt; "{} ", instant.timestamp())?;
                     }
                 }
-                second += 900;
+                second = second.saturating_add(900);
             }
         }
         _ => {
             let mut second = start;
-            while second < end {
+            for _ in 0..STEPS {
+                if second >= end {
+                    break;
+                }
                 if let Some(instant) = zone.timestamp_opt(second, 0) {
                     if rule.is_instance(instant) {
                         print!(rt; "{second} ")?;
                     }
                 }
-                second += 900;
+                second = second.saturating_add(900);
             }
         }
     }
     println!(rt; "")
 }
-'''.replace("WALKS", WALKS.replace("PLAN", "rule"))
+'''.replace("WALKS", WALKS.replace("PLAN", "rule")).replace("STEPS", MOST_STEPS)
+USES = ["chrono_sets", "chrono_datetime", "chrono_instant", "zone", "zone_database", "zoned_rules"]
 
 
 def seconds_of(naive):
@@ -378,6 +406,74 @@ def drawn(count, seed):
     return rows[:count]
 
 
+def rule_in(row):
+    """The rule of a question, as RULES has it, and its start."""
+    start, _, _, *parts, steps, text = row.split(" ", 10)[3:]
+    return (text, *("" if it == "-" else it[:-1] for it in parts), *([steps] if steps != "D1" else [])), EPOCH + datetime.timedelta(seconds=int(start))
+
+
+@functools.lru_cache(maxsize=8)
+def of_dateutil(zone, rule, start, bound, last):
+    """The instants that Python gives for dateutil's times of a rule, up to a last one, where the start has the zone and the text has the bound."""
+    from dateutil.rrule import rrulestr
+    text, *numbers = rule[:4]
+    parts = [f"{name}={it}" for name, it in zip(("BYHOUR", "BYMINUTE", "BYSECOND"), numbers) if it]
+    if rule[4:]:
+        text = text.replace("FREQ=DAILY", f"FREQ={UNITS[rule[4][0]][0]};INTERVAL={rule[4][1:]}")
+    try:
+        found = rrulestr(";".join([text, *parts]) + bound, dtstart=start.replace(tzinfo=zone))
+        return [int(it.timestamp()) for it in itertools.takewhile(lambda it: it.replace(tzinfo=None) <= last, found)]
+    except ValueError as error:
+        if "empty set" not in str(error) and "empty rule" not in str(error):
+            raise
+        return []
+
+
+def ended(found, bound, number):
+    """The instants that COUNT or UNTIL leaves of a rule's."""
+    found = sorted({*found})
+    return found[:number] if bound == "count" else [it for it in found if bound != "until" or it <= number]
+
+
+def kind_of(known, row, ours):
+    """How dateutil's own answer to a question on `next` differs: "" if it does not, and None if for no reason that is listed."""
+    low, high, _, bound, number = row.split(" ", 6)[1:6]
+    low, high, number = int(low), int(high), int(number)
+    rule, start = rule_in(row)
+    last = EPOCH + datetime.timedelta(days=high // DAY + 4)
+    texts = {"count": f";COUNT={number}", "until": f";UNTIL={EPOCH + datetime.timedelta(seconds=number):%Y%m%dT%H%M%SZ}"}
+    begun = known[seconds_of(start)]
+    whole = of_dateutil(known.zone, rule, start, "", last)
+    readings = {
+        "": lambda: of_dateutil(known.zone, rule, start, texts.get(bound, ""), last),
+        "order": lambda: sorted({*of_dateutil(known.zone, rule, start, texts.get(bound, ""), last)}),
+        bound: lambda: ended(whole, bound, number),
+        "start": lambda: ended(instances(known, rule, start, high), bound, number) if is_set_near(known.zone, begun) else [],
+    }
+    return next((kind for kind, told in readings.items() if [it for it in told() if low <= it < high] == ours), None)
+
+
+def is_set_near(zone, second):
+    """Whether the clock is set within a day of a second."""
+    return ahead(zone, second - DAY) != ahead(zone, second + DAY)
+
+
+def beside_dateutil(rows, answers):
+    """Counts how dateutil itself answers otherwise; how many answers were compared, and the differences that are not listed."""
+    known, counts, others, compared = {}, collections.Counter(), [], 0
+    for (row, _), answer in zip(rows, answers):
+        name, row = row.split(" ", 1)
+        # (dateutil goes on to the year 9999 where a rule by the clock has no instance)
+        if row.startswith("next") and (answer or " D1 " in row):
+            ours = [int(it) for it in answer.split()]
+            kind = kind_of(known.setdefault(name, Known(zoneinfo.ZoneInfo(name))), row, ours)
+            compared += len(ours) + 1
+            counts[kind] += 1
+            others += [] if kind is not None else [f"{name} {row}: {answer}, and dateutil has not"]
+    print(f"dateutil with the zone: {compared} answers to {sum(counts.values())} lines, of which it has otherwise " + ", ".join(f"{n} {it}" for it, n in sorted(counts.items(), key=str) if it))
+    return compared, others
+
+
 def line_of(call, low, high, start, bound, number, rule):
     """A question as the program reads it."""
     parts = " ".join(f"{it}," if it else "-" for it in rule[1:4])
@@ -389,10 +485,9 @@ def main():
     parser = argparse.ArgumentParser(description=__doc__.partition("\n")[0])
     parser.add_argument("--zones", type=int, default=2)
     parser.add_argument("--years", type=int, default=1)
-    parser.add_argument("--lines", type=int, help="so many questions drawn by chance, of all zones and changes from 2000 to 2029")
+    parser.add_argument("--lines", type=int, default=20_000)
     parser.add_argument("--seed", type=int, default=1)
     options = parser.parse_args()
-    zones = ZONES if options.lines else ZONES[:options.zones]
     restart_without(dateutil)
     if dateutil is None:
         print("not run: checks/zoned_rules.py, which needs dateutil\n0 passed, 0 failed")
@@ -400,19 +495,17 @@ def main():
     if not zoneinfo.available_timezones():
         print("not run: checks/zoned_rules.py, which needs a database of time zones\n0 passed, 0 failed")
         return
-    if options.lines:
-        rows = drawn(options.lines, options.seed)
-    else:
-        rows = [(f"{name} {it}", run) for name, first in zones for it, run in questions(name, first, options.years)]
+    rows = [(f"{name} {it}", run) for name, first in ZONES[: options.zones] for it, run in questions(name, first, options.years)]
+    rows += drawn(options.lines, options.seed)
     with tempfile.TemporaryDirectory(prefix="zoned_rules-") as room:
-        uses = ["chrono_sets", "chrono_datetime", "chrono_instant", "zone_database", "zoned_rules"]
-        folder = put_program(room, "instants", uses, PROGRAM)
-        answers = [it.strip() for it in answers_in_parts(room, folder, [it for it, _ in rows], LINES)]
-    for name, _ in zones:
+        folder = put_program(room, "instants", USES, PROGRAM)
+        answers = [it.strip() for it in answers_of(room, folder, USES, [it for it, _ in rows], LINES)]
+    compared, others = beside_dateutil(rows, answers)
+    for name, _ in ZONES:
         asked = [pair for pair in zip(rows, answers) if pair[0][0].startswith(name)]
         calls = sum(len(run.split()) + 1 if " is " not in it else 12 for (it, run), _ in asked)
         print(f"{name}: {len(asked)} lines, {calls} questions, {sum(a != b for (_, b), a in asked)} lines answered otherwise")
-    end(rows, answers)
+    end(rows, answers, compared, others)
 
 
 if __name__ == "__main__":

@@ -10,7 +10,8 @@ The zones have gaps and folds of a quarter of an hour, of half an hour, of one h
 one that stays, or a day that the clock skips.
 Some days around each change are gone through by `next_after` and by `prev_before`, and some hours by `is_due` at each half minute. For schedules
 with few times the whole year is gone through by `next_after`: for each zone for a third of them, or for all if --years is given, which then counts
-from the first year of the zone. `rt try` runs a small program unproved, in a copy of the crates.
+from the first year of the zone. A small program answers, in a copy of the crates: proved by `rt run`, or by `rt try` where the crates are not
+proved here.
 
 croniter 1.3.5 is asked for the next instant after 20,000 starts that lie around the changes of all zones. It reckons with local time and sets the
 answer right by the offsets at the start and at its answer. Where it answers otherwise, the difference is counted as one of these:
@@ -30,7 +31,7 @@ import sys
 import tempfile
 import zoneinfo
 
-from outside import TOP, answers_in_parts, put_program
+from outside import TOP, answers_of, put_program
 
 sys.path.insert(0, os.path.join(TOP, "tools"))
 from debian import PYTHON  # noqa: E402
@@ -70,10 +71,15 @@ for line in sys.stdin.read().splitlines():
     print(*(int(croniter(text, it).get_next(datetime.datetime).timestamp()) for it in starts))
 """
 POLICIES = [(gap, fold) for gap in ("skip", "after") for fold in ("earlier", "later", "both")]
+# The steps that a program goes at most from a start to an end, so that a proof knows that it ends.
+MOST_STEPS = "1_000_000"
 # How a program goes through the instants of `PLAN` from `start` to `end`, and back.
 WALKS = r'''        "next" => {
-            let mut from = zone.timestamp_opt(start - 1, 999_999_999);
-            while let Some(instant) = from {
+            let mut from = zone.timestamp_opt(start.saturating_sub(1), 999_999_999);
+            for _ in 0..STEPS {
+                let Some(instant) = from else {
+                    break;
+                };
                 from = None;
                 if let Some(next) = PLAN.next_after(instant) {
                     if next.timestamp() < end {
@@ -84,8 +90,11 @@ WALKS = r'''        "next" => {
             }
         }
         "prev" => {
-            let mut from = zone.timestamp_opt(end - 1, 1);
-            while let Some(instant) = from {
+            let mut from = zone.timestamp_opt(end.saturating_sub(1), 1);
+            for _ in 0..STEPS {
+                let Some(instant) = from else {
+                    break;
+                };
                 from = None;
                 if let Some(prev) = PLAN.prev_before(instant) {
                     if start <= prev.timestamp() {
@@ -95,7 +104,7 @@ WALKS = r'''        "next" => {
                 }
             }
         }
-'''
+'''.replace("STEPS", MOST_STEPS)
 
 
 # Asks for each line's zone, and answers the rest of the line in it.
@@ -121,12 +130,12 @@ PROGRAM = r'''//! Answers questions on schedules in a zone, a line each.
 use chrono_datetime::NaiveDateTime;
 use chrono_instant::{FromTimestamp, Timestamp};
 use std::io::{self, BufRead, BufReader};
-use zone_database::{Zone, system_database};
-use zoned_cron::{DateTime, Fold, Gap, InZone, Policy, ZonedSchedule, read_schedule};
+use zone_database::system_database;
+use zoned_cron::{Fold, Gap, InZone, Policy, TimeZone, ZonedSchedule, read_schedule};
 
 ''' + MAIN + r'''
 // Answers `CALL GAP FOLD START END SCHEDULE`.
-fn answer(rt: &HostRuntime, zone: &Zone, words: &str) -> io::Result<()> {
+fn answer<Z: TimeZone>(rt: &HostRuntime, zone: Z, words: &str) -> io::Result<()> {
     let (call, words) = words.split_once(' ').unwrap_or((words, ""));
     let (gap, words) = words.split_once(' ').unwrap_or((words, ""));
     let (fold, words) = words.split_once(' ').unwrap_or((words, ""));
@@ -151,30 +160,37 @@ fn answer(rt: &HostRuntime, zone: &Zone, words: &str) -> io::Result<()> {
     match call {
 WALKS        "first" => {
             let mut second = start;
-            while second < end {
+            for _ in 0..STEPS {
+                if second >= end {
+                    break;
+                }
                 if let Some(instant) = zone.timestamp_opt(second, 0) {
                     if let Some(next) = zoned.next_after(instant) {
                         print!(rt; "{} ", next.timestamp())?;
                     }
                 }
-                second += 2_713;
+                second = second.saturating_add(2_713);
             }
         }
         _ => {
             let mut second = start;
-            while second < end {
+            for _ in 0..STEPS {
+                if second >= end {
+                    break;
+                }
                 if let Some(instant) = zone.timestamp_opt(second, 0) {
                     if zoned.is_due(instant) {
                         print!(rt; "{second} ")?;
                     }
                 }
-                second += 30;
+                second = second.saturating_add(30);
             }
         }
     }
     println!(rt; "")
 }
-'''.replace("WALKS", WALKS.replace("PLAN", "zoned"))
+'''.replace("WALKS", WALKS.replace("PLAN", "zoned")).replace("STEPS", MOST_STEPS)
+USES = ["chrono_datetime", "chrono_instant", "zone", "zone_database", "zoned_cron"]
 
 
 def numbers_of(field, low, high):
@@ -378,8 +394,8 @@ def main():
             changes += [(name, it) for it in found]
     beside = list(croniter_rows(changes, CRONITER_CALLS))
     with tempfile.TemporaryDirectory(prefix="zoned_schedules-") as room:
-        folder = put_program(room, "firings", ["chrono_datetime", "chrono_instant", "zone_database", "zoned_cron"], PROGRAM)
-        answers = [it.strip() for it in answers_in_parts(room, folder, [*(it for it, _ in rows), *beside], LINES)]
+        folder = put_program(room, "firings", USES, PROGRAM)
+        answers = [it.strip() for it in answers_of(room, folder, USES, [*(it for it, _ in rows), *beside], LINES)]
     for name, _ in zones:
         pairs = [pair for pair in zip(rows, answers) if pair[0][0].startswith(name)]
         print(f"{name}: {len(pairs)} lines, {sum(a != b for (_, b), a in pairs)} answered otherwise")

@@ -1,5 +1,7 @@
 mod Standing
 mod HeldStretch
+mod NearOffsets
+mod Candidates
 mod Intervals
 mod CountedUnits
 mod ListedTimes

@@ -1,5 +1,5 @@
 -- Words of functions that are not public.
-use Rattle.std.specs.Prelude.{◌≡◌, ◌==◌, if◌then◌else◌, ℕ, true, ℤ, pos, ◌+ℤ◌, ◌-ℤ◌, ◌*ℤ◌, ◌≤ℤ◌, ◌<ℤ◌, Option, Some, None}
+use Rattle.std.specs.Prelude.{◌≡◌, ◌⊎◌, ◌==◌, if◌then◌else◌, ℕ, true, ℤ, pos, ◌+ℤ◌, ◌-ℤ◌, ◌*ℤ◌, ◌≤ℤ◌, ◌<ℤ◌, Option, Some, None}
 use Rattle.chrono_datetime.specs.Fields.{unix_epoch_day}
 use Rattle.chrono_datetime.specs.Moment.{IsMoment, Moment}
 use Rattle.chrono_datetime.specs.PassedOver.{PassedNumbers}
@@ -13,6 +13,7 @@ use Rattle.zoned_rules.specs.declared.clock_steps.ClockSteps.{ClockSteps}
 use Rattle.zoned_rules.specs.declared.clock_steps.ClockUnit.{ClockUnit}
 use Rattle.zoned_rules.specs.declared.clock_steps.ClockUnit.TheVariants.{Day, Hour, Minute, Second}
 use Rattle.zoned_rules.specs.LocalTimes.{LocalParts, is_counted_time, is_planned}
+use Rattle.zoned_rules.specs.declared.search.near_changes.Candidate.{Candidate}
 
 -- the second k of the day n, counted from 1 January 1970
 abbrev pub second_on : ℤ → ℕ → ℤ
@@ -58,6 +59,16 @@ IsReached (Some x) u = x ≤ℤ u
 abbrev pub IsReachedBack : Option ℤ → ℤ → Type 0
 IsReachedBack None u = ⊥
 IsReachedBack (Some x) u = u ≤ℤ x
+
+-- u lies behind a candidate, or it is the candidate and a local time stands for it
+abbrev pub ComesAfter : Option Candidate → ℤ → Type 0
+ComesAfter None u = ⊥
+ComesAfter (Some c) u = (c.second <ℤ u) ⊎ ((c.second ≡ u) × (c.stands ≡ true))
+
+-- u lies before a candidate, or it is the candidate and a local time stands for it
+abbrev pub ComesBefore : Option Candidate → ℤ → Type 0
+ComesBefore None u = ⊥
+ComesBefore (Some c) u = (u <ℤ c.second) ⊎ ((c.second ≡ u) × (c.stands ≡ true))
 
 -- what was found is no later than each instant after a second that a local time of the rule before l stands for
 abbrev pub ReachesAhead : LocalParts → (ℤ → ℤ) → ℤ → ℤ → Option ℤ → Type 0

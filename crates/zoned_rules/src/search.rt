@@ -3,6 +3,7 @@
 mod candidates;
 pub(crate) mod days;
 pub(crate) mod instants;
+mod near_changes;
 mod times;
 pub(crate) mod zoned_instances;
 pub(crate) mod zoned_members;

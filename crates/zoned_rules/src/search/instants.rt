@@ -2,8 +2,8 @@
 //!
 //! Where the clock keeps its offset, the first local time stands for the first instant. Most searches end there.
 //!
-//! Near a change, a gap may move a local time behind later ones. A local time lies less than a day from the instant that it stands for. So a search
-//! there looks at all local times within a day of the best instant so far.
+//! Near one change, `near_changes` finds the instant. Elsewhere a gap may move a local time behind later ones. A local time lies less than a day
+//! from the instant that it stands for. So a search there looks at all local times within a day of the best instant so far.
 ghost use Rattle.std.specs.Prelude.{◌≡◌, ◌↔◌, ◌⊎◌, ℤ, pos, neg_ℤ, ◌+ℤ◌, ◌-ℤ◌, ◌≤ℤ◌, ◌<ℤ◌, IfSome, IsFalse, IsSomeAnd, IsTrue};
 ghost use Rattle.chrono_datetime.specs.Moment.{Moment};
 ghost use Rattle.chrono_instant.specs.Instants.{IsEpochSecond, epoch_second};
@@ -19,9 +19,9 @@ use chrono_instant::Timestamp;
 use chrono_zoned::{InZone, TimeZone};
 
 // The seconds of two days and of four.
-const TWO_DAYS: i64 = 172_800;
+pub(crate) const TWO_DAYS: i64 = 172_800;
 
-const FOUR_DAYS: i64 = 345_600;
+pub(crate) const FOUR_DAYS: i64 = 345_600;
 
 impl<Z: TimeZone> ZonedRule<Z> {
     // The first second after another at which the rule recurs, COUNT and UNTIL left out.
@@ -43,6 +43,9 @@ impl<Z: TimeZone> ZonedRule<Z> {
         ensures least { (m : Moment) (u : ℤ) → RecursFor self.now.local (Z.ahead self.now.zone) m u → after <ℤ u → IsReached result u }
     {
         if let Some(found) = self.first_in_stretch(after) {
+            return Some(found);
+        }
+        if let Some(found) = self.first_near_change(after) {
             return Some(found);
         }
         self.first_planned(after)
@@ -130,6 +133,9 @@ impl<Z: TimeZone> ZonedRule<Z> {
         ensures greatest { (m : Moment) (u : ℤ) → RecursFor self.now.local (Z.ahead self.now.zone) m u → u <ℤ end → IsReachedBack result u }
     {
         if let Some(found) = self.last_in_stretch(end) {
+            return Some(found);
+        }
+        if let Some(found) = self.last_near_change(end) {
             return Some(found);
         }
         self.last_planned(end)

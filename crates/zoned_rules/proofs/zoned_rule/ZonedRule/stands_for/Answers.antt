@@ -1,0 +1,19 @@
+use Rattle.std.proofs.Common.{◌≡◌, ℤ, of_z, to_z, w64, ap, subst, sym}
+use Rattle.std.proofs.lemmas.Bool.{both_ways}
+use Rattle.std.proofs.lemmas.Int.{to_z-of_z}
+use Rattle.chrono_instant.specs.Instants.{epoch_second}
+use Rattle.zoned_rules.specs.LocalInstants.{HasDates, IsInstantOf}
+use Rattle.zoned_rules.proofs.Standing.{stands_once}
+use Rattle.zoned_rules.proofs.zoned_rule.ZonedRule.stands_for.Goals as goal
+
+pub returns-then-second_of-second-clause-no : goal.returns-then-second_of-second-clause-no
+returns-then-second_of-second-clause-no g c = λ not m same h.
+    let ahead = g.Z.TimeZone.ahead c.args.self.now.zone in
+    let is : c.second_of.result ≡ c.args.second = stands_once ahead (epoch_second c.args.local) c.second_of.result c.args.second c.second_of.ensures.stands (subst (λ (k : ℤ). IsInstantOf ahead k c.args.second) same h.stands) in
+    c.if-second_of-second.true (ap (λ (k : ℤ). of_z w64 k) is)
+
+pub returns-clause-no : goal.returns-clause-no
+returns-clause-no g c = λ not m same h.
+    let ahead = g.Z.TimeZone.ahead c.args.self.now.zone in
+    let back : to_z w64 (of_z w64 c.args.second) ≡ c.args.second = to_z-of_z w64 c.args.second c.ranges.second in
+    both_ways c.has_dates.result not (c.has_dates.ensures.1 (subst (λ (k : ℤ). HasDates ahead k) (sym back) h.dates))
