@@ -40,7 +40,7 @@ struct Kinds<'a> {
 }
 
 // The day or the date-time, or that of each line, moved; the exit status.
-pub(crate) fn answer<'a>(rt: &HostRuntime, asked: &Asked<'a>, none: &mut Reply) -> Answered<'a> {
+pub(crate) fn answer(rt: &HostRuntime, asked: &Asked<'_>, none: &mut Reply) -> Answered {
     let instants = value!(instants_by(rt, asked));
     let (first, words) = parted(asked.words.operands.as_slice());
     if let Some(word) = first {
@@ -71,16 +71,12 @@ fn parted<'b, 'a>(words: &'b [Word<'a>]) -> (Option<Word<'a>>, &'b [Word<'a>]) {
     }
 }
 
-const MOVES: &str = "a span as 3d, -2w, 1mo, 4y, 5b, 36h, 90min, 15s or PT1.5S";
-
-const DAY_MOVES: &str = "a span of days, or a date-time before it as 2024-02-29T00:00";
-
 // The moves that words write, each with the word. No time moves a day, and no `m`, which was meant for minutes, stands beside a time of day.
 fn moves_of<'a>(
     rt: &HostRuntime,
     start: Option<Start>,
     words: &[Word<'a>],
-) -> Result<(Vec<Move>, Vec<&'a str>, Kinds<'a>), Fault<'a>> {
+) -> Result<(Vec<Move>, Vec<&'a str>, Kinds<'a>), Fault> {
     let mut moves: Vec<Move> = Vec::new(rt.alloc());
     let mut texts: Vec<&'a str> = Vec::new(rt.alloc());
     let (mut short, mut timed) = (None, false);
@@ -88,11 +84,12 @@ fn moves_of<'a>(
     for word in words {
         let mut place: usize = 0;
         for _ in word.text.as_bytes() {
-            let (by, next) = value!(move_at(word.text.as_bytes(), place).ok_or(Fault::expected(
-                *word, MOVES
+            let (by, next) = value!(move_at(word.text.as_bytes(), place).ok_or(wanted(
+                *word,
+                Wanted::Span
             )));
             match by {
-                Move::Time(_) if of_day => return Err(Fault::expected(*word, DAY_MOVES)),
+                Move::Time(_) if of_day => return Err(wanted(*word, Wanted::DaySpan)),
                 Move::Time(_) => timed = true,
                 Move::ShortMonths(_) if short.is_none() => short = Some(*word),
                 _ => {}
@@ -106,9 +103,9 @@ fn moves_of<'a>(
         }
     }
     match short {
-        _ if words.is_empty() => Err(Fault::Missing("SPAN", "")),
+        _ if words.is_empty() => Err(Fault::NoOperand(1)),
         Some(word) if timed || start.is_some() && !of_day => {
-            Err(Fault::Word(word, Cause::Months(word.text)))
+            Err(Fault::Word(word.place, Cause::Months))
         }
         _ => Ok((moves, texts, Kinds { short, timed })),
     }
@@ -146,8 +143,8 @@ impl<'a> Add<'a> {
         let Some(Word { text, .. }) = self.kinds.short else {
             return self.answer_start(rt, number, start);
         };
-        let (none, why) = (self.instants.form.no_moment(), Cause::Months(text));
-        print_nowhere(rt, self.form, none, number, &start, text, why)
+        let none = self.instants.form.no_moment();
+        print_nowhere(rt, self.form, none, number, &start, text, Cause::Months)
     }
 }
 

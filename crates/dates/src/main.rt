@@ -1,6 +1,15 @@
 //! `dates` prints what a person at a terminal asks of dates. `table.rt` has its commands.
 #![tactic(auto)]
 
+// Puts pieces behind a text, one after another.
+macro_rules! put {
+    ($out:expr, $($piece:expr),+ $(,)?) => {
+        {
+            $($out.put($piece);)+
+        }
+    };
+}
+
 // The value of a result; its fault, or the fault by its error, is returned.
 macro_rules! value {
     ($read:expr) => {
@@ -83,6 +92,7 @@ mod table;
 mod test;
 mod texts;
 mod values;
+mod wanted;
 mod week;
 mod weekday;
 mod zone_changes;

@@ -37,7 +37,7 @@ pub(crate) fn command() -> CommandRow {
 }
 
 // The instances of the rule, a line each; `none` where there is none. The exit status.
-pub(crate) fn answer<'a>(rt: &HostRuntime, asked: &Asked<'a>, none: &mut Reply) -> Answered<'a> {
+pub(crate) fn answer(rt: &HostRuntime, asked: &Asked<'_>, none: &mut Reply) -> Answered {
     let rule = value!(rule_of(asked.word(0)));
     let start = value!(day_of(asked.reading, asked.option("--start")));
     let most = given!(asked.value("--count"), word, amount_of(word)).unwrap_or(u64::MAX);
@@ -58,11 +58,7 @@ pub(crate) fn answer<'a>(rt: &HostRuntime, asked: &Asked<'a>, none: &mut Reply) 
 }
 
 // The days that an option gives, in order, each once.
-fn days_given<'a>(
-    rt: &HostRuntime,
-    asked: &Asked<'a>,
-    name: &str,
-) -> Result<Vec<NaiveDate>, Fault<'a>> {
+fn days_given(rt: &HostRuntime, asked: &Asked<'_>, name: &str) -> Result<Vec<NaiveDate>, Fault> {
     let mut days = Vec::new(rt.alloc());
     for given in asked.words.options.as_slice() {
         if given.option.name == name {
@@ -80,6 +76,8 @@ fn put_day<A: Allocator>(days: &mut Vec<NaiveDate, A>, day: NaiveDate) -> io::Re
 }
 
 // The rule that a word writes.
-fn rule_of<'a>(word: Word<'a>) -> Result<Rule, Fault<'a>> {
-    Ok(value!(read_rule(word.text.as_bytes()), error => Fault::Word(word, Cause::Rule(error))))
+fn rule_of(word: Word<'_>) -> Result<Rule, Fault> {
+    Ok(
+        value!(read_rule(word.text.as_bytes()), error => Fault::Word(word.place, Cause::Rule(error))),
+    )
 }
