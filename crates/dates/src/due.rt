@@ -131,7 +131,7 @@ fn fired_beside(
 }
 
 // The schedule that a word writes.
-fn schedule_of(word: Word<'_>) -> Result<Schedule, Fault> {
+pub(crate) fn schedule_of(word: Word<'_>) -> Result<Schedule, Fault> {
     let text = word.text.as_bytes();
     Ok(value!(read_schedule(text), error => Fault::Word(word.place, Cause::Schedule(error))))
 }

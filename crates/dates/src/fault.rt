@@ -1,6 +1,8 @@
 //! Faults: why a command has no answer, how that is said, and the exit statuses.
 
 use crate::prelude::*;
+use crate::zoned_rule::put_timed_error;
+use calendar_rules::TimedRuleError;
 use chrono_pattern::PatternError;
 use chrono_rules::RuleError;
 use command_words::{Why, Wrong, nearest, put_choices, put_usage};
@@ -65,6 +67,8 @@ pub(crate) enum Cause {
     Schedule(ScheduleError),
     /// It writes no recurrence rule.
     Rule(RuleError),
+    /// It writes no recurrence rule over date-times.
+    TimedRule(TimedRuleError),
     /// It writes months by `m`, which beside a time of day was meant for minutes.
     Months,
     /// It names no time zone.
@@ -245,6 +249,7 @@ pub(crate) fn put_cause(out: &mut Buffer, text: &str, cause: Cause) {
         Cause::NoCommand => out.put(COMMAND),
         Cause::Schedule(error) => put_expected(out, &error, "a schedule as '30 4 1,15 * 5'"),
         Cause::Rule(error) => put_expected(out, &error, "a rule as FREQ=MONTHLY;BYDAY=-1FR"),
+        Cause::TimedRule(error) => put_timed_error(out, error),
         Cause::Months => put!(out, "months; minutes are ", text, "in"),
         Cause::Zone(error) => out.show(&error),
         Cause::Pattern(error) => put_pattern_error(out, error),

@@ -72,6 +72,7 @@ mod due;
 mod each;
 mod easter;
 mod ends;
+mod explain;
 mod fault;
 mod format;
 mod grep;
@@ -97,6 +98,7 @@ mod week;
 mod weekday;
 mod zone_changes;
 mod zoned;
+mod zoned_rule;
 
 use prelude::*;
 use std::env;

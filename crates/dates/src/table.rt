@@ -28,6 +28,7 @@ macro_rules! each_command {
             due::next,
             due::prev,
             rule::command,
+            explain::command,
             cal::command,
             now::now,
             now::today,
@@ -261,6 +262,8 @@ const APART: &[[&str; 2]] = &[
     ["--parse", "--order"],
     ["--order", "--unix"],
     ["--format", "--long"],
+    ["--exdate", "--zone"],
+    ["--rdate", "--zone"],
 ];
 
 // Puts behind a text which two options do not stand beside each other.
