@@ -116,11 +116,13 @@ _dates()
     rule:--count) COMPREPLY=($(compgen -W $'' -- "$word")) ;;
     rule:--exdate) COMPREPLY=($(compgen -W $'' -- "$word")) ;;
     rule:--rdate) COMPREPLY=($(compgen -W $'' -- "$word")) ;;
+    rule:--zone) COMPREPLY=($(compgen -W $'' -- "$word")) ;;
     rule:--now) COMPREPLY=($(compgen -W $'' -- "$word")) ;;
     rule:--parse) COMPREPLY=($(compgen -W $'' -- "$word")) ;;
     rule:--order) COMPREPLY=($(compgen -W $'dmy\nmdy\n' -- "$word")) ;;
     rule:--format) COMPREPLY=($(compgen -W $'' -- "$word")) ;;
-    rule:*) COMPREPLY=($(compgen -W $'--start\n--from\n--count\n--exdate\n--rdate\n--now\n--parse\n--order\n--format\n--long\n--json\n--help\n' -- "$word")) ;;
+    rule:*) COMPREPLY=($(compgen -W $'--start\n--from\n--count\n--exdate\n--rdate\n--zone\n--now\n--parse\n--order\n--format\n--long\n--json\n--help\n' -- "$word")) ;;
+    explain:*) COMPREPLY=($(compgen -W $'--json\n--help\n' -- "$word")) ;;
     cal:--first) COMPREPLY=($(compgen -W $'mon\ntue\nwed\nthu\nfri\nsat\nsun\n' -- "$word")) ;;
     cal:--now) COMPREPLY=($(compgen -W $'' -- "$word")) ;;
     cal:--weekend) COMPREPLY=($(compgen -W $'mon\ntue\nwed\nthu\nfri\nsat\nsun\nnone\n' -- "$word")) ;;
@@ -151,7 +153,7 @@ _dates()
     zone:--year) COMPREPLY=($(compgen -W $'' -- "$word")) ;;
     zone:--format) COMPREPLY=($(compgen -W $'' -- "$word")) ;;
     zone:*) COMPREPLY=($(compgen -W $'--year\n--format\n--long\n--json\n--help\n' -- "$word")) ;;
-    *) COMPREPLY=($(compgen -W $'\nadd\ndiff\nseq\nweek\nweekday\nfirst\nlast\nround\neaster\nleap\nopen\nroll\ncheck\ngrep\nsort\ntest\nnext\nprev\nrule\ncal\nnow\ntoday\nformat\nparse\nin\nzone\n--now\n--parse\n--order\n--format\n--long\n--json\n--help\n--version\n--man\n--reference\n--completion\n' -- "$word")) ;;
+    *) COMPREPLY=($(compgen -W $'\nadd\ndiff\nseq\nweek\nweekday\nfirst\nlast\nround\neaster\nleap\nopen\nroll\ncheck\ngrep\nsort\ntest\nnext\nprev\nrule\nexplain\ncal\nnow\ntoday\nformat\nparse\nin\nzone\n--now\n--parse\n--order\n--format\n--long\n--json\n--help\n--version\n--man\n--reference\n--completion\n' -- "$word")) ;;
     esac
 }
 complete -o default -F _dates dates

@@ -153,6 +153,7 @@ complete -c dates -n '__fish_seen_subcommand_from rule' -l from -r -a ''
 complete -c dates -n '__fish_seen_subcommand_from rule' -l count -r -a ''
 complete -c dates -n '__fish_seen_subcommand_from rule' -l exdate -r -a ''
 complete -c dates -n '__fish_seen_subcommand_from rule' -l rdate -r -a ''
+complete -c dates -n '__fish_seen_subcommand_from rule' -l zone -r -a ''
 complete -c dates -n '__fish_seen_subcommand_from rule' -l now -r -a ''
 complete -c dates -n '__fish_seen_subcommand_from rule' -l parse -r -a ''
 complete -c dates -n '__fish_seen_subcommand_from rule' -l order -r -a 'dmy mdy '
@@ -160,6 +161,9 @@ complete -c dates -n '__fish_seen_subcommand_from rule' -l format -r -a ''
 complete -c dates -n '__fish_seen_subcommand_from rule' -l long
 complete -c dates -n '__fish_seen_subcommand_from rule' -l json
 complete -c dates -n '__fish_seen_subcommand_from rule' -l help
+complete -c dates -n __fish_use_subcommand -a explain -d 'tell a schedule or a rule in plain English'
+complete -c dates -n '__fish_seen_subcommand_from explain' -l json
+complete -c dates -n '__fish_seen_subcommand_from explain' -l help
 complete -c dates -n __fish_use_subcommand -a cal -d 'print a month or a year as a sheet'
 complete -c dates -n '__fish_seen_subcommand_from cal' -l first -r -a 'mon tue wed thu fri sat sun '
 complete -c dates -n '__fish_seen_subcommand_from cal' -l now -r -a ''

@@ -1,6 +1,6 @@
 //! Completion of a program's words by bash, zsh and fish.
 
-use crate::pieces::{Put, put, put_each};
+use crate::pieces::{Buffer, put_each};
 use crate::table::{CommandRow, Opt, Program};
 
 /// A shell.
@@ -15,11 +15,11 @@ pub enum Shell {
 }
 
 /// Puts the completion for a shell behind a text: a command, then its options and the words that its operands and values may be.
-pub fn put_completion(out: &mut String, program: &Program<'_>, shell: Shell) -> Put {
+pub fn put_completion(out: &mut Buffer, program: &Program<'_>, shell: Shell) {
     match shell {
         Shell::Bash => put_bash(out, program),
         Shell::Zsh => {
-            put(out, &["#compdef ", program.name, ZSH])?;
+            put!(out, "#compdef ", program.name, ZSH);
             put_bash(out, program)
         }
         Shell::Fish => put_fish(out, program),
@@ -51,105 +51,105 @@ const CASE: &str = " ;;\n";
 const WORD: &str = "\\n";
 
 // The function that bash calls.
-fn put_bash(out: &mut String, program: &Program<'_>) -> Put {
+fn put_bash(out: &mut Buffer, program: &Program<'_>) {
     let name = program.name;
-    put(out, &["# Completion of ", name, ".\n_", name, BEGIN])?;
+    put!(out, "# Completion of ", name, ".\n_", name, BEGIN);
     for command in program.commands {
-        put_cases(out, command)?;
+        put_cases(out, command);
     }
-    put(out, &["    *) ", OFFER])?;
+    put!(out, "    *) ", OFFER);
     for command in program.commands {
-        put(out, &[command.name, WORD])?;
+        put!(out, command.name, WORD);
     }
-    put_names(out, program.alone)?;
-    put(out, &[OFFERED, CASE, END, name, " ", name, "\n"])
+    put_names(out, program.alone);
+    put!(out, OFFERED, CASE, END, name, " ", name, "\n");
 }
 
 // What bash offers behind a command.
-fn put_cases(out: &mut String, command: &CommandRow) -> Put {
+fn put_cases(out: &mut Buffer, command: &CommandRow) {
     let name = command.name;
     for option in command.options {
         if option.value == "FILE" {
-            put(out, &["    ", name, ":", option.name, ") ", FILES, CASE])?;
+            put!(out, "    ", name, ":", option.name, ") ", FILES, CASE);
         } else if !option.value.is_empty() {
-            put_case(out, name, option.name, option.values)?;
+            put_case(out, name, option.name, option.values);
         }
     }
     for operand in command.operands {
         if !operand.keyword.is_empty() {
-            put_case(out, name, operand.keyword, operand.values)?;
+            put_case(out, name, operand.keyword, operand.values);
         }
     }
     if name.is_empty() {
-        return Ok(());
+        return;
     }
-    put(out, &["    ", name, ":*) "])?;
-    put_words(out, command)
+    put!(out, "    ", name, ":*) ");
+    put_words(out, command);
 }
 
 // That bash offers these words behind another of a command.
-fn put_case(out: &mut String, command: &str, word: &str, values: &'static [&'static str]) -> Put {
-    put(out, &["    ", command, ":", word, ") ", OFFER])?;
-    put_each(out, values, WORD)?;
-    put(out, &[OFFERED, CASE])
+fn put_case(out: &mut Buffer, command: &str, word: &str, values: &'static [&'static str]) {
+    put!(out, "    ", command, ":", word, ") ", OFFER);
+    put_each(out, values, WORD);
+    put!(out, OFFERED, CASE);
 }
 
 // What bash offers where a command has an operand or an option.
-fn put_words(out: &mut String, command: &CommandRow) -> Put {
-    out.push_str(OFFER)?;
+fn put_words(out: &mut Buffer, command: &CommandRow) {
+    out.put(OFFER);
     for operand in command.operands {
         if operand.keyword.is_empty() {
-            put_each(out, operand.values, WORD)?;
+            put_each(out, operand.values, WORD);
         }
     }
-    put_names(out, command.options)?;
-    out.push_str(OFFERED)?;
+    put_names(out, command.options);
+    out.put(OFFERED);
     if command
         .operands
         .iter()
         .any(|operand| operand.name == "FILE")
     {
-        put(out, &["; ", FILES])?;
+        put!(out, "; ", FILES);
     }
-    out.push_str(CASE)
+    out.put(CASE);
 }
 
 // The names of options, as bash offers them.
-fn put_names(out: &mut String, options: &'static [Opt]) -> Put {
+fn put_names(out: &mut Buffer, options: &'static [Opt]) {
     for option in options {
-        put(out, &[option.name, WORD])?;
+        put!(out, option.name, WORD);
     }
-    Ok(())
 }
 
 // A line for each command and for each of its options.
-fn put_fish(out: &mut String, program: &Program<'_>) -> Put {
+fn put_fish(out: &mut Buffer, program: &Program<'_>) {
     let name = program.name;
     for command in program.commands {
         let word = command.name;
         if !word.is_empty() {
-            put(out, &["complete -c ", name, " -n __fish_use_subcommand"])?;
-            put(out, &[" -a ", word, " -d '", command.help, "'\n"])?;
+            put!(out, "complete -c ", name, " -n __fish_use_subcommand");
+            put!(out, " -a ", word, " -d '", command.help, "'\n");
             for option in command.options {
-                put_fish_option(out, name, word, option)?;
+                put_fish_option(out, name, word, option);
             }
         }
     }
-    Ok(())
 }
 
 // The line of an option of a command.
-fn put_fish_option(out: &mut String, name: &'static str, word: &'static str, option: &Opt) -> Put {
+fn put_fish_option(out: &mut Buffer, name: &'static str, word: &'static str, option: &Opt) {
     let long = option.name.strip_prefix("--").unwrap_or("");
-    put(
+    put!(
         out,
-        &["complete -c ", name, " -n '__fish_seen_subcommand_from "],
-    )?;
-    put(out, &[word, "' -l ", long])?;
+        "complete -c ",
+        name,
+        " -n '__fish_seen_subcommand_from "
+    );
+    put!(out, word, "' -l ", long);
     if !option.value.is_empty() {
-        out.push_str(" -r -a '")?;
-        put_each(out, option.values, " ")?;
-        out.push_str("'")?;
+        out.put(" -r -a '");
+        put_each(out, option.values, " ");
+        out.put("'");
     }
-    out.push_str("\n")
+    out.put("\n");
 }

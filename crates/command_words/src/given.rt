@@ -3,7 +3,7 @@ ghost use Rattle.std.specs.Prelude.{◌≡◌, map};
 ghost use Rattle.std.specs.Option.{option_map};
 ghost use Rattle.command_words.specs.Arguments.{first_value, is_given, missing, pair, seen, value_named};
 
-use crate::table::{CommandRow, Operand, Opt};
+use crate::table::{CommandRow, Opt};
 use crate::words::{Arguments, GivenOption, Word, is_given, option_named};
 
 impl<'a> Arguments<'a> {
@@ -47,22 +47,34 @@ impl<'a> Arguments<'a> {
         self.operands.get(place).copied()
     }
 
-    /// Returns the first operand that has to be there by the command's row and is not.
-    pub fn missing_operand(&self, command: &CommandRow) -> Option<Operand> {
-        let mut required = command.operands.iter().filter(|operand| operand.required);
-        required.nth(self.operands.len()).copied()
+    /// Returns the place in the command's row of the first operand that has to be there and is not.
+    pub fn missing_operand(&self, command: &CommandRow) -> Option<usize> {
+        let mut left = self.operands.len();
+        let mut place: usize = 0;
+        for operand in command.operands {
+            if operand.required && left == 0 {
+                return Some(place);
+            }
+            if operand.required {
+                left = left.saturating_sub(1);
+            }
+            place = place.saturating_add(1);
+        }
+        None
     }
 
     /// Returns the first operand for which the command's row has no place.
     pub fn extra_operand(&self, command: &CommandRow) -> Option<Word<'a>> {
-        if command.operands.iter().any(|operand| operand.many) {
-            return None;
+        let mut places = command.operands.len();
+        for operand in command.operands {
+            if operand.many {
+                return None;
+            }
+            if !operand.keyword.is_empty() {
+                places = places.saturating_add(1);
+            }
         }
-        let with_keyword = command
-            .operands
-            .iter()
-            .filter(|operand| !operand.keyword.is_empty());
-        self.operand(with_keyword.count().saturating_add(command.operands.len()))
+        self.operand(places)
     }
 }
 

@@ -2,6 +2,15 @@
 //! page and completion come from the same table.
 #![tactic(auto)]
 
+// Puts pieces behind a text, one after another.
+macro_rules! put {
+    ($out:expr, $($piece:expr),+ $(,)?) => {
+        {
+            $($out.put($piece);)+
+        }
+    };
+}
+
 mod completion;
 mod given;
 mod help;
@@ -15,6 +24,6 @@ pub use completion::{Shell, put_completion};
 pub use help::{put_choices, put_command_help, put_program_help, put_usage};
 pub use man::{put_man_page, put_reference};
 pub use near::nearest;
-pub use pieces::{Put, gap_before, put};
+pub use pieces::{Buffer, gap_before};
 pub use table::{CommandRow, OPERAND, OPTION, Operand, Opt, Program};
 pub use words::{Arguments, GivenOption, Why, Word, Wrong, read_words};

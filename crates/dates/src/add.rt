@@ -21,40 +21,37 @@ pub(crate) fn command() -> CommandRow {
     )
 }
 
-// What moves days and date-times: moves, in turn, and the texts that write them.
+// What moves days and date-times.
 #[derive(Drop)]
 struct Add<'a> {
     form: AnswerForm<'a>,
     instants: Instants<'a>,
     holidays: Holidays,
-    moves: Vec<Move>,
-    texts: Vec<&'a str>,
-    kinds: Kinds<'a>,
+    moves: Moves<'a>,
 }
 
-// What kinds of moves there are: the first that writes months by `m`, and whether one is a time.
-#[derive(Clone, Copy)]
-struct Kinds<'a> {
+// Moves, in turn, and the words that write them; the first that writes months by `m`; and whether one is a time.
+#[derive(Drop)]
+struct Moves<'a> {
+    list: Vec<Move>,
+    texts: Vec<&'a str>,
     short: Option<Word<'a>>,
-    timed: bool,
+    is_timed: bool,
 }
 
 // The day or the date-time, or that of each line, moved; the exit status.
-pub(crate) fn answer<'a>(rt: &HostRuntime, asked: &Asked<'a>, none: &mut Reply) -> Answered<'a> {
+pub(crate) fn answer(rt: &HostRuntime, asked: &Asked<'_>, none: &mut Reply) -> Answered {
     let instants = value!(instants_by(rt, asked));
     let (first, words) = parted(asked.words.operands.as_slice());
     if let Some(word) = first {
         *none = instants.form.none_of_text(word.text.as_bytes());
     }
     let start = given!(first, word, instants.start_of(word));
-    let (moves, texts, kinds) = value!(moves_of(rt, start, words));
     let mut add = Add {
         form: asked.form,
         instants,
+        moves: value!(moves_of(rt, start, words)),
         holidays: value!(holidays_of(rt, asked)),
-        moves,
-        texts,
-        kinds,
     };
     match start {
         Some(start) => answered(add.answer_start(rt, ALONE, start)),
@@ -71,46 +68,65 @@ fn parted<'b, 'a>(words: &'b [Word<'a>]) -> (Option<Word<'a>>, &'b [Word<'a>]) {
     }
 }
 
-const MOVES: &str = "a span as 3d, -2w, 1mo, 4y, 5b, 36h, 90min, 15s or PT1.5S";
-
-const DAY_MOVES: &str = "a span of days, or a date-time before it as 2024-02-29T00:00";
-
-// The moves that words write, each with the word. No time moves a day, and no `m`, which was meant for minutes, stands beside a time of day.
+// The moves that words write. No time moves a day, and no `m`, which was meant for minutes, stands beside a time of day.
 fn moves_of<'a>(
     rt: &HostRuntime,
     start: Option<Start>,
     words: &[Word<'a>],
-) -> Result<(Vec<Move>, Vec<&'a str>, Kinds<'a>), Fault<'a>> {
-    let mut moves: Vec<Move> = Vec::new(rt.alloc());
-    let mut texts: Vec<&'a str> = Vec::new(rt.alloc());
-    let (mut short, mut timed) = (None, false);
-    let of_day = start.map_or(false, |start| start.is_day());
+) -> Result<Moves<'a>, Fault> {
+    let (of_day, of_moment) = match start {
+        Some(start) => (start.is_day(), !start.is_day()),
+        None => (false, false),
+    };
+    let mut moves = Moves {
+        list: Vec::new(rt.alloc()),
+        texts: Vec::new(rt.alloc()),
+        short: None,
+        is_timed: false,
+    };
     for word in words {
+        if let Some(fault) = moves.put_word(*word, of_day) {
+            return Err(fault);
+        }
+    }
+    match moves.short {
+        _ if words.is_empty() => Err(Fault::NoOperand(1)),
+        Some(word) if moves.is_timed || of_moment => { Err(Fault::Word(word.place, Cause::Months)) }
+        _ => Ok(moves),
+    }
+}
+
+impl<'a> Moves<'a> {
+    // Puts the moves that a word writes behind the others; what is wrong with it, if something is.
+    fn put_word(&mut self, word: Word<'a>, of_day: bool) -> Option<Fault> {
         let mut place: usize = 0;
         for _ in word.text.as_bytes() {
-            let (by, next) = value!(move_at(word.text.as_bytes(), place).ok_or(Fault::expected(
-                *word, MOVES
-            )));
-            match by {
-                Move::Time(_) if of_day => return Err(Fault::expected(*word, DAY_MOVES)),
-                Move::Time(_) => timed = true,
-                Move::ShortMonths(_) if short.is_none() => short = Some(*word),
-                _ => {}
+            let Some((by, next)) = move_at(word.text.as_bytes(), place) else {
+                return Some(wanted(word, Wanted::Span));
+            };
+            if of_day && matches!(by, Move::Time(_)) {
+                return Some(wanted(word, Wanted::DaySpan));
             }
-            put_move(&mut moves, by)?;
-            texts.push(word.text)?;
+            if let Err(error) = self.put(word, by) {
+                return Some(Fault::Failed(error));
+            }
             place = next;
             if place >= word.text.len() {
                 break;
             }
         }
+        None
     }
-    match short {
-        _ if words.is_empty() => Err(Fault::Missing("SPAN", "")),
-        Some(word) if timed || start.is_some() && !of_day => {
-            Err(Fault::Word(word, Cause::Months(word.text)))
+
+    // Puts a move behind the others.
+    fn put(&mut self, word: Word<'a>, by: Move) -> io::Result<()> {
+        match by {
+            Move::Time(_) => self.is_timed = true,
+            Move::ShortMonths(_) if self.short.is_none() => self.short = Some(word),
+            _ => {}
         }
-        _ => Ok((moves, texts, Kinds { short, timed })),
+        put_move(&mut self.list, by)?;
+        Ok(self.texts.push(word.text)?)
     }
 }
 
@@ -125,7 +141,7 @@ impl<'a> Add<'a> {
         let form = self.instants.form;
         let mut last = start;
         let mut step: usize = 0;
-        for by in self.moves.as_slice() {
+        for by in self.moves.list.as_slice() {
             let why = match moved_by(&self.instants, last, *by, &mut self.holidays)? {
                 Moved::To(reached) => {
                     last = reached;
@@ -135,7 +151,7 @@ impl<'a> Add<'a> {
                 Moved::Past => Cause::Past,
                 Moved::NotOnce => Cause::NotOnce,
             };
-            let text = self.texts.as_slice().get(step).copied().unwrap_or("");
+            let text = self.moves.texts.as_slice().get(step).copied().unwrap_or("");
             return print_nowhere(rt, self.form, form.none_of(last), number, &last, text, why);
         }
         print_reply(rt, self.form, form.reply(last))
@@ -143,11 +159,11 @@ impl<'a> Add<'a> {
 
     // What a date-time of a line comes to, which no `m` moves; the exit status.
     fn answer_moment(&mut self, rt: &HostRuntime, number: u64, start: Start) -> io::Result<u8> {
-        let Some(Word { text, .. }) = self.kinds.short else {
+        let Some(Word { text, .. }) = self.moves.short else {
             return self.answer_start(rt, number, start);
         };
-        let (none, why) = (self.instants.form.no_moment(), Cause::Months(text));
-        print_nowhere(rt, self.form, none, number, &start, text, why)
+        let none = self.instants.form.no_moment();
+        print_nowhere(rt, self.form, none, number, &start, text, Cause::Months)
     }
 }
 
@@ -155,7 +171,7 @@ impl<'a> EachLine for Add<'a> {
     fn take_line(&mut self, rt: &HostRuntime, number: u64, line: &[u8]) -> io::Result<u8> {
         let form = self.instants.form;
         match self.instants.read(line) {
-            Some(Start::Day(_)) | None if self.kinds.timed => {
+            Some(Start::Day(_)) | None if self.moves.is_timed => {
                 print_reply(rt, self.form, form.no_moment())
             }
             Some(start @ Start::Day(_)) => self.answer_start(rt, number, start),

@@ -4,7 +4,7 @@ use crate::prelude::*;
 use dates_answer::ReplyLine;
 
 /// The exit status of a command, or why it has no answer.
-pub(crate) type Answered<'a> = Result<u8, Fault<'a>>;
+pub(crate) type Answered = Result<u8, Fault>;
 
 /// In which form answers are written.
 #[derive(Clone, Copy)]
@@ -53,12 +53,12 @@ impl<'a> Asked<'a> {
     }
 
     // Prints the line of a reply; the exit status.
-    pub(crate) fn print(&self, rt: &HostRuntime, reply: Reply) -> Answered<'a> {
+    pub(crate) fn print(&self, rt: &HostRuntime, reply: Reply) -> Answered {
         answered(print_reply(rt, self.form, reply))
     }
 
     // The status of answers so far, or, where there is none, that of the line that says so.
-    pub(crate) fn finish(&self, rt: &HostRuntime, status: u8, none: Reply) -> Answered<'a> {
+    pub(crate) fn finish(&self, rt: &HostRuntime, status: u8, none: Reply) -> Answered {
         if status == NONE {
             return self.print(rt, none);
         }
@@ -69,7 +69,7 @@ impl<'a> Asked<'a> {
 const NO_WORD: Word<'static> = Word { place: 0, text: "" };
 
 // The exit status of what was printed, or that it could not be.
-pub(crate) fn answered<'a>(printed: io::Result<u8>) -> Answered<'a> {
+pub(crate) fn answered(printed: io::Result<u8>) -> Answered {
     match printed {
         Ok(status) => Ok(status),
         Err(error) => Err(Fault::Failed(error)),

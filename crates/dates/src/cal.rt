@@ -32,7 +32,7 @@ pub(crate) fn command() -> CommandRow {
 }
 
 // The month or the year as sheets with closed days marked; `none` where the calendar has no such year. The exit status.
-pub(crate) fn answer<'a>(rt: &HostRuntime, asked: &Asked<'a>, _none: &mut Reply) -> Answered<'a> {
+pub(crate) fn answer(rt: &HostRuntime, asked: &Asked<'_>, _none: &mut Reply) -> Answered {
     let time = value!(time_of(rt, asked));
     let first = time.first;
     let start = value!(weekday_of(asked.option("--first")));
@@ -66,7 +66,7 @@ struct Time {
 }
 
 // The month or the year that the word names, or that of its day, or of today.
-fn time_of<'a>(rt: &HostRuntime, asked: &Asked<'a>) -> Result<Time, Fault<'a>> {
+fn time_of(rt: &HostRuntime, asked: &Asked<'_>) -> Result<Time, Fault> {
     let Some(word) = asked.words.operand(0) else {
         return Ok(time_about(value!(day_shown(rt, asked))));
     };
@@ -86,16 +86,14 @@ fn time_of<'a>(rt: &HostRuntime, asked: &Asked<'a>) -> Result<Time, Fault<'a>> {
             })
         }
         Err(error) if error.cause != ReadCause::NotThisForm => {
-            Err(unread(word, Unreadable::Form(error), MONTHS))
+            Err(unread(word, Unreadable::Form(error), Wanted::Month))
         }
-        Err(_) => match value!(start_as(asked.reading, word, MONTHS)) {
+        Err(_) => match value!(start_as(asked.reading, word, Wanted::Month)) {
             Start::Day(date) => Ok(time_about(date)),
-            _ => Err(Fault::expected(word, MONTHS)),
+            _ => Err(wanted(word, Wanted::Month)),
         },
     }
 }
-
-const MONTHS: &str = "a month as 2024-02, a year as 2024 or a day as 2024-02-29";
 
 // The month of a day that is marked.
 fn time_about(date: NaiveDate) -> Time {

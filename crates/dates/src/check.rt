@@ -23,7 +23,7 @@ struct CheckedLines<'a> {
 }
 
 // Each line of the file, or of the input, that is no day; the exit status.
-pub(crate) fn answer<'a>(rt: &HostRuntime, asked: &Asked<'a>, _none: &mut Reply) -> Answered<'a> {
+pub(crate) fn answer(rt: &HostRuntime, asked: &Asked<'_>, _none: &mut Reply) -> Answered {
     let (form, reading) = (asked.form, asked.reading);
     let mut lines = CheckedLines { form, reading };
     match asked.word_or_lines() {
@@ -43,9 +43,9 @@ impl EachLine for CheckedLines<'_> {
         };
         let form = self.form.form;
         let text = String::from_utf8_lossy(rt.alloc(), line)?;
-        let mut reason = String::new(rt.alloc());
-        put_reason(&mut reason, why)?;
-        let (text, reason) = (text.as_str(), reason.as_str());
+        let mut reason = Buffer::new(rt.alloc());
+        put_reason(&mut reason, why);
+        let (text, reason) = (text.as_str(), reason.text()?);
         println!(rt;
             "{}",
             WrongLine {

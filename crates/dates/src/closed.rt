@@ -5,16 +5,16 @@ use chrono_business::{HolidayRule, england_and_wales, target, us_federal};
 use chrono_datetime::WeekdaySet;
 
 // The weekend that a word names: `none`, or at most two weekdays.
-pub(crate) fn weekend_of<'a>(word: Word<'a>) -> Result<WeekdaySet, Fault<'a>> {
+pub(crate) fn weekend_of(word: Word<'_>) -> Result<WeekdaySet, Fault> {
     match weekdays_named(word.text) {
         Some(days) if days.len() <= 2 => Ok(days),
-        _ => Err(Fault::expected(word, "none, or at most two weekdays as fri,sat")),
+        _ => Err(wanted(word, Wanted::Weekend)),
     }
 }
 
 // The weekdays that a word names.
-pub(crate) fn weekdays_of<'a>(word: Word<'a>) -> Result<WeekdaySet, Fault<'a>> {
-    weekdays_named(word.text).ok_or(Fault::expected(word, "weekdays as fri,sat"))
+pub(crate) fn weekdays_of(word: Word<'_>) -> Result<WeekdaySet, Fault> {
+    weekdays_named(word.text).ok_or(wanted(word, Wanted::Weekdays))
 }
 
 // The weekdays that a text names: `none`, or some with commas between them.

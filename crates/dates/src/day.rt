@@ -34,7 +34,7 @@ pub(crate) fn command() -> CommandRow {
 }
 
 // The day by all its names, or that of each line, or a page of the program; the exit status.
-pub(crate) fn answer<'a>(rt: &HostRuntime, asked: &Asked<'a>, none: &mut Reply) -> Answered<'a> {
+pub(crate) fn answer(rt: &HostRuntime, asked: &Asked<'_>, none: &mut Reply) -> Answered {
     if asked.words.has("--version") {
         return asked.print(rt, Reply::Version);
     }
@@ -61,9 +61,9 @@ fn is_alone(rt: &HostRuntime) -> bool {
 }
 
 // The day that a word names, which else may have been meant for a command.
-pub(crate) fn first_of<'a>(form: InstantForm<'_>, word: Word<'a>) -> Result<NaiveDate, Fault<'a>> {
+pub(crate) fn first_of(form: InstantForm<'_>, word: Word<'_>) -> Result<NaiveDate, Fault> {
     match day_of(form, word) {
-        Err(Fault::Word(word, Cause::Expected(_))) => Err(Fault::Word(word, Cause::NoCommand)),
+        Err(Fault::Word(place, Cause::Wanted(_))) => Err(Fault::Word(place, Cause::NoCommand)),
         other => other,
     }
 }
@@ -71,24 +71,28 @@ pub(crate) fn first_of<'a>(form: InstantForm<'_>, word: Word<'a>) -> Result<Naiv
 // Prints the page that an option asks for; the exit status.
 fn print_page(rt: &HostRuntime, asked: &Asked<'_>) -> io::Result<u8> {
     let rows = commands();
-    let mut page = String::new(rt.alloc());
-    put_page(&mut page, asked, &program(&rows))?;
-    print!(rt; "{page}")?;
+    let mut page = Buffer::new(rt.alloc());
+    put_page(&mut page, asked, &program(&rows));
+    print!(rt; "{}", page.text()?)?;
     Ok(ANSWERED)
 }
 
 // Puts the page that an option asks for behind a text, if one does.
-fn put_page(out: &mut String, asked: &Asked<'_>, program: &Program<'_>) -> Put {
+fn put_page(out: &mut Buffer, asked: &Asked<'_>, program: &Program<'_>) {
     if asked.words.has("--man") {
-        return put_man_page(out, program);
+        put_man_page(out, program);
+    } else if asked.words.has("--reference") {
+        put_reference(out, program);
+    } else {
+        put_completion(out, program, shell_of(asked.option("--completion").text));
     }
-    if asked.words.has("--reference") {
-        return put_reference(out, program);
-    }
-    let shell = match asked.option("--completion").text {
+}
+
+// The shell of that name.
+fn shell_of(name: &str) -> Shell {
+    match name {
         "bash" => Shell::Bash,
         "zsh" => Shell::Zsh,
         _ => Shell::Fish,
-    };
-    put_completion(out, program, shell)
+    }
 }

@@ -3,7 +3,8 @@
 use crate::prelude::*;
 use dates_answer::{distance, parts_between};
 
-const UNITS: &[&str] = &["d", "w", "m", "mo", "y", "b", "ymd", "h", "min", "s"];
+/// The names of units.
+pub(crate) const UNITS: &[&str] = &["d", "w", "m", "mo", "y", "b", "ymd", "h", "min", "s"];
 
 const UNIT: Operand = operand!("UNIT"; keyword: "in", values: UNITS, required: false);
 
@@ -56,7 +57,7 @@ struct Diff<'a> {
 }
 
 // How far it is from one day to another, or to that of each line; the exit status.
-pub(crate) fn answer<'a>(rt: &HostRuntime, asked: &Asked<'a>, none: &mut Reply) -> Answered<'a> {
+pub(crate) fn answer(rt: &HostRuntime, asked: &Asked<'_>, none: &mut Reply) -> Answered {
     let instants = value!(instants_by(rt, asked));
     let (ends, measure) = value!(read(&instants, asked, none));
     let mut diff = Diff {
@@ -74,11 +75,11 @@ pub(crate) fn answer<'a>(rt: &HostRuntime, asked: &Asked<'a>, none: &mut Reply) 
 }
 
 // Reads from where to where, and in what.
-fn read<'a>(
+fn read(
     instants: &Instants<'_>,
-    asked: &Asked<'a>,
+    asked: &Asked<'_>,
     none: &mut Reply,
-) -> Result<(Ends, Measure), Fault<'a>> {
+) -> Result<(Ends, Measure), Fault> {
     let (words, unit) = cut(asked.words.operands.as_slice());
     let measure = value!(measure_of(unit));
     let has_time = match words {
@@ -91,7 +92,7 @@ fn read<'a>(
     *none = none_of(measure, is_timed);
     match (measure, unit) {
         (Measure::Whole(_) | Measure::Parts | Measure::OpenDays, [_, word]) if is_timed => {
-            return Err(Fault::expected(*word, "h, min or s between date-times"));
+            return Err(wanted(*word, Wanted::TimeUnit));
         }
         _ => {}
     }
@@ -106,12 +107,12 @@ fn cut<'b, 'a>(words: &'b [Word<'a>]) -> (&'b [Word<'a>], &'b [Word<'a>]) {
 }
 
 // The measure that the words from `in` on name.
-fn measure_of<'a>(words: &[Word<'a>]) -> Result<Measure, Fault<'a>> {
+fn measure_of(words: &[Word<'_>]) -> Result<Measure, Fault> {
     match words {
         [] => Ok(Measure::Plain),
-        [_] => Err(Fault::Missing("UNIT", "")),
-        [_, unit] => measure_named(unit.text).ok_or(Fault::Word(*unit, Cause::Choice(UNITS))),
-        [_, _, other, ..] => Err(Fault::expected(*other, NO_MORE)),
+        [_] => Err(Fault::NoOperand(2)),
+        [_, unit] => measure_named(unit.text).ok_or(wanted(*unit, Wanted::Unit)),
+        [_, _, other, ..] => Err(wanted(*other, Wanted::NoMore)),
     }
 }
 
@@ -123,15 +124,15 @@ fn measure_named(name: &str) -> Option<Measure> {
         "h" => Some(Measure::Time(Key::Hours, 3_600)),
         "min" => Some(Measure::Time(Key::Minutes, 60)),
         "s" => Some(Measure::Time(Key::Seconds, 1)),
-        _ => Some(Measure::Whole(unit_named(name.as_bytes())?)),
+        _ => Some(Measure::Whole(unit_named(name)?)),
     }
 }
 
 // Reads two days or two date-times, of which `-` or none at the end stands for the lines of the input.
-fn ends_of<'a>(instants: &Instants<'_>, words: &[Word<'a>]) -> Result<Ends, Fault<'a>> {
+fn ends_of(instants: &Instants<'_>, words: &[Word<'_>]) -> Result<Ends, Fault> {
     match words {
-        [] => Err(Fault::Missing("DAY", "")),
-        [first] if first.text == "-" => Err(Fault::Missing("DAY", "")),
+        [] => Err(Fault::NoOperand(0)),
+        [first] if first.text == "-" => Err(Fault::NoOperand(1)),
         [first] => Ok((Some(value!(instants.start_of(*first))), None)),
         [first, second] if first.text == "-" => {
             Ok((None, Some(value!(instants.start_of(*second)))))
@@ -148,50 +149,44 @@ fn ends_of<'a>(instants: &Instants<'_>, words: &[Word<'a>]) -> Result<Ends, Faul
 }
 
 // What is wrong where a third word stands in front of `in`.
-fn third_word<'a>(
+fn third_word(
     instants: &Instants<'_>,
-    first: Word<'a>,
-    second: Word<'a>,
-    third: Word<'a>,
-) -> Fault<'a> {
+    first: Word<'_>,
+    second: Word<'_>,
+    third: Word<'_>,
+) -> Fault {
     match instants.start_of(first) {
         Err(fault) => fault,
-        Ok(_) if !begins_as_day(second) => Fault::expected(second, IN),
-        Ok(Start::Day(_)) => Fault::expected(third, IN),
-        Ok(_) => Fault::expected(third, NO_MORE),
+        Ok(_) if !begins_as_day(second) => wanted(second, Wanted::In),
+        Ok(Start::Day(_)) => wanted(third, Wanted::In),
+        Ok(_) => wanted(third, Wanted::NoMore),
     }
 }
 
-const IN: &str = "in and a unit, as 'in w'";
-
 // The day, the date-time or the instant that a word names, of the kind of the first.
-pub(crate) fn like<'a>(
-    instants: &Instants<'_>,
-    first: Start,
-    word: Word<'a>,
-) -> Result<Start, Fault<'a>> {
+pub(crate) fn like(instants: &Instants<'_>, first: Start, word: Word<'_>) -> Result<Start, Fault> {
     let what = match first {
-        Start::Day(_) => DAYS,
-        Start::DateTime(_) => MOMENTS,
-        Start::Stamp(_) => STAMPS,
+        Start::Day(_) => Wanted::Day,
+        Start::DateTime(_) => Wanted::Moment,
+        Start::Stamp(_) => Wanted::Stamp,
     };
     let second = value!(instants.once(word, value!(start_as(instants.form, word, what))));
     if first.is_like(&second) {
         Ok(second)
     } else if first.is_day() || second.is_day() {
-        Err(Fault::expected(word, "two days or two date-times, not one of each"))
+        Err(wanted(word, Wanted::OneKind))
     } else {
-        Err(Fault::expected(word, "an offset of both date-times, or of none"))
+        Err(wanted(word, Wanted::OffsetsAlike))
     }
 }
 
 // Only open days take options.
-fn check_options<'a>(words: &Arguments<'a>, measure: Measure) -> Result<(), Fault<'a>> {
+fn check_options(words: &Arguments<'_>, measure: Measure) -> Result<(), Fault> {
     for given in words.options.as_slice() {
         let name = given.option.name;
         let closes = name == "--weekend" || name == "--calendar" || name == "--holidays";
         if closes && !matches!(measure, Measure::OpenDays) {
-            return Err(Fault::expected(given.value, "no such option without 'in b'"));
+            return Err(wanted(given.value, Wanted::OpenDays));
         }
     }
     Ok(())

@@ -53,7 +53,7 @@ pub(crate) fn prev() -> CommandRow {
 }
 
 // The moments at which the schedule is due, on or back, a line each; `none` where there are fewer. The exit status.
-pub(crate) fn answer<'a>(rt: &HostRuntime, asked: &Asked<'a>, none: &mut Reply) -> Answered<'a> {
+pub(crate) fn answer(rt: &HostRuntime, asked: &Asked<'_>, none: &mut Reply) -> Answered {
     let form = asked.reading;
     *none = match form {
         InstantForm::Seconds(_) => form.no_moment(),
@@ -131,7 +131,7 @@ fn fired_beside(
 }
 
 // The schedule that a word writes.
-fn schedule_of<'a>(word: Word<'a>) -> Result<Schedule, Fault<'a>> {
+pub(crate) fn schedule_of(word: Word<'_>) -> Result<Schedule, Fault> {
     let text = word.text.as_bytes();
-    Ok(value!(read_schedule(text), error => Fault::Word(word, Cause::Schedule(error))))
+    Ok(value!(read_schedule(text), error => Fault::Word(word.place, Cause::Schedule(error))))
 }

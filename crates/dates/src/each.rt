@@ -27,13 +27,13 @@ struct EachDay<'a> {
 }
 
 // What is asked of the day that a word names, or of that of each line; the exit status.
-pub(crate) fn answer_each<'a>(
+pub(crate) fn answer_each(
     rt: &HostRuntime,
-    asked: &Asked<'a>,
+    asked: &Asked<'_>,
     none: Reply,
-    word: Option<Word<'a>>,
+    word: Option<Word<'_>>,
     asks: Asks,
-) -> Answered<'a> {
+) -> Answered {
     let (form, reading) = (asked.form, asked.reading);
     let mut each = EachDay {
         form,

@@ -12,9 +12,9 @@ pub(crate) fn command() -> CommandRow {
 }
 
 // Easter Sunday of the year; the exit status.
-pub(crate) fn answer<'a>(rt: &HostRuntime, asked: &Asked<'a>, _none: &mut Reply) -> Answered<'a> {
+pub(crate) fn answer(rt: &HostRuntime, asked: &Asked<'_>, _none: &mut Reply) -> Answered {
     let word = asked.word(0);
     let sunday = chrono_business::easter(value!(year_of(word)));
-    let sunday = value!(sunday.ok_or(Fault::NoSuch(word, Cause::Outside)));
+    let sunday = value!(sunday.ok_or(Fault::NoSuch(word.place, Cause::Outside)));
     asked.print(rt, Reply::Date(sunday))
 }

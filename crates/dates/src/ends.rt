@@ -3,7 +3,8 @@
 use crate::each::{Asks, answer_each};
 use crate::prelude::*;
 
-const PERIODS: &[&str] = &["week", "month", "quarter", "year"];
+/// The periods that have a first and a last day.
+pub(crate) const PERIODS: &[&str] = &["week", "month", "quarter", "year"];
 
 // So many months has each; a week has none.
 const MONTHS: &[u32] = &[0, 1, 3, 12];
@@ -42,7 +43,7 @@ pub(crate) fn round() -> CommandRow {
 }
 
 // The day at an end of the day's period, or its next weekday; or that of each line. The exit status.
-pub(crate) fn answer<'a>(rt: &HostRuntime, asked: &Asked<'a>, none: &mut Reply) -> Answered<'a> {
+pub(crate) fn answer(rt: &HostRuntime, asked: &Asked<'_>, none: &mut Reply) -> Answered {
     let (first, second) = (asked.word(0), asked.words.operand(1));
     if asked.command.name == "round" {
         let asks = Asks::Round(value!(weekday_of(asked.word(1))));
@@ -50,7 +51,7 @@ pub(crate) fn answer<'a>(rt: &HostRuntime, asked: &Asked<'a>, none: &mut Reply) 
     }
     let place = PERIODS.iter().position(|period| *period == first.text);
     let Some(months) = MONTHS.get(place.unwrap_or(MONTHS.len())) else {
-        return Err(Fault::Word(first, Cause::Choice(PERIODS)));
+        return Err(Fault::Word(first.place, Cause::Wanted(Wanted::Period)));
     };
     let asks = Asks::End(*months, asked.command.name == LAST);
     answer_each(

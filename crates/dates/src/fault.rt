@@ -1,12 +1,13 @@
 //! Faults: why a command has no answer, how that is said, and the exit statuses.
 
 use crate::prelude::*;
+use crate::zoned_rule::put_timed_error;
+use calendar_rules::TimedRuleError;
 use chrono_pattern::PatternError;
 use chrono_rules::RuleError;
 use command_words::{Why, Wrong, nearest, put_choices, put_usage};
 use std::alloc::AllocFailed;
 use std::env::{self, Env, FillError, VarError};
-use std::fmt::Write;
 use std::str;
 use zone_database::ZoneError;
 use zoned_cron::ScheduleError;
@@ -20,35 +21,30 @@ pub(crate) const NONE: u8 = 1;
 /// The exit status after a wrong command, or after a read or a write that failed.
 pub(crate) const WRONG: u8 = 2;
 
-/// Why a command has no answer.
+/// Why a command has no answer. A word is told by its place among the arguments, which is 0 for standard input.
 #[derive(Clone, Copy)]
-pub(crate) enum Fault<'a> {
-    /// There is no such day or year, or no such local time.
-    NoSuch(Word<'a>, Cause<'a>),
+pub(crate) enum Fault {
+    /// There is no such day or year, or no such local time, as the word names.
+    NoSuch(usize, Cause),
     /// The word is wrong.
-    Word(Word<'a>, Cause<'a>),
-    /// The operand, or the option with its value, is missing.
-    Missing(&'static str, &'static str),
+    Word(usize, Cause),
+    /// The operand at that place of the command's row is missing.
+    NoOperand(usize),
+    /// The option at that place of the command's row is missing.
+    NoOption(usize),
     /// Lines cannot be read.
-    Input(Word<'a>, io::Error),
+    Input(usize, io::Error),
     /// The line of holidays with that number is no day.
-    NoHoliday(Word<'a>, u64, Reason),
+    NoHoliday(usize, u64, Reason),
     /// The machine's own time zone cannot be read.
     Machine(ZoneError),
     /// No answer can be written, or memory is short.
     Failed(io::Error),
 }
 
-impl<'a> Fault<'a> {
-    // That something else was expected in place of a word.
-    pub(crate) fn expected(word: Word<'a>, what: &'static str) -> Self {
-        Fault::Word(word, Cause::Expected(what))
-    }
-}
-
 /// What is wrong with a word.
 #[derive(Clone, Copy)]
-pub(crate) enum Cause<'a> {
+pub(crate) enum Cause {
     /// It is written as a day or a time is, and there is none such.
     NoDay(Unreadable),
     /// A move leads out of the calendar.
@@ -60,9 +56,9 @@ pub(crate) enum Cause<'a> {
     /// The calendar has no such year.
     Outside,
     /// That was expected in its place.
-    Expected(&'static str),
-    /// One of these was expected in its place.
-    Choice(&'static [&'static str]),
+    Wanted(Wanted),
+    /// It stands beside an option that is not given with its own: that pair of `APART`.
+    Apart(usize),
     /// It is a day in an order that has to be told.
     Order,
     /// It is neither a day nor a command.
@@ -71,12 +67,10 @@ pub(crate) enum Cause<'a> {
     Schedule(ScheduleError),
     /// It writes no recurrence rule.
     Rule(RuleError),
-    /// It, so written, is months by `m`, which beside a time of day was meant for minutes.
-    Months(&'a str),
-    /// No option has its name.
-    NoOption,
-    /// The value of the option is missing.
-    NoValue,
+    /// It writes no recurrence rule over date-times.
+    TimedRule(TimedRuleError),
+    /// It writes months by `m`, which beside a time of day was meant for minutes.
+    Months,
     /// It names no time zone.
     Zone(ZoneError),
     /// It writes no pattern.
@@ -86,140 +80,196 @@ pub(crate) enum Cause<'a> {
 /// Standard input, in place of the word that names a file.
 pub(crate) const INPUT: Word<'static> = Word { place: 0, text: "" };
 
-impl From<io::Error> for Fault<'_> {
+// That something else was expected in place of a word.
+pub(crate) fn wanted(word: Word<'_>, wanted: Wanted) -> Fault {
+    Fault::Word(word.place, Cause::Wanted(wanted))
+}
+
+impl From<io::Error> for Fault {
     fn from(error: io::Error) -> Self {
         Fault::Failed(error)
     }
 }
 
-impl From<AllocError> for Fault<'_> {
+impl From<AllocError> for Fault {
     fn from(error: AllocError) -> Self {
         Fault::Failed(io::Error::from(error))
     }
 }
 
-impl<T: Drop> From<AllocFailed<T>> for Fault<'_> {
+impl<T: Drop> From<AllocFailed<T>> for Fault {
     fn from(error: AllocFailed<T>) -> Self {
         Fault::Failed(io::Error::from(error))
     }
 }
 
-// Why a word breaks the table, as a fault.
-pub(crate) fn fault_of<'a>(wrong: Wrong<'a>) -> Fault<'a> {
-    let cause = match wrong.why {
-        Why::Unknown => Cause::NoOption,
-        Why::Twice => Cause::Expected("each option once"),
-        Why::NoValue => Cause::NoValue,
-        Why::Flag => Cause::Expected("no value"),
-        Why::Choice(values) => Cause::Choice(values),
-    };
-    Fault::Word(wrong.word, cause)
+// Says which word breaks the table of a command, and why; the exit status.
+pub(crate) fn refuse_word(
+    rt: &HostRuntime,
+    command: &CommandRow,
+    wrong: Wrong<'_>,
+) -> io::Result<u8> {
+    let (text, mut near) = (wrong.word.text, None);
+    let mut out = Buffer::new(rt.alloc());
+    out.put("dates: ");
+    put_source(&mut out, wrong.word.place, text, ": ");
+    match wrong.why {
+        Why::Unknown => {
+            out.put("no such option");
+            near = near_option(rt, command, text)?;
+        }
+        Why::Twice => out.put("expected each option once"),
+        Why::NoValue => out.put("its value is missing"),
+        Why::Flag => out.put("expected no value"),
+        Why::Choice(values) => {
+            put_one_of(&mut out, values);
+            near = nearest(rt.alloc(), text, values)?;
+        }
+    }
+    put_near(&mut out, near);
+    tell(rt, &out, WRONG)
 }
 
-// Says why a command has no answer; the exit status. That there is no such day or year is an answer too.
+// Says why a command has no answer, by the text of the word that the fault names; the exit status. That there is no such day or
+// year is an answer too.
 pub(crate) fn refuse(
     rt: &HostRuntime,
     command: &CommandRow,
     form: OutputForm,
     none: Reply,
-    fault: Fault<'_>,
+    text: &str,
+    fault: Fault,
 ) -> io::Result<u8> {
-    let mut text = String::new(rt.alloc());
+    let mut out = Buffer::new(rt.alloc());
     let status = match fault {
         Fault::Failed(error) => return Err(error),
         Fault::Machine(error) => return refuse_machine(rt, error),
         Fault::NoSuch(_, _) => print_line(rt, form, none)?,
         _ => {
-            text.push_str("dates: ")?;
+            out.put("dates: ");
             WRONG
         }
     };
-    put_fault(&mut text, command, fault)?;
-    if let Fault::Word(word, cause) = fault {
-        if let Some(name) = near_name(rt, command, word.text, cause)? {
-            put(&mut text, &["; did you mean ", name, "?"])?;
-        }
+    put_fault(&mut out, command, text, fault);
+    if let Fault::Word(_, cause) = fault {
+        put_near(&mut out, near_name(rt, text, cause)?);
     }
-    Ok(tell(rt, text.as_str(), status))
+    tell(rt, &out, status)
 }
 
 // Prints a line among the errors; the exit status.
-pub(crate) fn tell(rt: &HostRuntime, text: &str, status: u8) -> u8 {
-    let _ = eprintln!(rt; "{text}");
-    status
+pub(crate) fn tell(rt: &HostRuntime, line: &Buffer, status: u8) -> io::Result<u8> {
+    let line = line.text()?;
+    let _ = eprintln!(rt; "{line}");
+    Ok(status)
 }
 
-// Puts why a command has no answer behind a text.
-fn put_fault(out: &mut String, command: &CommandRow, fault: Fault<'_>) -> Put {
-    match fault {
-        Fault::NoSuch(word, cause) => {
-            put(out, &[word.text, ": "])?;
-            put_cause(out, cause)
-        }
-        Fault::Word(word, cause) => {
-            put_source(out, word, ": ")?;
-            put_cause(out, cause)
-        }
-        Fault::Missing(name, value) => {
-            put(
-                out,
-                &[name, gap_before(value), value, " is missing; usage: "],
-            )?;
-            put_usage(out, NAME, command)
-        }
-        Fault::Input(source, error) => {
-            put_source(out, source, ": ")?;
-            show(out, &error)
-        }
-        Fault::NoHoliday(source, number, reason) => {
-            put_source(out, source, ", line ")?;
-            show(out, &number)?;
-            out.push_str(": ")?;
-            put_holiday(out, reason)
-        }
-        Fault::Machine(error) => show(out, &error),
-        Fault::Failed(error) => show(out, &error),
+// Puts a name that was perhaps meant behind a text.
+fn put_near(out: &mut Buffer, name: Option<&'static str>) {
+    if let Some(name) = name {
+        put!(out, "; did you mean ", name, "?");
     }
+}
+
+// The place of the word that a fault names.
+pub(crate) fn place_of(fault: Fault) -> usize {
+    match fault {
+        Fault::NoSuch(place, _) | Fault::Word(place, _) => place,
+        Fault::Input(place, _) | Fault::NoHoliday(place, _, _) => place,
+        _ => 0,
+    }
+}
+
+// Puts why a command has no answer behind a text, by the text of the word that the fault names.
+fn put_fault(out: &mut Buffer, command: &CommandRow, text: &str, fault: Fault) {
+    match fault {
+        Fault::NoSuch(_, cause) => {
+            put!(out, text, ": ");
+            put_cause(out, text, cause);
+        }
+        Fault::Word(place, cause) => {
+            put_source(out, place, text, ": ");
+            put_cause(out, text, cause);
+        }
+        Fault::NoOperand(place) => {
+            let operand = command.operands.get(place);
+            put_missing(out, command, operand.map_or("", |operand| operand.name), "");
+        }
+        Fault::NoOption(place) => {
+            let option = command.options.get(place).copied().unwrap_or(OPTION);
+            put_missing(out, command, option.name, option.value);
+        }
+        Fault::Input(place, error) => {
+            put_source(out, place, text, ": ");
+            out.show(&error);
+        }
+        Fault::NoHoliday(place, number, reason) => {
+            put_source(out, place, text, ", line ");
+            out.show(&number);
+            out.put(": ");
+            put_holiday(out, reason);
+        }
+        Fault::Machine(error) => out.show(&error),
+        Fault::Failed(error) => out.show(&error),
+    }
+}
+
+// Puts that an operand or an option is missing behind a text, and how the command is called.
+fn put_missing(out: &mut Buffer, command: &CommandRow, name: &str, value: &str) {
+    put!(out, name, gap_before(value), value, " is missing; usage: ");
+    put_usage(out, NAME, command);
 }
 
 // Says that the machine's own zone cannot be read: which zone `TZ` asks for, or else why its file is none; the exit status.
 fn refuse_machine(rt: &HostRuntime, error: ZoneError) -> io::Result<u8> {
-    let mut text = String::new(rt.alloc());
+    let mut out = Buffer::new(rt.alloc());
     match env::var(rt, "TZ") {
-        Ok(name) => put(&mut text, &["dates: TZ: no zone '", name.as_str(), "'"])?,
-        Err(VarError::NotPresent) => text.push_str("dates: /etc/localtime")?,
-        Err(_) => text.push_str("dates: TZ")?,
+        Ok(name) => put!(out, "dates: TZ: no zone '", name.as_str(), "'"),
+        Err(VarError::NotPresent) => out.put("dates: /etc/localtime"),
+        Err(_) => out.put("dates: TZ"),
     }
     if !matches!(error, ZoneError::NoSuchZone | ZoneError::NoName) {
-        text.push_str(": ")?;
-        show(&mut text, &error)?;
+        out.put(": ");
+        out.show(&error);
     }
-    Ok(tell(rt, text.as_str(), WRONG))
+    tell(rt, &out, WRONG)
 }
 
-// Puts what is wrong with a word behind a text.
-pub(crate) fn put_cause(out: &mut String, cause: Cause<'_>) -> Put {
+// Puts what is wrong with a word of that text behind another.
+pub(crate) fn put_cause(out: &mut Buffer, text: &str, cause: Cause) {
     match cause {
         Cause::NoDay(error) => put_no_day(out, error),
-        Cause::Past => out.push_str("past the calendar's end"),
-        Cause::NotOnce => out.push_str("a local time that the zone's clock shows twice, or never"),
-        Cause::Never => out.push_str("the zone's clock never shows it"),
-        Cause::Outside => out.push_str("expected a year from -262143 to +262142"),
-        Cause::Expected(what) => put(out, &["expected ", what]),
-        Cause::Choice(values) => {
-            out.push_str("expected ")?;
-            put_choices(out, values)
-        }
-        Cause::Order => out.push_str(ORDER_WANTED),
-        Cause::NoCommand => out.push_str(COMMAND),
+        Cause::Past => out.put("past the calendar's end"),
+        Cause::NotOnce => out.put("a local time that the zone's clock shows twice, or never"),
+        Cause::Never => out.put("the zone's clock never shows it"),
+        Cause::Outside => out.put("expected a year from -262143 to +262142"),
+        Cause::Wanted(wanted) => put_wanted(out, wanted),
+        Cause::Apart(place) => put_apart(out, place),
+        Cause::Order => out.put(ORDER_WANTED),
+        Cause::NoCommand => out.put(COMMAND),
         Cause::Schedule(error) => put_expected(out, &error, "a schedule as '30 4 1,15 * 5'"),
         Cause::Rule(error) => put_expected(out, &error, "a rule as FREQ=MONTHLY;BYDAY=-1FR"),
-        Cause::Months(text) => put(out, &["months; minutes are ", text, "in"]),
-        Cause::NoOption => out.push_str("no such option"),
-        Cause::NoValue => out.push_str("its value is missing"),
-        Cause::Zone(error) => show(out, &error),
+        Cause::TimedRule(error) => put_timed_error(out, error),
+        Cause::Months => put!(out, "months; minutes are ", text, "in"),
+        Cause::Zone(error) => out.show(&error),
         Cause::Pattern(error) => put_pattern_error(out, error),
     }
+}
+
+// Puts that something else was expected behind a text.
+fn put_wanted(out: &mut Buffer, wanted: Wanted) {
+    let choices = wanted.choices();
+    if choices.is_empty() {
+        put!(out, "expected ", wanted.text());
+    } else {
+        put_one_of(out, choices);
+    }
+}
+
+// Puts that one of some words was expected behind a text.
+fn put_one_of(out: &mut Buffer, words: &'static [&'static str]) {
+    out.put("expected ");
+    put_choices(out, words);
 }
 
 const ORDER_WANTED: &str =
@@ -228,87 +278,102 @@ const ORDER_WANTED: &str =
 const COMMAND: &str = "expected a day as 2024-02-29 or a command; dates --help lists them";
 
 // Puts why a text names no day behind another.
-pub(crate) fn put_no_day(out: &mut String, error: Unreadable) -> Put {
+pub(crate) fn put_no_day(out: &mut Buffer, error: Unreadable) {
     match error {
-        Unreadable::Form(error) => show(out, &error),
+        Unreadable::Form(error) => out.show(&error),
         Unreadable::Pattern(error) => put_unread(out, error),
     }
 }
 
 // Puts why a line of holidays is no day behind a text.
-fn put_holiday(out: &mut String, reason: Reason) -> Put {
+fn put_holiday(out: &mut Buffer, reason: Reason) {
     if !matches!(reason, Reason::Form) {
-        put_reason(out, reason)?;
-        out.push_str("; ")?;
+        put_reason(out, reason);
+        out.put("; ");
     }
-    out.push_str("expected a day as 2024-02-29")
+    out.put("expected a day as 2024-02-29");
 }
 
 // Puts an error, and what was expected, behind a text.
-fn put_expected<T: fmt::Display>(out: &mut String, error: &T, what: &'static str) -> Put {
-    show(out, error)?;
-    put(out, &["; expected ", what])
-}
-
-// Puts a value behind a text.
-pub(crate) fn show<T: fmt::Display>(out: &mut String, value: &T) -> Put {
-    write!(out, "{value}").or(Err(AllocError))
+fn put_expected<T: fmt::Display>(out: &mut Buffer, error: &T, what: &str) {
+    out.show(error);
+    put!(out, "; expected ", what);
 }
 
 // Puts where words and lines come from behind a text, and an end: standard input, or an argument as `argument 2, FILE`.
-fn put_source(out: &mut String, word: Word<'_>, end: &str) -> Put {
-    match word.place {
-        0 => out.push_str("standard input")?,
-        place => put_argument(out, place, word.text.as_bytes())?,
+fn put_source(out: &mut Buffer, place: usize, text: &str, end: &str) {
+    match place {
+        0 => out.put("standard input"),
+        _ => put_argument(out, place, text.as_bytes()),
     }
-    out.push_str(end)
+    out.put(end);
 }
 
 // Puts an argument on one line behind a text, of its bytes: control characters, of which some break a line and some steer a terminal,
 // stand there as JSON writes them by their number, no byte as `''`, and what is no UTF-8 as U+FFFD.
-fn put_argument(out: &mut String, place: usize, bytes: &[u8]) -> Put {
-    out.push_str("argument ")?;
-    show(out, &place)?;
-    out.push_str(if bytes.is_empty() { ", ''" } else { ", " })?;
+fn put_argument(out: &mut Buffer, place: usize, bytes: &[u8]) {
+    out.put("argument ");
+    out.show(&place);
+    out.put(if bytes.is_empty() { ", ''" } else { ", " });
     for chunk in bytes.utf8_chunks() {
         for character in chunk.valid().chars() {
             if character.is_control() {
-                write!(out, "\\u{:04x}", character as u32).or(Err(AllocError))?;
+                out.show(&Escape { character });
             } else {
-                out.push(character)?;
+                out.put_char(character);
             }
         }
         if !chunk.invalid().is_empty() {
-            out.push('\u{fffd}')?;
+            out.put_char('\u{fffd}');
         }
     }
-    Ok(())
 }
 
-// The name that is most like a wrong one, if one is like it.
+/// A control character as JSON writes it by its number.
+#[derive(Clone, Copy)]
+struct Escape {
+    character: char,
+}
+
+impl fmt::Display for Escape {
+    fn fmt<W: fmt::Write>(&self, f: &mut fmt::Formatter<W>) -> fmt::Result {
+        write!(f, "\\u{:04x}", self.character as u32)
+    }
+}
+
+// The name that is most like a wrong word, if one is like it.
 fn near_name(
+    rt: &HostRuntime,
+    text: &str,
+    cause: Cause,
+) -> Result<Option<&'static str>, AllocError> {
+    match cause {
+        Cause::Wanted(wanted) => nearest(rt.alloc(), text, wanted.choices()),
+        Cause::NoCommand => near_command(rt, text),
+        _ => Ok(None),
+    }
+}
+
+// The name of a command, or of a day, that is most like a word.
+fn near_command(rt: &HostRuntime, text: &str) -> Result<Option<&'static str>, AllocError> {
+    let mut names: Vec<&'static str> = Vec::new(rt.alloc());
+    for command in &commands() {
+        names.push(command.name)?;
+    }
+    names.push("tomorrow")?;
+    names.push("yesterday")?;
+    nearest(rt.alloc(), text, names.as_slice())
+}
+
+// The name of an option that is most like a word, up to its `=`.
+fn near_option(
     rt: &HostRuntime,
     command: &CommandRow,
     text: &str,
-    cause: Cause<'_>,
 ) -> Result<Option<&'static str>, AllocError> {
     let mut names: Vec<&'static str> = Vec::new(rt.alloc());
-    match cause {
-        Cause::Choice(values) => return nearest(rt.alloc(), text, values),
-        Cause::NoCommand => {
-            for command in &commands() {
-                names.push(command.name)?;
-            }
-            for name in ["tomorrow", "yesterday"] {
-                names.push(name)?;
-            }
-        }
-        Cause::NoOption => {
-            for option in command.options {
-                names.push(option.name)?;
-            }
-        }
-        _ => return Ok(None),
+    for option in command.options {
+        names.push(option.name)?;
     }
     let (name, _) = text.split_once('=').unwrap_or((text, ""));
     nearest(rt.alloc(), name, names.as_slice())
@@ -326,11 +391,11 @@ pub(crate) fn refuse_arguments(rt: &HostRuntime, fault: io::Error) -> io::Result
             Ok(length) => {
                 let bytes = &room[..length];
                 if str::from_utf8(bytes).is_err() {
-                    let mut text = String::new(rt.alloc());
-                    text.push_str("dates: ")?;
-                    put_argument(&mut text, place, bytes)?;
-                    text.push_str(": expected UTF-8")?;
-                    return Ok(tell(rt, text.as_str(), WRONG));
+                    let mut out = Buffer::new(rt.alloc());
+                    out.put("dates: ");
+                    put_argument(&mut out, place, bytes);
+                    out.put(": expected UTF-8");
+                    return tell(rt, &out, WRONG);
                 }
             }
             Err(FillError::TooLong) => {}

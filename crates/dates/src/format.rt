@@ -39,7 +39,7 @@ struct Lines<'a> {
 }
 
 // The day or the date-time, or that of each line, read and printed; the exit status.
-pub(crate) fn answer<'a>(rt: &HostRuntime, asked: &Asked<'a>, none: &mut Reply) -> Answered<'a> {
+pub(crate) fn answer(rt: &HostRuntime, asked: &Asked<'_>, none: &mut Reply) -> Answered {
     let (form, reading) = (asked.form, asked.reading);
     let instants = value!(instants_by(rt, asked));
     match asked.words.operand(1) {

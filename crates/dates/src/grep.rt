@@ -58,7 +58,7 @@ struct Lines<'a> {
 }
 
 // The lines that are looked for, or all in order; the exit status.
-pub(crate) fn answer<'a>(rt: &HostRuntime, asked: &Asked<'a>, _none: &mut Reply) -> Answered<'a> {
+pub(crate) fn answer(rt: &HostRuntime, asked: &Asked<'_>, _none: &mut Reply) -> Answered {
     let mut lines = value!(lines_of(rt, asked));
     let status = match asked.word_or_lines() {
         Some(word) => {
@@ -75,7 +75,7 @@ pub(crate) fn answer<'a>(rt: &HostRuntime, asked: &Asked<'a>, _none: &mut Reply)
 }
 
 // What is looked for.
-fn lines_of<'a>(rt: &HostRuntime, asked: &Asked<'a>) -> Result<Lines<'a>, Fault<'a>> {
+fn lines_of<'a>(rt: &HostRuntime, asked: &Asked<'a>) -> Result<Lines<'a>, Fault> {
     let mut lines = Lines {
         reading: asked.reading,
         first: i32::MIN,
@@ -103,7 +103,7 @@ fn lines_of<'a>(rt: &HostRuntime, asked: &Asked<'a>) -> Result<Lines<'a>, Fault<
 }
 
 // The first and the last day of the month or the year that a word names.
-fn days_in<'a>(word: Word<'a>) -> Result<(NaiveDate, NaiveDate), Fault<'a>> {
+fn days_in(word: Word<'_>) -> Result<(NaiveDate, NaiveDate), Fault> {
     let text = word.text.as_bytes();
     if read_year(text).is_some() {
         let first = value!(start_of_year(word));
@@ -115,7 +115,7 @@ fn days_in<'a>(word: Word<'a>) -> Result<(NaiveDate, NaiveDate), Fault<'a>> {
                 .last_day_of_month(),
         ));
     }
-    let what = "a month as 2024-02 or a year as 2024";
+    let what = Wanted::MonthOrYear;
     let first = value!(read_month(text), error => unread(word, Unreadable::Form(error), what));
     Ok((first, first.last_day_of_month()))
 }

@@ -55,7 +55,7 @@ fn put_in_order(days: &mut Vec<NaiveDate>, weekend: WeekdaySet) {
 }
 
 // The holidays by the options of a command.
-pub(crate) fn holidays_of<'a>(rt: &HostRuntime, asked: &Asked<'a>) -> Result<Holidays, Fault<'a>> {
+pub(crate) fn holidays_of(rt: &HostRuntime, asked: &Asked<'_>) -> Result<Holidays, Fault> {
     let weekend = value!(weekend_of(asked.option("--weekend")));
     let mut holidays = Holidays {
         weekend,
@@ -72,31 +72,31 @@ pub(crate) fn holidays_of<'a>(rt: &HostRuntime, asked: &Asked<'a>) -> Result<Hol
 }
 
 // Puts the days that the file of a word lists into a list.
-fn put_listed<'a>(
+fn put_listed(
     rt: &HostRuntime,
     form: InstantForm<'_>,
-    word: Word<'a>,
+    word: Word<'_>,
     days: &mut Vec<NaiveDate>,
-) -> Result<(), Fault<'a>> {
+) -> Result<(), Fault> {
     let mut line = Vec::new(rt.alloc());
     let mut reader = BufReader::new(rt.alloc(), value!(open_file(rt, word)))?;
     for number in 1..u64::MAX {
         match read_line(&mut reader, &mut line) {
             Ok(true) => match day_of_line(form, line.as_slice()) {
                 Ok(day) => days.push(day)?,
-                Err(reason) => return Err(Fault::NoHoliday(word, number, reason)),
+                Err(reason) => return Err(Fault::NoHoliday(word.place, number, reason)),
             },
             Ok(false) => break,
-            Err(error) => return Err(Fault::Input(word, error)),
+            Err(error) => return Err(Fault::Input(word.place, error)),
         }
     }
     Ok(())
 }
 
 // The file that a word names.
-pub(crate) fn open_file<'a>(rt: &HostRuntime, word: Word<'a>) -> Result<File, Fault<'a>> {
+pub(crate) fn open_file(rt: &HostRuntime, word: Word<'_>) -> Result<File, Fault> {
     if word.text.is_empty() {
-        return Err(Fault::expected(word, "the name of a file"));
+        return Err(wanted(word, Wanted::File));
     }
-    Ok(value!(fs::open(rt, word.text), error => Fault::Input(word, error)))
+    Ok(value!(fs::open(rt, word.text), error => Fault::Input(word.place, error)))
 }

@@ -17,7 +17,7 @@ pub(crate) fn command() -> CommandRow {
 }
 
 // What the zone's clock shows at the instant, or at both where a local time is shown twice; the exit status.
-pub(crate) fn answer<'a>(rt: &HostRuntime, asked: &Asked<'a>, none: &mut Reply) -> Answered<'a> {
+pub(crate) fn answer(rt: &HostRuntime, asked: &Asked<'_>, none: &mut Reply) -> Answered {
     *none = Reply::NoClock;
     let zone = value!(zone_of(rt, asked.word(0)));
     let start = value!(moment_of(asked.reading, asked.word(1)));

@@ -12,7 +12,7 @@ pub(crate) fn command() -> CommandRow {
 }
 
 // `yes` where the year is a leap year, and else `no`; the exit status.
-pub(crate) fn answer<'a>(rt: &HostRuntime, asked: &Asked<'a>, none: &mut Reply) -> Answered<'a> {
+pub(crate) fn answer(rt: &HostRuntime, asked: &Asked<'_>, none: &mut Reply) -> Answered {
     *none = Reply::Nothing(Key::Leap);
     let first = value!(start_of_year(asked.word(0)));
     asked.print(rt, Reply::Whether(Key::Leap, first.leap_year()))

@@ -31,12 +31,12 @@ pub(crate) trait EachLine {
 }
 
 // Takes each line of a source; the greatest exit status.
-pub(crate) fn take_lines<'a>(
+pub(crate) fn take_lines(
     rt: &HostRuntime,
-    source: Word<'a>,
+    source: Word<'_>,
     reader: impl Read + Drop,
     command: &mut impl EachLine,
-) -> Answered<'a> {
+) -> Answered {
     let mut status = ANSWERED;
     let mut line = Vec::new(rt.alloc());
     let mut reader = BufReader::new(rt.alloc(), reader)?;
@@ -44,7 +44,7 @@ pub(crate) fn take_lines<'a>(
         match read_line(&mut reader, &mut line) {
             Ok(true) => status = status.max(command.take_line(rt, number, line.as_slice())?),
             Ok(false) => break,
-            Err(error) => return Err(Fault::Input(source, error)),
+            Err(error) => return Err(Fault::Input(source.place, error)),
         }
     }
     Ok(status)
@@ -61,21 +61,19 @@ pub(crate) fn print_nowhere(
     number: u64,
     from: &Start,
     by: &str,
-    why: Cause<'_>,
+    why: Cause,
 ) -> io::Result<u8> {
     let status = print_reply(rt, form, none)?;
-    let mut text = String::new(rt.alloc());
+    let mut out = Buffer::new(rt.alloc());
     if number != ALONE {
-        text.push_str("line ")?;
-        show(&mut text, &number)?;
-        text.push_str(": ")?;
+        out.put("line ");
+        out.show(&number);
+        out.put(": ");
     }
-    show(&mut text, from)?;
-    text.push_str(gap_before(by))?;
-    text.push_str(by)?;
-    text.push_str(": ")?;
-    put_cause(&mut text, why)?;
-    Ok(tell(rt, text.as_str(), status))
+    out.show(from);
+    put!(out, gap_before(by), by, ": ");
+    put_cause(&mut out, by, why);
+    tell(rt, &out, status)
 }
 
 /// Why a line names no day; `Form` is that it is not written as one, and `Mark` a byte order mark.
@@ -92,9 +90,12 @@ pub(crate) enum Reason {
 }
 
 // Puts why a line names no day behind a text.
-pub(crate) fn put_reason(out: &mut String, reason: Reason) -> Put {
-    out.push_str(match reason {
-        Reason::Day(error) => return put_no_day(out, error),
+pub(crate) fn put_reason(out: &mut Buffer, reason: Reason) {
+    out.put(match reason {
+        Reason::Day(error) => {
+            put_no_day(out, error);
+            return;
+        }
         Reason::Moment => "a date-time, and no day",
         Reason::Spaces => "begins or ends with white space",
         Reason::Mark => "begins with a byte order mark",
@@ -102,7 +103,7 @@ pub(crate) fn put_reason(out: &mut String, reason: Reason) -> Put {
         Reason::Empty => "nothing stands there",
         Reason::Length => "has 65536 bytes or more",
         Reason::Form => "not written as 2024-02-29, 2024-060 or 2024-W09-4",
-    })
+    });
 }
 
 // The day that a line names, or why it names none.

@@ -1,6 +1,15 @@
 //! `dates` prints what a person at a terminal asks of dates. `table.rt` has its commands.
 #![tactic(auto)]
 
+// Puts pieces behind a text, one after another.
+macro_rules! put {
+    ($out:expr, $($piece:expr),+ $(,)?) => {
+        {
+            $($out.put($piece);)+
+        }
+    };
+}
+
 // The value of a result; its fault, or the fault by its error, is returned.
 macro_rules! value {
     ($read:expr) => {
@@ -63,6 +72,7 @@ mod due;
 mod each;
 mod easter;
 mod ends;
+mod explain;
 mod fault;
 mod format;
 mod grep;
@@ -83,10 +93,12 @@ mod table;
 mod test;
 mod texts;
 mod values;
+mod wanted;
 mod week;
 mod weekday;
 mod zone_changes;
 mod zoned;
+mod zoned_rule;
 
 use prelude::*;
 use std::env;

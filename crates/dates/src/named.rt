@@ -2,7 +2,6 @@
 
 use crate::each::weekday_from;
 use crate::prelude::*;
-use chrono_reading::read_weekday;
 use std::time::SystemTime;
 
 /// `--now`.
@@ -29,11 +28,11 @@ impl Now {
 }
 
 // What the clock shows, if a word of a command names a day by it; nothing without such a word.
-pub(crate) fn clock_of<'a>(
+pub(crate) fn clock_of(
     rt: &HostRuntime,
     command: &CommandRow,
-    words: &Arguments<'a>,
-) -> Result<Option<Now>, Fault<'a>> {
+    words: &Arguments<'_>,
+) -> Result<Option<Now>, Fault> {
     if !asks_clock(command, words) {
         return Ok(None);
     }
@@ -57,11 +56,11 @@ pub(crate) fn clock_of<'a>(
 }
 
 // What a zone's clock shows now, or at the time that a word names.
-pub(crate) fn shown_now<'a>(
+pub(crate) fn shown_now(
     rt: &HostRuntime,
     zone: &OwnedZone,
-    word: Option<Word<'a>>,
-) -> Result<Option<DateTime<FixedOffset>>, Fault<'a>> {
+    word: Option<Word<'_>>,
+) -> Result<Option<DateTime<FixedOffset>>, Fault> {
     let Some(word) = word else {
         return Ok(shown_in(zone, second_of(SystemTime::now(rt)?)));
     };
@@ -70,7 +69,7 @@ pub(crate) fn shown_now<'a>(
         value!(moment_of(InstantForm::Text(None, Order::None), word)),
     ) {
         MappedLocalTime::Single(stamp) => Ok(shown_in(zone, Some(stamp))),
-        _ => Err(Fault::NoSuch(word, Cause::NotOnce)),
+        _ => Err(Fault::NoSuch(word.place, Cause::NotOnce)),
     }
 }
 
@@ -81,16 +80,13 @@ fn second_of(time: SystemTime) -> Option<DateTime<FixedOffset>> {
 
 // Whether an operand, or the value of an option, names a day by the clock.
 fn asks_clock(command: &CommandRow, words: &Arguments<'_>) -> bool {
-    if words
-        .operands
-        .as_slice()
-        .iter()
-        .any(|word| is_named(word.text.as_bytes()))
-    {
-        return true;
+    for word in words.operands.as_slice() {
+        if is_named(word.text.as_bytes()) {
+            return true;
+        }
     }
     for option in command.options {
-        if option.value == "TIME" || option.value == "DAY" {
+        if takes_day(option) {
             if let Some(word) = words.value(command.options, option.name) {
                 if is_named(word.text.as_bytes()) {
                     return true;
@@ -101,49 +97,55 @@ fn asks_clock(command: &CommandRow, words: &Arguments<'_>) -> bool {
     false
 }
 
+// Whether the value of an option is a day or a date-time.
+fn takes_day(option: &Opt) -> bool {
+    option.value == "TIME" || option.value == "DAY"
+}
+
 // Whether a text names a day, or the time, by the clock.
 pub(crate) fn is_named(text: &[u8]) -> bool {
-    match text {
-        b"now" | b"today" | b"tomorrow" | b"yesterday" => true,
-        _ => read_weekday(weekday_in(text).0).is_ok(),
+    match text_of(text) {
+        "now" | "today" | "tomorrow" | "yesterday" => true,
+        name => weekday_named(weekday_in(name).0).is_some(),
     }
 }
 
 // The day, or the time, that a text names by the clock, if there is one.
 pub(crate) fn read_named(now: Now, text: &[u8]) -> Result<Start, ReadError> {
     let cause = ReadCause::DateOutOfRange;
-    named_by(now, text).ok_or(ReadError { cause, byte: 0 })
+    named_by(now, text_of(text)).ok_or(ReadError { cause, byte: 0 })
 }
 
 // The name of a weekday in a text, and whether `last` stands in front of it.
-fn weekday_in(text: &[u8]) -> (&[u8], bool) {
-    match text.strip_prefix(b"last ") {
+fn weekday_in(text: &str) -> (&str, bool) {
+    match text.strip_prefix("last ") {
         Some(name) => (name, true),
         None => (text, false),
     }
 }
 
 // The day, or the time, that a text names.
-fn named_by(now: Now, text: &[u8]) -> Option<Start> {
+fn named_by(now: Now, text: &str) -> Option<Start> {
     let stamp = now.stamp()?;
     let moment = stamp.naive_local();
     let today = moment.date();
     match text {
-        b"now" if now.is_instant => Some(Start::Stamp(stamp)),
-        b"now" => Some(Start::DateTime(moment)),
-        b"today" => Some(Start::Day(today)),
-        b"tomorrow" => Some(Start::Day(today.succ_opt()?)),
-        b"yesterday" => Some(Start::Day(today.pred_opt()?)),
+        "now" if now.is_instant => Some(Start::Stamp(stamp)),
+        "now" => Some(Start::DateTime(moment)),
+        "today" => Some(Start::Day(today)),
+        "tomorrow" => Some(Start::Day(today.succ_opt()?)),
+        "yesterday" => Some(Start::Day(today.pred_opt()?)),
         _ => Some(Start::Day(weekday_near(today, text)?)),
     }
 }
 
 // The day of a weekday: the first from a day on, or behind `last` the last before it.
-fn weekday_near(today: NaiveDate, text: &[u8]) -> Option<NaiveDate> {
+fn weekday_near(today: NaiveDate, text: &str) -> Option<NaiveDate> {
     let (name, is_last) = weekday_in(text);
-    let weekday = read_weekday(name).ok()?;
-    if is_last {
-        return weekday_from(today.moved_by_days(-7)?, weekday);
-    }
-    weekday_from(today, weekday)
+    let from = if is_last {
+        today.moved_by_days(-7)?
+    } else {
+        today
+    };
+    weekday_from(from, weekday_named(name)?)
 }

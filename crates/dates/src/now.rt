@@ -25,7 +25,7 @@ pub(crate) fn today() -> CommandRow {
 }
 
 // The day, or the second, that the zone's clock shows now; the exit status.
-pub(crate) fn answer<'a>(rt: &HostRuntime, asked: &Asked<'a>, none: &mut Reply) -> Answered<'a> {
+pub(crate) fn answer(rt: &HostRuntime, asked: &Asked<'_>, none: &mut Reply) -> Answered {
     if asked.command.name != TODAY {
         *none = asked.reading.no_moment();
     }
@@ -40,10 +40,10 @@ pub(crate) fn answer<'a>(rt: &HostRuntime, asked: &Asked<'a>, none: &mut Reply) 
 }
 
 // What the clock of the zone of a command shows, which is the machine's own if it has none.
-pub(crate) fn shown<'a>(
+pub(crate) fn shown(
     rt: &HostRuntime,
-    asked: &Asked<'a>,
-) -> Result<Option<DateTime<FixedOffset>>, Fault<'a>> {
+    asked: &Asked<'_>,
+) -> Result<Option<DateTime<FixedOffset>>, Fault> {
     let zone = match asked.value("--zone") {
         Some(word) => value!(zone_of(rt, word)),
         None => value!(machine_zone(rt)),
@@ -52,9 +52,9 @@ pub(crate) fn shown<'a>(
 }
 
 // The day that the clock shows.
-pub(crate) fn day_shown<'a>(rt: &HostRuntime, asked: &Asked<'a>) -> Result<NaiveDate, Fault<'a>> {
+pub(crate) fn day_shown(rt: &HostRuntime, asked: &Asked<'_>) -> Result<NaiveDate, Fault> {
     match value!(shown(rt, asked)) {
         Some(stamp) => Ok(stamp.naive_local().date()),
-        None => Err(Fault::NoSuch(asked.option("--now"), Cause::Past)),
+        None => Err(Fault::NoSuch(asked.option("--now").place, Cause::Past)),
     }
 }

@@ -24,20 +24,20 @@ struct Days<'a> {
 }
 
 // Whether the day, or that of each line, is open; the exit status.
-pub(crate) fn answer<'a>(rt: &HostRuntime, asked: &Asked<'a>, none: &mut Reply) -> Answered<'a> {
+pub(crate) fn answer(rt: &HostRuntime, asked: &Asked<'_>, none: &mut Reply) -> Answered {
     *none = Reply::Nothing(Key::Open);
     let date = given!(asked.word_or_lines(), word, day_of(asked.reading, word));
     answer_days(rt, asked, *none, date, None)
 }
 
 // Whether the day, or that of each line, is open, or where it goes by a convention; the exit status.
-pub(crate) fn answer_days<'a>(
+pub(crate) fn answer_days(
     rt: &HostRuntime,
-    asked: &Asked<'a>,
+    asked: &Asked<'_>,
     none: Reply,
     date: Option<NaiveDate>,
     roll: Option<Roll>,
-) -> Answered<'a> {
+) -> Answered {
     let mut days = Days {
         form: asked.form,
         reading: asked.reading,

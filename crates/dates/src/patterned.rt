@@ -38,18 +38,18 @@ pub(crate) fn pattern_word<'a>(
 }
 
 // The pattern that a word writes.
-pub(crate) fn pattern_of<'a>(word: Word<'a>) -> Result<Pattern<'a>, Fault<'a>> {
+pub(crate) fn pattern_of<'a>(word: Word<'a>) -> Result<Pattern<'a>, Fault> {
     let pattern = Pattern::new(word.text.as_bytes());
-    Ok(value!(pattern, error => Fault::Word(word, Cause::Pattern(error))))
+    Ok(value!(pattern, error => Fault::Word(word.place, Cause::Pattern(error))))
 }
 
 // The pattern that a word writes, by which days or date-times are read.
-pub(crate) fn reading_of<'a>(word: Word<'a>) -> Result<Pattern<'a>, Fault<'a>> {
+pub(crate) fn reading_of<'a>(word: Word<'a>) -> Result<Pattern<'a>, Fault> {
     let pattern = value!(pattern_of(word));
     if pattern.names_date() || pattern.names_zoned() {
         return Ok(pattern);
     }
-    Err(Fault::expected(word, "a pattern that names a day, as %d.%m.%Y"))
+    Err(wanted(word, Wanted::DayPattern))
 }
 
 // The day, the date-time or the instant that a text names by a pattern.
@@ -95,10 +95,10 @@ pub(crate) fn print_by(
     let key = key_of_start(&start);
     let Some(text) = delayed(pattern, &start) else {
         let status = print_line(rt, form, Reply::Nothing(key))?;
-        let mut text = String::new(rt.alloc());
-        show(&mut text, &start)?;
-        text.push_str(": the pattern asks for a time of day or an offset, which it has not")?;
-        return Ok(tell(rt, text.as_str(), status));
+        let mut out = Buffer::new(rt.alloc());
+        out.show(&start);
+        out.put(": the pattern asks for a time of day or an offset, which it has not");
+        return tell(rt, &out, status);
     };
     let text = text.to_string(rt.alloc())?;
     let text = text.as_str();
@@ -121,27 +121,28 @@ pub(crate) fn is_other_form(error: PatternReadError) -> bool {
 }
 
 // Puts why a text is no pattern behind another.
-pub(crate) fn put_pattern_error(out: &mut String, error: PatternError) -> Put {
-    out.push_str("byte ")?;
-    show(out, &error.byte)?;
-    out.push_str(match error.cause {
+pub(crate) fn put_pattern_error(out: &mut Buffer, error: PatternError) {
+    out.put("byte ");
+    out.show(&error.byte);
+    out.put(match error.cause {
         PatternFault::Unknown => ": no such specifier",
         PatternFault::Cut => ": the pattern ends within a specifier",
-    })
+    });
 }
 
 // Puts why a text is not read by a pattern behind another.
-pub(crate) fn put_unread(out: &mut String, error: PatternReadError) -> Put {
+pub(crate) fn put_unread(out: &mut Buffer, error: PatternReadError) {
     if error.cause == ReadFault::Impossible {
-        return out.push_str("no such day or time");
+        out.put("no such day or time");
+        return;
     }
-    out.push_str("byte ")?;
-    show(out, &error.byte)?;
-    out.push_str(match error.cause {
+    out.put("byte ");
+    out.show(&error.byte);
+    out.put(match error.cause {
         ReadFault::TooShort => ": the text ends before its pattern",
         ReadFault::TooLong => ": the text goes on behind its pattern",
         ReadFault::Invalid => ": not of the pattern",
         ReadFault::OutOfRange => ": out of range",
         ReadFault::Impossible | ReadFault::NotEnough => ": no such day or time",
-    })
+    });
 }

@@ -11,6 +11,7 @@ pub(crate) use crate::patterned::*;
 pub(crate) use crate::table::*;
 pub(crate) use crate::texts::*;
 pub(crate) use crate::values::*;
+pub(crate) use crate::wanted::*;
 pub(crate) use crate::zoned::*;
 pub(crate) use chrono_datetime::{
     Datelike, NaiveDate, NaiveDateTime, NaiveTime, TimeDelta, Weekday,
@@ -19,7 +20,7 @@ pub(crate) use chrono_pattern::Pattern;
 pub(crate) use chrono_reading::{ReadCause, ReadError};
 pub(crate) use chrono_zoned::{DateTime, FixedOffset, InZone, MappedLocalTime, Timestamp};
 pub(crate) use command_words::{
-    Arguments, CommandRow, OPERAND, OPTION, Operand, Opt, Put, Word, gap_before, put,
+    Arguments, Buffer, CommandRow, OPERAND, OPTION, Operand, Opt, Word, gap_before,
 };
 pub(crate) use dates_answer::{Key, OutputForm, Quoted, Reply, Span, Unit};
 pub(crate) use std::alloc::{AllocError, Allocator, Global};

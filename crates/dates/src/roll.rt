@@ -3,7 +3,8 @@
 use crate::prelude::*;
 use chrono_business::Roll;
 
-const CONVENTIONS: &[&str] = &[
+/// The names of conventions.
+pub(crate) const CONVENTIONS: &[&str] = &[
     "following",
     "preceding",
     "modified-following",
@@ -25,22 +26,22 @@ pub(crate) fn command() -> CommandRow {
 }
 
 // Where the day, or that of each line, goes; the exit status.
-pub(crate) fn answer<'a>(rt: &HostRuntime, asked: &Asked<'a>, none: &mut Reply) -> Answered<'a> {
+pub(crate) fn answer(rt: &HostRuntime, asked: &Asked<'_>, none: &mut Reply) -> Answered {
     let (date, roll) = value!(read(asked.reading, asked.word(0), asked.words.operand(1)));
     crate::open::answer_days(rt, asked, *none, date, Some(roll))
 }
 
 // The day and the convention; no day for the lines of the input.
-fn read<'a>(
+fn read(
     form: InstantForm<'_>,
-    first: Word<'a>,
-    second: Option<Word<'a>>,
-) -> Result<(Option<NaiveDate>, Roll), Fault<'a>> {
+    first: Word<'_>,
+    second: Option<Word<'_>>,
+) -> Result<(Option<NaiveDate>, Roll), Fault> {
     match second {
         Some(second) if first.text == "-" => Ok((None, value!(roll_of(second)))),
         Some(second) => Ok((Some(value!(day_of(form, first))), value!(roll_of(second)))),
         None if begins_as_day(first) => match day_of(form, first) {
-            Ok(_) => Err(Fault::Missing("CONVENTION", "")),
+            Ok(_) => Err(Fault::NoOperand(1)),
             Err(fault) => Err(fault),
         },
         None => Ok((None, value!(roll_of(first)))),
@@ -48,7 +49,7 @@ fn read<'a>(
 }
 
 // The roll of the convention that a word names.
-fn roll_of<'a>(word: Word<'a>) -> Result<Roll, Fault<'a>> {
+fn roll_of(word: Word<'_>) -> Result<Roll, Fault> {
     match word.text {
         "following" => Ok(Roll::Following),
         "preceding" => Ok(Roll::Preceding),
@@ -56,6 +57,6 @@ fn roll_of<'a>(word: Word<'a>) -> Result<Roll, Fault<'a>> {
         "modified-preceding" => Ok(Roll::ModifiedPreceding),
         "nearest" => Ok(Roll::NearestQuantLib),
         "unadjusted" => Ok(Roll::Unadjusted),
-        _ => Err(Fault::Word(word, Cause::Choice(CONVENTIONS))),
+        _ => Err(Fault::Word(word.place, Cause::Wanted(Wanted::Convention))),
     }
 }

@@ -16,6 +16,8 @@ const RDATE: Opt = option!(
     "--rdate", "DAY"; "a day that is added; may be given again", repeated: true
 );
 
+const BY_CLOCK: Opt = option!("--zone", "ZONE"; "by the clock of which time zone");
+
 const HOW_MANY: Opt = option!(
     "--count", "N"; "how many at most\n(default: all, to the end of the rule or the calendar)"
 );
@@ -23,13 +25,15 @@ const HOW_MANY: Opt = option!(
 pub(crate) fn command() -> CommandRow {
     row!(
         "rule", &[operand!("RRULE")], 
-        &[START, FROM, HOW_MANY, EXDATE, RDATE, NOW, PARSE, ORDER, FORMAT, LONG, JSON, HELP];
+        &[START, FROM, HOW_MANY, EXDATE, RDATE, BY_CLOCK, NOW, PARSE, ORDER, FORMAT, LONG, JSON, HELP];
         help: "print the instances of a recurrence rule",
         more: "An RRULE is written as RFC 5545 writes it, in parts with ; between them:\n\
             FREQ=WEEKLY;INTERVAL=2;BYDAY=TU;COUNT=5        every other Tuesday, five times\n\
             FREQ=MONTHLY;BYMONTHDAY=15,-1;UNTIL=20240301   15th and last days, to 1 March\n\
             FREQ=MONTHLY;BYDAY=3FR                         third Fridays\n\
-            FREQ=MONTHLY;BYDAY=MO,TU,WE,TH,FR;BYSETPOS=-1  months' last workdays, Mon-Fri",
+            FREQ=MONTHLY;BYDAY=MO,TU,WE,TH,FR;BYSETPOS=-1  months' last workdays, Mon-Fri\n\
+            With --zone it recurs by the zone's clock from a date-time on, also by BYHOUR or\n\
+            HOURLY. A time that the clock skips goes by the offset before.",
         example: "$ dates rule 'FREQ=MONTHLY;BYDAY=-1FR' --start 2024-01-01 --count 2\n\
             2024-01-26\n\
             2024-02-23"
@@ -37,7 +41,11 @@ pub(crate) fn command() -> CommandRow {
 }
 
 // The instances of the rule, a line each; `none` where there is none. The exit status.
-pub(crate) fn answer<'a>(rt: &HostRuntime, asked: &Asked<'a>, none: &mut Reply) -> Answered<'a> {
+pub(crate) fn answer(rt: &HostRuntime, asked: &Asked<'_>, none: &mut Reply) -> Answered {
+    if let Some(zone) = asked.value("--zone") {
+        *none = Reply::NoClock;
+        return crate::zoned_rule::answer_in(rt, asked, zone);
+    }
     let rule = value!(rule_of(asked.word(0)));
     let start = value!(day_of(asked.reading, asked.option("--start")));
     let most = given!(asked.value("--count"), word, amount_of(word)).unwrap_or(u64::MAX);
@@ -58,11 +66,7 @@ pub(crate) fn answer<'a>(rt: &HostRuntime, asked: &Asked<'a>, none: &mut Reply) 
 }
 
 // The days that an option gives, in order, each once.
-fn days_given<'a>(
-    rt: &HostRuntime,
-    asked: &Asked<'a>,
-    name: &str,
-) -> Result<Vec<NaiveDate>, Fault<'a>> {
+fn days_given(rt: &HostRuntime, asked: &Asked<'_>, name: &str) -> Result<Vec<NaiveDate>, Fault> {
     let mut days = Vec::new(rt.alloc());
     for given in asked.words.options.as_slice() {
         if given.option.name == name {
@@ -80,6 +84,8 @@ fn put_day<A: Allocator>(days: &mut Vec<NaiveDate, A>, day: NaiveDate) -> io::Re
 }
 
 // The rule that a word writes.
-fn rule_of<'a>(word: Word<'a>) -> Result<Rule, Fault<'a>> {
-    Ok(value!(read_rule(word.text.as_bytes()), error => Fault::Word(word, Cause::Rule(error))))
+pub(crate) fn rule_of(word: Word<'_>) -> Result<Rule, Fault> {
+    Ok(
+        value!(read_rule(word.text.as_bytes()), error => Fault::Word(word.place, Cause::Rule(error))),
+    )
 }

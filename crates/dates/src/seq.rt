@@ -24,7 +24,7 @@ pub(crate) fn command() -> CommandRow {
 }
 
 // The days of the sequence as long as they are not past its end; `none` where the first day is past it. The exit status.
-pub(crate) fn answer<'a>(rt: &HostRuntime, asked: &Asked<'a>, none: &mut Reply) -> Answered<'a> {
+pub(crate) fn answer(rt: &HostRuntime, asked: &Asked<'_>, none: &mut Reply) -> Answered {
     let reading = asked.reading;
     let (second, third) = second_and_span(asked);
     let from = value!(start_of(reading, asked.word(0)));
@@ -63,7 +63,7 @@ fn second_and_span<'a>(asked: &Asked<'a>) -> (Option<Word<'a>>, Option<Word<'a>>
 }
 
 // The weekdays that are left out.
-fn skipped<'a>(asked: &Asked<'a>) -> Result<WeekdaySet, Fault<'a>> {
+fn skipped(asked: &Asked<'_>) -> Result<WeekdaySet, Fault> {
     match asked.value("--skip") {
         Some(word) => weekdays_of(word),
         None => Ok(WeekdaySet::EMPTY),
@@ -71,17 +71,17 @@ fn skipped<'a>(asked: &Asked<'a>) -> Result<WeekdaySet, Fault<'a>> {
 }
 
 // The span that a word writes, which is not 0; a time moves no day.
-fn step_of<'a>(from: Start, word: Word<'a>) -> Result<Move, Fault<'a>> {
+fn step_of(from: Start, word: Word<'_>) -> Result<Move, Fault> {
     let text = word.text.as_bytes();
     let step = match move_at(text, 0) {
         Some((step, next)) if next == text.len() => step,
-        _ => return Err(Fault::expected(word, STEPS)),
+        _ => return Err(wanted(word, Wanted::Step)),
     };
     if !steps_from(&step, from.is_day()) {
-        return Err(Fault::expected(word, STEPS));
+        return Err(wanted(word, Wanted::Step));
     }
     if goes(&step) == 0 {
-        return Err(Fault::expected(word, "a span that is not 0"));
+        return Err(wanted(word, Wanted::NonZero));
     }
     Ok(step)
 }
@@ -95,8 +95,6 @@ fn steps_from(step: &Move, is_day: bool) -> bool {
         Move::Calendar(_) => true,
     }
 }
-
-const STEPS: &str = "a span as 3d, -2w, 1m or 4y, or of date-times as 36h or 90min";
 
 // 1 where a move goes on, -1 where it goes back, and 0 where it does neither.
 fn goes(step: &Move) -> i64 {

@@ -1,7 +1,7 @@
 //! The commands of `dates`: a row each. Help, the man page, completion and messages come from these rows.
 
 use crate::prelude::*;
-use command_words::{Program, put_command_help, put_program_help, read_words};
+use command_words::{Program, Wrong, put_command_help, put_program_help, read_words};
 
 // The rows: the module of each command and its function there, in the order in which the help lists them.
 macro_rules! each_command {
@@ -28,6 +28,7 @@ macro_rules! each_command {
             due::next,
             due::prev,
             rule::command,
+            explain::command,
             cal::command,
             now::now,
             now::today,
@@ -69,7 +70,7 @@ pub(crate) fn commands() -> [CommandRow; ROWS] {
 }
 
 // Answers the command that is asked, and tells what is printed where there is no answer; the exit status.
-fn answer<'a>(rt: &HostRuntime, asked: &Asked<'a>, none: &mut Reply) -> Answered<'a> {
+fn answer(rt: &HostRuntime, asked: &Asked<'_>, none: &mut Reply) -> Answered {
     each_command!(answer_named, rt, asked, none);
     Ok(ANSWERED)
 }
@@ -147,13 +148,28 @@ fn answer_command(rt: &HostRuntime, command: CommandRow, words: &[Word<'_>]) -> 
     match read_words(rt.alloc(), command.options, words)? {
         Ok(words) if words.has("--help") => print_help(rt, &command),
         Ok(words) => answer_words(rt, command, words),
-        Err(wrong) => {
-            let first = wrong_first(&command, words.first().copied());
-            let (form, none) = (OutputForm::Text, Reply::Nothing(Key::Date));
-            refuse(rt, &command, form, none, first.unwrap_or(fault_of(wrong)))
-        }
+        Err(wrong) => match words.first() {
+            Some(first) => refuse_first(rt, &command, *first, wrong),
+            None => refuse_word(rt, &command, wrong),
+        },
     }
 }
+
+// Says what is wrong with the first word, or else which word breaks the table; the exit status.
+fn refuse_first(
+    rt: &HostRuntime,
+    command: &CommandRow,
+    first: Word<'_>,
+    wrong: Wrong<'_>,
+) -> io::Result<u8> {
+    match wrong_first(command, first) {
+        Some(fault) => refuse(rt, command, OutputForm::Text, NO_DATE, first.text, fault),
+        None => refuse_word(rt, command, wrong),
+    }
+}
+
+// That there is no day.
+const NO_DATE: Reply = Reply::Nothing(Key::Date);
 
 // Answers a command by its words; the exit status.
 fn answer_words(rt: &HostRuntime, command: CommandRow, words: Arguments<'_>) -> io::Result<u8> {
@@ -162,10 +178,9 @@ fn answer_words(rt: &HostRuntime, command: CommandRow, words: Arguments<'_>) -> 
     } else {
         OutputForm::Text
     };
-    let none = Reply::Nothing(Key::Date);
     let (format, parse) = match patterns_of(&command, &words) {
         Ok(patterns) => patterns,
-        Err(fault) => return refuse(rt, &command, form, none, fault),
+        Err(fault) => return refuse(rt, &command, form, NO_DATE, word_of(&words, fault), fault),
     };
     match clock_of(rt, &command, &words) {
         Ok(now) => answer_by(
@@ -177,21 +192,37 @@ fn answer_words(rt: &HostRuntime, command: CommandRow, words: Arguments<'_>) -> 
             parse.as_ref(),
             now,
         ),
-        Err(fault) => refuse(rt, &command, form, none, fault),
+        Err(fault) => refuse(rt, &command, form, NO_DATE, word_of(&words, fault), fault),
     }
 }
 
+// The text of the word that a fault names: an operand, or the value of an option.
+fn word_of<'a>(words: &Arguments<'a>, fault: Fault) -> &'a str {
+    let place = place_of(fault);
+    for word in words.operands.as_slice() {
+        if word.place == place {
+            return word.text;
+        }
+    }
+    for given in words.options.as_slice() {
+        if given.value.place == place {
+            return given.value.text;
+        }
+    }
+    ""
+}
+
 // Answers a command by its words and its patterns; the exit status.
-fn answer_by<'a>(
+fn answer_by(
     rt: &HostRuntime,
     command: CommandRow,
     form: OutputForm,
-    words: Arguments<'a>,
-    pattern: Option<&'a Pattern<'a>>,
-    parse: Option<&'a Pattern<'a>>,
+    words: Arguments<'_>,
+    pattern: Option<&'_ Pattern<'_>>,
+    parse: Option<&'_ Pattern<'_>>,
     now: Option<Now>,
 ) -> io::Result<u8> {
-    let mut none = Reply::Nothing(Key::Date);
+    let mut none = NO_DATE;
     let reading = InstantForm::of(&words, parse, now);
     let asked = Asked {
         command,
@@ -201,12 +232,19 @@ fn answer_by<'a>(
     };
     match answer(rt, &asked, &mut none) {
         Ok(status) => Ok(status),
-        Err(fault) => refuse(rt, &command, form, none, fault),
+        Err(fault) => refuse(
+            rt,
+            &command,
+            form,
+            none,
+            word_of(&asked.words, fault),
+            fault,
+        ),
     }
 }
 
 // The patterns by which a command prints and reads, if its words are as many as it takes.
-fn patterns_of<'a>(command: &CommandRow, words: &Arguments<'a>) -> Result<Patterns<'a>, Fault<'a>> {
+fn patterns_of<'a>(command: &CommandRow, words: &Arguments<'a>) -> Result<Patterns<'a>, Fault> {
     if let Some(fault) = wrong_count(command, words) {
         return Err(fault);
     }
@@ -218,22 +256,33 @@ fn patterns_of<'a>(command: &CommandRow, words: &Arguments<'a>) -> Result<Patter
     }
 }
 
-// Options of which one alone may be given, and what is expected where both are.
-const APART: &[[&str; 3]] = &[
-    ["--parse", "--unix", "no --parse beside --unix"],
-    ["--parse", "--order", "no --parse beside --order"],
-    ["--order", "--unix", "no --order beside --unix"],
-    ["--format", "--long", "no --format beside --long"],
+// Options of which one alone may be given.
+const APART: &[[&str; 2]] = &[
+    ["--parse", "--unix"],
+    ["--parse", "--order"],
+    ["--order", "--unix"],
+    ["--format", "--long"],
+    ["--exdate", "--zone"],
+    ["--rdate", "--zone"],
 ];
 
+// Puts behind a text which two options do not stand beside each other.
+pub(crate) fn put_apart(out: &mut Buffer, place: usize) {
+    if let Some([one, other]) = APART.get(place) {
+        put!(out, "expected no ", one, " beside ", other);
+    }
+}
+
 // What is wrong where two options are given of which one alone may be.
-fn wrong_pair<'a>(words: &Arguments<'a>) -> Option<Fault<'a>> {
-    for [one, other, what] in APART {
+fn wrong_pair(words: &Arguments<'_>) -> Option<Fault> {
+    let mut place: usize = 0;
+    for [one, other] in APART {
         if let Some(word) = words.value(&[], one) {
             if words.has(other) {
-                return Some(Fault::expected(word, what));
+                return Some(Fault::Word(word.place, Cause::Apart(place)));
             }
         }
+        place = place.saturating_add(1);
     }
     None
 }
@@ -242,8 +291,7 @@ fn wrong_pair<'a>(words: &Arguments<'a>) -> Option<Fault<'a>> {
 type Patterns<'a> = (Option<Pattern<'a>>, Option<Pattern<'a>>);
 
 // What is wrong with the first word, where it names no command and is neither an option nor a day.
-fn wrong_first<'a>(command: &CommandRow, first: Option<Word<'a>>) -> Option<Fault<'a>> {
-    let first = first?;
+fn wrong_first(command: &CommandRow, first: Word<'_>) -> Option<Fault> {
     let is_right = first.text.starts_with("--") || is_named(first.text.as_bytes());
     if !command.name.is_empty() || is_right {
         return None;
@@ -255,29 +303,41 @@ fn wrong_first<'a>(command: &CommandRow, first: Option<Word<'a>>) -> Option<Faul
 }
 
 // What is missing, or which operand is one too many.
-fn wrong_count<'a>(command: &CommandRow, words: &Arguments<'a>) -> Option<Fault<'a>> {
-    if let Some(operand) = words.missing_operand(command) {
-        return Some(Fault::Missing(operand.name, ""));
+fn wrong_count(command: &CommandRow, words: &Arguments<'_>) -> Option<Fault> {
+    if let Some(place) = words.missing_operand(command) {
+        return Some(Fault::NoOperand(place));
     }
     if let Some(option) = words.missing(command.options) {
-        return Some(Fault::Missing(option.name, option.value));
+        return Some(Fault::NoOption(place_in(command.options, option.name)));
     }
     let extra = words.extra_operand(command)?;
-    wrong_first(command, words.operand(0)).or(Some(Fault::expected(extra, NO_MORE)))
+    match wrong_first(command, words.operand(0)?) {
+        None => Some(wanted(extra, Wanted::NoMore)),
+        fault => fault,
+    }
 }
 
-/// What is expected in place of an operand that is one too many.
-pub(crate) const NO_MORE: &str = "no further argument";
+// The place of the option of that name.
+fn place_in(options: &[Opt], name: &str) -> usize {
+    let mut place: usize = 0;
+    for option in options {
+        if option.name == name {
+            break;
+        }
+        place = place.saturating_add(1);
+    }
+    place
+}
 
 // Prints how a command, or the program, is used; the exit status.
 fn print_help(rt: &HostRuntime, command: &CommandRow) -> io::Result<u8> {
     let rows = commands();
-    let mut text = String::new(rt.alloc());
+    let mut page = Buffer::new(rt.alloc());
     if command.name.is_empty() {
-        put_program_help(&mut text, &program(&rows))?;
+        put_program_help(&mut page, &program(&rows));
     } else {
-        put_command_help(&mut text, &program(&rows), command)?;
+        put_command_help(&mut page, &program(&rows), command);
     }
-    print!(rt; "{text}")?;
+    print!(rt; "{}", page.text()?)?;
     Ok(ANSWERED)
 }

@@ -3,7 +3,8 @@
 use crate::diff::like;
 use crate::prelude::*;
 
-const TESTS: &[&str] = &["-lt", "-le", "-eq", "-ne", "-ge", "-gt"];
+/// The names of tests.
+pub(crate) const TESTS: &[&str] = &["-lt", "-le", "-eq", "-ne", "-ge", "-gt"];
 
 pub(crate) fn command() -> CommandRow {
     row!(
@@ -17,7 +18,7 @@ pub(crate) fn command() -> CommandRow {
 }
 
 // 0 where the test holds, and else 1.
-pub(crate) fn answer<'a>(rt: &HostRuntime, asked: &Asked<'a>, _none: &mut Reply) -> Answered<'a> {
+pub(crate) fn answer(rt: &HostRuntime, asked: &Asked<'_>, _none: &mut Reply) -> Answered {
     let instants = value!(instants_by(rt, asked));
     let from = value!(instants.start_of(asked.word(0)));
     let test = asked.word(1);
@@ -30,7 +31,7 @@ pub(crate) fn answer<'a>(rt: &HostRuntime, asked: &Asked<'a>, _none: &mut Reply)
         "-ne" => !apart.is_zero(),
         "-ge" => apart <= zero,
         "-gt" => apart < zero,
-        _ => return Err(Fault::Word(test, Cause::Choice(TESTS))),
+        _ => return Err(Fault::Word(test.place, Cause::Wanted(Wanted::Test))),
     };
     Ok(if holds { ANSWERED } else { NONE })
 }

@@ -7,7 +7,8 @@ use chrono_reading::{
     read_weekday,
 };
 use chrono_stamps::parse_from_iso8601;
-use chrono_text::{Text, read_decimal};
+use chrono_text::{Text, byte_place, read_decimal};
+use std::str::from_utf8;
 
 // The day that a text names by its calendar date, its ordinal date or its week date, with hyphens or without; else what is wrong by the form
 // that it has.
@@ -29,25 +30,54 @@ pub(crate) fn read_day(text: &[u8]) -> Result<NaiveDate, ReadError> {
 
 // A day of the basic form with its hyphens, and a week with its Monday; no text where it has another form.
 fn hyphened(text: &[u8]) -> Joined {
-    if text.len() < 4 {
-        return Joined::new();
+    let marks = match text.len() {
+        7 if byte_at(text, 4) == b'W' => "dddd-ddd-1",
+        7 => "dddd-ddd",
+        8 if byte_at(text, 5) == b'W' => "dddddddd-1",
+        8 if byte_at(text, 4) == b'W' => "dddd-ddd-d",
+        8 => "dddd-dd-dd",
+        _ => return Joined::new(),
+    };
+    spread(text, marks)
+}
+
+// The byte at a place of a text, and 0 behind its end.
+fn byte_at(text: &[u8], place: usize) -> u8 {
+    text.get(place).copied().unwrap_or(0)
+}
+
+// A text with marks between its bytes: each `d` stands for the next byte, and what is left of the text stands behind them.
+fn spread(text: &[u8], marks: &str) -> Joined {
+    let mut full = Joined::new();
+    let mut rest = text;
+    for mark in marks.as_bytes() {
+        match rest {
+            [byte, others @ ..] if *mark == b'd' => {
+                full.push_clipped(&[*byte]);
+                rest = others;
+            }
+            _ => full.push_clipped(&[*mark]),
+        }
     }
-    let (year, rest) = text.split_at(4);
-    match rest {
-        [b'W', a, b] => joined(&[year, b"-W", &[*a, *b], b"-1"]),
-        [b'-', b'W', _, _] => joined(&[text, b"-1"]),
-        [b'W', a, b, day] => joined(&[year, b"-W", &[*a, *b, b'-', *day]]),
-        [_, _, _] => joined(&[year, b"-", rest]),
-        [a, b, c, d] => joined(&[year, b"-", &[*a, *b, b'-', *c, *d]]),
-        _ => Joined::new(),
-    }
+    full.push_clipped(rest);
+    full
 }
 
 // How many marks were put into a text in front of a byte.
 fn added(mark: u8, text: &[u8], full: &Joined, byte: usize) -> usize {
-    let before = full.as_bytes().iter().take(byte);
-    let marks = before.filter(|byte| **byte == mark).count();
-    marks.saturating_sub(text.iter().filter(|byte| **byte == mark).count())
+    let before = full.as_bytes().get(..byte).unwrap_or(full.as_bytes());
+    count_of(mark, before).saturating_sub(count_of(mark, text))
+}
+
+// How often a byte stands in a text.
+fn count_of(byte: u8, text: &[u8]) -> usize {
+    let mut count: usize = 0;
+    for it in text {
+        if *it == byte {
+            count = count.saturating_add(1);
+        }
+    }
+    count
 }
 
 // The day that a text names with hyphens.
@@ -221,12 +251,12 @@ fn read_in_order(text: &[u8], order: Order) -> Result<Option<Start>, PatternRead
 
 // Whether a text is written as a day in some order.
 pub(crate) fn has_order(text: &[u8]) -> bool {
-    [DAY_FIRST, MONTH_FIRST]
-        .iter()
-        .any(|patterns| match read_by_any(patterns, text) {
-            Ok(found) => found.is_some(),
-            Err(_) => true,
-        })
+    is_of_any(DAY_FIRST, text) || is_of_any(MONTH_FIRST, text)
+}
+
+// Whether a text has the form of one of these patterns.
+fn is_of_any(patterns: &[&str], text: &[u8]) -> bool {
+    !matches!(read_by_any(patterns, text), Ok(None))
 }
 
 // What a text names by the first of these patterns that has its form; nothing where none has, or where no year of four digits ends it.
@@ -249,8 +279,8 @@ fn read_by_any(patterns: &[&str], text: &[u8]) -> Result<Option<Start>, PatternR
 
 // What stands in front of the first `T` or blank, behind which a time of day stands, and behind it.
 pub(crate) fn parted(text: &[u8]) -> Option<(&[u8], &[u8])> {
-    let at = text.iter().position(|byte| *byte == b'T' || *byte == b' ')?;
-    match text.split_at(at) {
+    let place = byte_place(text, b'T').min(byte_place(text, b' '));
+    match text.split_at(place) {
         (day, [_, time @ ..]) => Some((day, time)),
         _ => None,
     }
@@ -259,17 +289,9 @@ pub(crate) fn parted(text: &[u8]) -> Option<(&[u8], &[u8])> {
 // The date-time that texts name: a day, and a time of day behind which an offset may stand. 24:00 is the end of the day.
 fn moment_at(day: &[u8], time: &[u8]) -> Result<Start, ReadError> {
     let date = read_day(day)?;
-    let place = time
-        .iter()
-        .position(|byte| matches!(*byte, b'Z' | b'+' | b'-'));
-    let (clock, offset) = time.split_at(place.unwrap_or(time.len()));
-    let midnight = end_of_day(clock);
-    let clock = coloned(midnight.unwrap_or(clock));
-    let text = joined(&[
-        SOME_DAY,
-        clock.as_bytes(),
-        offset_in_full(offset).as_bytes(),
-    ]);
+    let before = byte_place(time, b'+').min(byte_place(time, b'-'));
+    let (clock, offset) = time.split_at(before.min(byte_place(time, b'Z')));
+    let text = in_full(clock, offset);
     let shown = match parse_from_iso8601(text.as_bytes()) {
         Ok(shown) => shown,
         Err(ReadError { cause, byte }) => {
@@ -279,50 +301,71 @@ fn moment_at(day: &[u8], time: &[u8]) -> Result<Start, ReadError> {
             return Err(ReadError { cause, byte });
         }
     };
-    let date = if midnight.is_some() {
+    let date = if ends_day(clock) {
         date.succ_opt()
     } else {
         Some(date)
     };
-    let moment = NaiveDateTime::new(date.ok_or(out_of_range())?, shown.naive_local().time());
-    if offset.is_empty() {
-        return Ok(Start::DateTime(moment));
+    shown_on(date, shown, offset.is_empty()).ok_or(out_of_range())
+}
+
+// What a clock shows on a day, with its offset where it has one.
+fn shown_on(
+    date: Option<NaiveDate>,
+    shown: DateTime<FixedOffset>,
+    is_local: bool,
+) -> Option<Start> {
+    let moment = NaiveDateTime::new(date?, shown.naive_local().time());
+    if is_local {
+        return Some(Start::DateTime(moment));
     }
     let stamp = shown.timezone().from_local_datetime(&moment).single();
-    Ok(Start::Stamp(stamp.ok_or(out_of_range())?))
+    Some(Start::Stamp(stamp?))
 }
 
 // A day in front of a time: each offset that is read goes with it.
 const SOME_DAY: &[u8] = b"2000-01-01T";
 
-// The midnight that stands for 24:00, of as many bytes, if that is what a clock shows.
-fn end_of_day(clock: &[u8]) -> Option<&'static [u8]> {
-    match clock {
-        b"24" | b"24:00" | b"2400" | b"24:00:00" | b"240000" => Some(b"00:00"),
-        _ => None,
-    }
+// What a clock shows on some day, in full, and the offset; UTC where there is none.
+fn in_full(clock: &[u8], offset: &[u8]) -> Joined {
+    let mut full = Joined::new();
+    full.push_clipped(SOME_DAY);
+    full.push_clipped(coloned(clock).as_bytes());
+    full.push_clipped(offset_in_full(offset).as_bytes());
+    full
 }
 
-// What a clock shows, with its colons and its minutes.
+// Whether a clock shows 24:00, the end of the day.
+fn ends_day(clock: &[u8]) -> bool {
+    matches!(
+        text_of(clock),
+        "24" | "24:00" | "2400" | "24:00:00" | "240000"
+    )
+}
+
+// What a clock shows, with its colons and its minutes; midnight for 24:00.
 fn coloned(clock: &[u8]) -> Joined {
-    match clock {
-        [_, _] => joined(&[clock, b":00"]),
-        [a, b, c, d] => joined(&[&[*a, *b, b':', *c, *d]]),
-        [a, b, c, d, rest @ ..] if *c != b':' => joined(&[&[*a, *b, b':', *c, *d, b':'], rest]),
-        _ => joined(&[clock]),
+    if ends_day(clock) {
+        return spread(b"", "00:00");
     }
+    let marks = match clock.len() {
+        2 => "dd:00",
+        4 => "dd:dd",
+        5.. if byte_at(clock, 2) != b':' => "dd:dd:",
+        _ => "",
+    };
+    spread(clock, marks)
 }
 
 // An offset with its colons; UTC where there is none.
 fn offset_in_full(offset: &[u8]) -> Joined {
-    match offset {
-        [] => joined(&[b"Z"]),
-        [sign, a, b, c, d] => joined(&[&[*sign, *a, *b, b':', *c, *d]]),
-        [sign, a, b, c, d, e, f] if *c != b':' => {
-            joined(&[&[*sign, *a, *b, b':', *c, *d, b':', *e, *f]])
-        }
-        _ => joined(&[offset]),
-    }
+    let marks = match offset.len() {
+        0 => "Z",
+        5 => "ddd:",
+        7 if byte_at(offset, 3) != b':' => "ddd:dd:",
+        _ => "",
+    };
+    spread(offset, marks)
 }
 
 // That a text has no form, as that byte shows.
@@ -337,24 +380,15 @@ fn out_of_range() -> ReadError {
     ReadError { cause, byte: 0 }
 }
 
-// Pieces in one text: no day and no time of day has more bytes.
+// A text of one day and one time of day: none that can be read has more bytes.
 type Joined = Text<63>;
-
-// Pieces, one behind another; nothing where they are too long.
-fn joined(pieces: &[&[u8]]) -> Joined {
-    let mut text = Joined::new();
-    for piece in pieces {
-        if piece.len() > 63 - text.as_bytes().len() {
-            return Joined::new();
-        }
-        text.push_text(piece);
-    }
-    text
-}
 
 // The first day of the month that a text names, as `2024-02`.
 pub(crate) fn read_month(text: &[u8]) -> Result<NaiveDate, ReadError> {
-    read_date(joined(&[text, b"-01"]).as_bytes())
+    let mut day = Joined::new();
+    day.push_clipped(text);
+    day.push_clipped(b"-01");
+    read_date(day.as_bytes())
 }
 
 /// By what a day or a date-time is moved, back where the number is below 0.
@@ -370,19 +404,6 @@ pub(crate) enum Move {
     Time(Option<TimeDelta>),
 }
 
-// The names of units, each with a letter that stands for it; those of ISO 8601 are capitals.
-const UNITS: &[(u8, &[&[u8]])] = &[
-    (b'd', &[b"d", b"day", b"days", b"D", b"DT"]),
-    (b'w', &[b"w", b"week", b"weeks", b"W", b"WT"]),
-    (b'm', &[b"m"]),
-    (b'o', &[b"mo", b"month", b"months", b"M", b"MT"]),
-    (b'y', &[b"y", b"year", b"years", b"Y", b"YT"]),
-    (b'b', &[b"b"]),
-    (b'h', &[b"h", b"hour", b"hours", b"H"]),
-    (b'i', &[b"min", b"minute", b"minutes"]),
-    (b's', &[b"s", b"second", b"seconds", b"S"]),
-];
-
 // The first move that a text writes, as `3d`, `-2w`, `1y2mo`, `PT1.5S` or `P1Y2M`.
 pub(crate) fn read_move(text: &[u8]) -> Option<Move> {
     Some(move_at(text, 0)?.0)
@@ -393,86 +414,112 @@ pub(crate) fn move_at(text: &[u8], place: usize) -> Option<(Move, usize)> {
     if let Ok(duration) = read_duration(text) {
         return Some((Move::Time(Some(duration)), text.len()));
     }
-    let (is_back, unsigned) = match text {
-        [b'-', rest @ ..] => (true, rest),
-        [b'+', rest @ ..] => (false, rest),
-        _ => (false, text),
+    let front = front_of(text);
+    let begin = place.max(front.len);
+    let name_at = begin.saturating_add(leading_digits(text.get(begin..)?));
+    let name = name_of(text.get(name_at..)?);
+    let count = i64::try_from(read_decimal(text.get(begin..name_at)?)?).ok()?;
+    let count = if front.is_back {
+        count.checked_neg()?
+    } else {
+        count
     };
-    let (is_iso, from) = match unsigned {
-        [b'P', b'T', ..] => (true, 2),
-        [b'P', ..] => (true, 1),
-        _ => (false, 0),
-    };
-    let sign = text.len().saturating_sub(unsigned.len());
-    let begin = place.max(sign.saturating_add(from));
-    let (before, rest) = (text.get(..begin)?, text.get(begin..)?);
-    let (number, behind) = rest.split_at(leading_digits(rest));
-    let end = behind.iter().position(|byte| byte.is_ascii_digit());
-    let name = behind.get(..end.unwrap_or(behind.len()))?;
-    if name.first()?.is_ascii_uppercase() != is_iso {
-        return None;
+    let next = name_at.saturating_add(name.len());
+    if front.is_iso {
+        let is_time = count_of(b'T', text.get(..begin)?) > 0;
+        return Some((move_by(count, plain_name(name, is_time))?, next));
     }
-    let count = i64::try_from(read_decimal(number)?).ok()?;
-    let unit = match unit_letter(name)? {
-        b'o' if before.contains(&b'T') => b'i',
-        unit => unit,
-    };
-    let next = begin
-        .saturating_add(number.len())
-        .saturating_add(name.len());
-    let count = if is_back { count.checked_neg()? } else { count };
-    Some((move_by(count, unit), next))
+    Some((move_by(count, name)?, next))
 }
 
-// The letter that stands for the unit of that name.
-fn unit_letter(name: &[u8]) -> Option<u8> {
-    for (letter, names) in UNITS {
-        if names.iter().any(|it| *it == name) {
-            return Some(*letter);
+// What stands in front of the numbers of a span: a sign, and `P` or `PT` where it is written as ISO 8601 writes it.
+#[derive(Clone, Copy)]
+struct Front {
+    is_back: bool,
+    is_iso: bool,
+    len: usize,
+}
+
+// What stands in front of the numbers of a span.
+fn front_of(text: &[u8]) -> Front {
+    let first = byte_at(text, 0);
+    let sign: usize = if first == b'-' || first == b'+' { 1 } else { 0 };
+    let is_iso = byte_at(text, sign) == b'P';
+    let is_time = is_iso && byte_at(text, sign.saturating_add(1)) == b'T';
+    let letters: usize = if is_time {
+        2
+    } else if is_iso {
+        1
+    } else {
+        0
+    };
+    Front {
+        is_back: first == b'-',
+        is_iso,
+        len: sign.saturating_add(letters),
+    }
+}
+
+// What stands in front of the first digit of a text.
+fn name_of(text: &[u8]) -> &str {
+    let mut len: usize = 0;
+    for byte in text {
+        if byte.is_ascii_digit() {
+            break;
         }
+        len = len.saturating_add(1);
     }
-    None
+    text_of(text.get(..len).unwrap_or(text))
 }
 
-// The move by so many of the unit for which a letter stands.
-fn move_by(count: i64, unit: u8) -> Move {
-    match unit {
-        b'b' => Move::OpenDays(count),
-        b'h' => Move::Time(TimeDelta::try_hours(count)),
-        b'i' => Move::Time(TimeDelta::try_minutes(count)),
-        b's' => Move::Time(TimeDelta::try_seconds(count)),
-        b'm' => Move::ShortMonths(Span {
-            count,
-            unit: Unit::Months,
-        }),
-        b'd' => Move::Calendar(Span {
-            count,
-            unit: Unit::Days,
-        }),
-        b'w' => Move::Calendar(Span {
-            count,
-            unit: Unit::Weeks,
-        }),
-        b'o' => Move::Calendar(Span {
-            count,
-            unit: Unit::Months,
-        }),
-        _ => Move::Calendar(Span {
-            count,
-            unit: Unit::Years,
-        }),
+// The plain name of a unit for its letter of ISO 8601, behind a `T` or not; no name for what is no such letter.
+fn plain_name(letter: &str, is_time: bool) -> &'static str {
+    match letter {
+        "D" | "DT" => "d",
+        "W" | "WT" => "w",
+        "M" if is_time => "min",
+        "M" | "MT" => "mo",
+        "Y" | "YT" => "y",
+        "H" => "h",
+        "S" => "s",
+        _ => "",
     }
+}
+
+// The move by so many of the unit of that name.
+fn move_by(count: i64, name: &str) -> Option<Move> {
+    let unit = match name {
+        "b" => return Some(Move::OpenDays(count)),
+        "h" | "hour" | "hours" => return Some(Move::Time(TimeDelta::try_hours(count))),
+        "min" | "minute" | "minutes" => return Some(Move::Time(TimeDelta::try_minutes(count))),
+        "s" | "second" | "seconds" => return Some(Move::Time(TimeDelta::try_seconds(count))),
+        "m" => {
+            let unit = Unit::Months;
+            return Some(Move::ShortMonths(Span { count, unit }));
+        }
+        "d" | "day" | "days" => Unit::Days,
+        "w" | "week" | "weeks" => Unit::Weeks,
+        "mo" | "month" | "months" => Unit::Months,
+        "y" | "year" | "years" => Unit::Years,
+        _ => return None,
+    };
+    Some(Move::Calendar(Span { count, unit }))
 }
 
 // The unit of that name.
-pub(crate) fn unit_named(name: &[u8]) -> Option<Unit> {
+pub(crate) fn unit_named(name: &str) -> Option<Unit> {
     match name {
-        b"d" => Some(Unit::Days),
-        b"w" => Some(Unit::Weeks),
-        b"m" | b"mo" => Some(Unit::Months),
-        b"y" => Some(Unit::Years),
+        "d" => Some(Unit::Days),
+        "w" => Some(Unit::Weeks),
+        "m" | "mo" => Some(Unit::Months),
+        "y" => Some(Unit::Years),
         _ => None,
     }
+}
+
+// The text that bytes are; none for other bytes.
+pub(crate) fn text_of(bytes: &[u8]) -> &str {
+    from_utf8(bytes).unwrap_or("")
 }
 
 // The number that a text writes: `-` where it is below 0, and up to 18 digits without zeros in front.

@@ -4,15 +4,6 @@ use crate::prelude::*;
 use chrono_pattern::PatternReadError;
 use chrono_text::{read_decimal, read_year};
 
-/// What is expected in place of a day.
-pub(crate) const DAYS: &str = "a day as 2024-02-29, 2024-060 or 2024-W09-4";
-
-/// What is expected in place of a date-time.
-pub(crate) const MOMENTS: &str = "a date-time as 2024-02-29T04:30";
-
-/// What is expected in place of a date-time with its offset.
-pub(crate) const STAMPS: &str = "a date-time with its offset as 2024-02-29T04:30+01:00";
-
 /// How instants are read and written.
 #[derive(Clone, Copy)]
 pub(crate) enum InstantForm<'a> {
@@ -132,79 +123,77 @@ impl<'a> InstantForm<'a> {
 }
 
 // What is wrong with a word that cannot be read: that something else was expected, or that there is no such day or time.
-pub(crate) fn unread<'a>(word: Word<'a>, error: Unreadable, what: &'static str) -> Fault<'a> {
+pub(crate) fn unread(word: Word<'_>, error: Unreadable, what: Wanted) -> Fault {
     match error {
         Unreadable::Form(error) if error.cause == ReadCause::NotThisForm => {
             if has_order(word.text.as_bytes()) {
-                return Fault::Word(word, Cause::Order);
+                return Fault::Word(word.place, Cause::Order);
             }
-            Fault::expected(word, what)
+            wanted(word, what)
         }
-        Unreadable::Pattern(wrong) if is_other_form(wrong) => Fault::Word(
-            word,
-            Cause::NoDay(error),
-        ),
-        _ => Fault::NoSuch(word, Cause::NoDay(error)),
+        Unreadable::Pattern(wrong) if is_other_form(wrong) => {
+            Fault::Word(word.place, Cause::NoDay(error))
+        }
+        _ => Fault::NoSuch(word.place, Cause::NoDay(error)),
     }
 }
 
 // The day, the date-time or the instant that a word names, where that is expected.
-pub(crate) fn start_as<'a>(
+pub(crate) fn start_as(
     form: InstantForm<'_>,
-    word: Word<'a>,
-    what: &'static str,
-) -> Result<Start, Fault<'a>> {
+    word: Word<'_>,
+    what: Wanted,
+) -> Result<Start, Fault> {
     Ok(value!(form.read(word.text.as_bytes()), error => unread(word, error, what)))
 }
 
 // The day, the date-time or the instant that a word names.
-pub(crate) fn start_of<'a>(form: InstantForm<'_>, word: Word<'a>) -> Result<Start, Fault<'a>> {
+pub(crate) fn start_of(form: InstantForm<'_>, word: Word<'_>) -> Result<Start, Fault> {
     let what = match form {
-        InstantForm::Seconds(_) =>
-            "seconds since 1970 as 1709204400, or a date-time with its offset",
-        _ => "a day as 2024-02-29 or a date-time as 2024-02-29T04:30",
+        InstantForm::Seconds(_) => Wanted::Instant,
+        _ => Wanted::Start,
     };
     start_as(form, word, what)
 }
 
 // The day that a word names.
-pub(crate) fn day_of<'a>(form: InstantForm<'_>, word: Word<'a>) -> Result<NaiveDate, Fault<'a>> {
-    match value!(start_as(form, word, DAYS)) {
+pub(crate) fn day_of(form: InstantForm<'_>, word: Word<'_>) -> Result<NaiveDate, Fault> {
+    match value!(start_as(form, word, Wanted::Day)) {
         Start::Day(date) => Ok(date),
-        Start::DateTime(_) | Start::Stamp(_) => Err(Fault::expected(word, DAYS)),
+        Start::DateTime(_) | Start::Stamp(_) => Err(wanted(word, Wanted::Day)),
     }
 }
 
 // The date-time or the instant that a word names.
-pub(crate) fn moment_of<'a>(form: InstantForm<'_>, word: Word<'a>) -> Result<Start, Fault<'a>> {
-    match value!(start_as(form, word, MOMENTS)) {
-        Start::Day(_) => Err(Fault::expected(word, MOMENTS)),
+pub(crate) fn moment_of(form: InstantForm<'_>, word: Word<'_>) -> Result<Start, Fault> {
+    match value!(start_as(form, word, Wanted::Moment)) {
+        Start::Day(_) => Err(wanted(word, Wanted::Moment)),
         start => Ok(start),
     }
 }
 
 // The year that a word writes.
-pub(crate) fn year_of<'a>(word: Word<'a>) -> Result<i32, Fault<'a>> {
-    read_year(word.text.as_bytes()).ok_or(Fault::expected(word, "a year as 2024"))
+pub(crate) fn year_of(word: Word<'_>) -> Result<i32, Fault> {
+    read_year(word.text.as_bytes()).ok_or(wanted(word, Wanted::Year))
 }
 
 // The first day of a year that a word writes.
-pub(crate) fn start_of_year<'a>(word: Word<'a>) -> Result<NaiveDate, Fault<'a>> {
+pub(crate) fn start_of_year(word: Word<'_>) -> Result<NaiveDate, Fault> {
     let year = value!(year_of(word));
-    NaiveDate::from_ymd_opt(year, 1, 1).ok_or(Fault::NoSuch(word, Cause::Outside))
+    NaiveDate::from_ymd_opt(year, 1, 1).ok_or(Fault::NoSuch(word.place, Cause::Outside))
 }
 
 // The number from 1 on that a word writes.
-pub(crate) fn amount_of<'a>(word: Word<'a>) -> Result<u64, Fault<'a>> {
+pub(crate) fn amount_of(word: Word<'_>) -> Result<u64, Fault> {
     match read_decimal(word.text.as_bytes()) {
         Some(count) if count > 0 => Ok(count),
-        _ => Err(Fault::expected(word, "a number from 1 on, of 18 digits at most")),
+        _ => Err(wanted(word, Wanted::Number)),
     }
 }
 
 // The weekday that a word names.
-pub(crate) fn weekday_of<'a>(word: Word<'a>) -> Result<Weekday, Fault<'a>> {
-    weekday_named(word.text).ok_or(Fault::expected(word, "a weekday as mon"))
+pub(crate) fn weekday_of(word: Word<'_>) -> Result<Weekday, Fault> {
+    weekday_named(word.text).ok_or(wanted(word, Wanted::Weekday))
 }
 
 // Whether a word begins with a digit or a sign, and so was meant for a day.

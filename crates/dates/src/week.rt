@@ -14,7 +14,7 @@ pub(crate) fn command() -> CommandRow {
 }
 
 // The Monday and the Sunday of the day's week, or of that of each line; the exit status.
-pub(crate) fn answer<'a>(rt: &HostRuntime, asked: &Asked<'a>, none: &mut Reply) -> Answered<'a> {
+pub(crate) fn answer(rt: &HostRuntime, asked: &Asked<'_>, none: &mut Reply) -> Answered {
     *none = Reply::NoWeek(None);
     answer_each(rt, asked, *none, asked.word_or_lines(), Asks::Week)
 }

@@ -13,7 +13,7 @@ pub(crate) fn command() -> CommandRow {
 }
 
 // The weekday of the day, or of that of each line; the exit status.
-pub(crate) fn answer<'a>(rt: &HostRuntime, asked: &Asked<'a>, none: &mut Reply) -> Answered<'a> {
+pub(crate) fn answer(rt: &HostRuntime, asked: &Asked<'_>, none: &mut Reply) -> Answered {
     *none = Reply::Nothing(Key::Weekday);
     answer_each(rt, asked, *none, asked.word_or_lines(), Asks::Weekday)
 }

@@ -18,7 +18,7 @@ pub(crate) fn command() -> CommandRow {
 }
 
 // What the clock shows whenever it is set, a line each, and its rule behind them; the exit status.
-pub(crate) fn answer<'a>(rt: &HostRuntime, asked: &Asked<'a>, none: &mut Reply) -> Answered<'a> {
+pub(crate) fn answer(rt: &HostRuntime, asked: &Asked<'_>, none: &mut Reply) -> Answered {
     *none = Reply::NoClock;
     let year = given!(asked.value("--year"), word, year_of(word));
     let zone = value!(zone_of(rt, asked.word(0)));

@@ -27,15 +27,15 @@ pub(crate) const ZONES: &str =
 const LOCAL: &str = "local";
 
 // The zone that a word names.
-pub(crate) fn zone_of<'a>(rt: &HostRuntime, word: Word<'a>) -> Result<OwnedZone, Fault<'a>> {
+pub(crate) fn zone_of(rt: &HostRuntime, word: Word<'_>) -> Result<OwnedZone, Fault> {
     if word.text == LOCAL {
         return machine_zone(rt);
     }
-    Ok(value!(read_zone(rt, word.text), error => Fault::Word(word, Cause::Zone(error))))
+    Ok(value!(read_zone(rt, word.text), error => Fault::Word(word.place, Cause::Zone(error))))
 }
 
 // The machine's own zone.
-pub(crate) fn machine_zone<'a>(rt: &HostRuntime) -> Result<OwnedZone, Fault<'a>> {
+pub(crate) fn machine_zone(rt: &HostRuntime) -> Result<OwnedZone, Fault> {
     Ok(value!(local_zone(rt), error => Fault::Machine(error)).zone)
 }
 
@@ -52,10 +52,7 @@ pub(crate) struct Instants<'a> {
 }
 
 // How a command takes instants, by its options.
-pub(crate) fn instants_by<'a>(
-    rt: &HostRuntime,
-    asked: &Asked<'a>,
-) -> Result<Instants<'a>, Fault<'a>> {
+pub(crate) fn instants_by<'a>(rt: &HostRuntime, asked: &Asked<'a>) -> Result<Instants<'a>, Fault> {
     let form = asked.reading;
     let zone = given!(asked.value("--zone"), word, zone_of(rt, word));
     Ok(Instants { form, zone })
@@ -79,17 +76,17 @@ impl Instants<'_> {
     }
 
     // What a word names.
-    pub(crate) fn start_of<'a>(&self, word: Word<'a>) -> Result<Start, Fault<'a>> {
+    pub(crate) fn start_of(&self, word: Word<'_>) -> Result<Start, Fault> {
         self.once(word, value!(start_of(self.form, word)))
     }
 
     // What a word names, as the zone's clock shows it, if it shows it once. A day is nothing to a zone.
-    pub(crate) fn once<'a>(&self, word: Word<'a>, start: Start) -> Result<Start, Fault<'a>> {
+    pub(crate) fn once(&self, word: Word<'_>, start: Start) -> Result<Start, Fault> {
         match start {
-            Start::Day(_) if self.zone.is_some() => Err(Fault::expected(word, MOMENTS)),
+            Start::Day(_) if self.zone.is_some() => Err(wanted(word, Wanted::Moment)),
             _ => self
                 .placed(start)
-                .ok_or(Fault::NoSuch(word, Cause::NotOnce)),
+                .ok_or(Fault::NoSuch(word.place, Cause::NotOnce)),
         }
     }
 
