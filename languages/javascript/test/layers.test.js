@@ -319,6 +319,8 @@ test("sets of rules with few instances", () => {
   const [all, others] = ["", ";BYDAY=MO,TU,WE,TH,FR,SA"].map((it) => new Rule(`FREQ=DAILY;BYMONTH=2;BYMONTHDAY=29${it}`, "2024-01-01"));
   const sundays = new RuleSet({ rules: [all], exceptRules: [others] });
   assert.deepEqual(texts(sundays.iterate({ until: "2130-01-01" })), ["2032-02-29", "2060-02-29", "2088-02-29", "2128-02-29"]);
+  const years = [...sundays.iterate({ until: "3000-12-31" })].map((it) => it.year);
+  assert.deepEqual([years.length, years.at(-1)], [32, 2984]);
   assert.equal(sundays.previousBefore("+262000-01-01").dayOfWeek, 7);
 });
 
@@ -333,7 +335,7 @@ test("sets of rules with an end", () => {
   assert.deepEqual([texts(MEETINGS.dates), texts(MEETINGS.exceptDates), MEETINGS.rules.length, set.exceptRules.length], [["2024-03-13", "2024-03-31"], ["2024-03-29"], 2, 1]);
   set.rules.pop();
   assert.deepEqual([set.rules.length, `${set.rules[0]}`, Object.prototype.toString.call(set)], [1, "FREQ=DAILY;COUNT=4", "[object RuleSet]"]);
-  for (const options of [{ rules: ["FREQ=DAILY"] }, { exceptRules: [7] }, { dates: [7] }, 7, { rules: 7 }]) {
+  for (const options of [{ rules: ["FREQ=DAILY"] }, { exceptRules: [7] }, { dates: [7] }, 7, { rules: 7 }, { dates: "2024-03-04" }]) {
     assert.throws(() => new RuleSet(options), TypeError);
   }
   refused(() => new RuleSet({ dates: ["2024-02-30"] }));
