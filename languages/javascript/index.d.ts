@@ -336,6 +336,8 @@ export class Schedule {
   iterate(start: DateTimeLike, options?: { until?: DateTimeLike }): IterableIterator<PlainDateTime>;
   /** The first instant after another at which it fires in a zone; undefined if there is none. */
   nextInZone(start: ZonedDateTime): ZonedDateTime | undefined;
+  previousInZone(start: ZonedDateTime): ZonedDateTime | undefined;
+  iterateInZone(start: ZonedDateTime, options?: { until?: ZonedDateTime }): IterableIterator<ZonedDateTime>;
   /** Whether another schedule lists the same. */
   equals(other: Schedule | string): boolean;
   toString(): string;

@@ -2,7 +2,7 @@
 
 import { addOpenDays, areHolidays, easterOf, holidaysOf, isOpenDay, MOST_HOLIDAYS, openDaysBetween, rolled, yearPart } from "./layers.js";
 import { NONE } from "./library.js";
-import { clipped, integer, isInt32, optionsOf } from "./numbers.js";
+import { clipped, integer, isInt32, listOf, optionsOf } from "./numbers.js";
 import { PlainDate, setOf } from "./plain_date.js";
 
 /** Where a closed date goes, in the order of the library (ISDA 2006, section 4.12). */
@@ -53,9 +53,10 @@ export class BusinessCalendar {
    * holiday, if left out. Holidays come in any order; those on the weekend are left out. RangeError above 1,000 of them.
    */
   constructor(options) {
-    const { weekend = USUAL_WEEKEND, holidays = [] } = optionsOf(options);
+    const given = optionsOf(options);
+    const weekend = listOf(given.weekend ?? USUAL_WEEKEND, "weekend");
     const isOnWeekend = (date) => weekend.map(Number).includes(date.dayOfWeek);
-    const dates = Array.from(holidays, (it) => PlainDate.from(it)).filter((it) => !isOnWeekend(it));
+    const dates = listOf(given.holidays ?? [], "holidays").map((it) => PlainDate.from(it)).filter((it) => !isOnWeekend(it));
     this.#weekend = setOf(weekend);
     this.#holidays = Int32Array.from(new Set(dates.map((it) => it.dayNumber))).sort();
     const shown = { weekend: this.#weekend, holidays: this.#holidays.subarray(0, MOST_HOLIDAYS + 1) };
@@ -69,7 +70,7 @@ export class BusinessCalendar {
    * `englandAndWales`. New Year's Day can be kept in the year before, so ask for one year more. RangeError for too many holidays.
    */
   static of(name, firstYear, lastYear, options) {
-    const { weekend = USUAL_WEEKEND } = optionsOf(options);
+    const weekend = listOf(optionsOf(options).weekend ?? USUAL_WEEKEND, "weekend");
     const [first, last] = [integer(firstYear, "year"), integer(lastYear, "year")];
     const place = placeOf(name, KNOWN, "calendar");
     const numbers = isInt32(first) && isInt32(last) ? holidaysOf(place, first, last, setOf(weekend)) : undefined;

@@ -19,6 +19,15 @@ const PAGES = Math.ceil((TEXT * PIECE) / PAGE);
 /** The pages of the room: a function takes at most four columns. */
 export const ROOM_PAGES = 4 * PAGES;
 
+/** Whether the memory of an array was given to another, as `structuredClone` can. It then has no elements. */
+export function isDetached({ length, buffer }) {
+  try {
+    return length === 0 && new Uint8Array(buffer) === undefined;
+  } catch {
+    return true;
+  }
+}
+
 /** What columns are made of. */
 const KINDS = [Int32Array, Uint8Array, Uint16Array, BigInt64Array];
 

@@ -6,7 +6,7 @@
  */
 
 import { closedOf, placeOf, ROLLS } from "./business_calendar.js";
-import { callInPieces, readFrom, ROOM_PAGES, same, TEXT, writtenTo } from "./column_room.js";
+import { callInPieces, isDetached, readFrom, ROOM_PAGES, same, TEXT, writtenTo } from "./column_room.js";
 import { MODULE } from "./columns_module.js";
 import { instantiate } from "./instantiate.js";
 import { callOnColumns, callOnOpenDays } from "./layers.js";
@@ -45,10 +45,13 @@ function call(count, choose, ...given) {
   callInPieces(open(), count, choose(open().library), ...given);
 }
 
-/** A column; a TypeError if it is no array of the kind. */
+/** A column; a TypeError if it is no array of the kind, or if its memory was given away. */
 function columnOf(column, what, ...kinds) {
   if (!kinds.some((it) => column instanceof it)) {
     throw new TypeError(`${what}: the type is not ${kinds.map((it) => it.name).join(" or ")}`);
+  }
+  if (isDetached(column)) {
+    throw new TypeError(`${what}: the column's memory was given away`);
   }
   return column;
 }
@@ -135,7 +138,7 @@ function moved(dates, choose, ...by) {
 /** The date so many days later, or earlier if below 0: as many for each, or a column of them, of which `NO_DATE` leads to no date. */
 export function addDays(dates, days) {
   if (days instanceof Int32Array) {
-    refuseLengths(datesOf(dates), days);
+    refuseLengths(datesOf(dates), columnOf(days, "days", Int32Array));
     return moved(dates, (library) => library.calendar_column_add_days_each, readFrom(days));
   }
   return moved(dates, (library) => library.calendar_column_add_days, moveOf(days, "days"));
@@ -151,7 +154,7 @@ export const firstOn = (dates, ...ofWeek) => moved(dates, (library) => library.c
 /** A column beside dates: another column of as many, or one date for all. */
 function besideOf(dates, others) {
   if (others instanceof Int32Array) {
-    refuseLengths(datesOf(dates), others);
+    refuseLengths(datesOf(dates), columnOf(others, "the other column", Int32Array));
     return readFrom(others);
   }
   return same(PlainDate.from(others).dayNumber);
@@ -199,6 +202,7 @@ function readBytes(bytes) {
 /** The date of each text such as `2024-02-29`, in an array of texts or as ten bytes each. What is another text is no date. */
 export function fromTexts(given) {
   if (given instanceof Uint8Array) {
+    columnOf(given, "texts", Uint8Array);
     if (given.length % TEXT !== 0) {
       throw new RangeError(`${given.length} bytes: each text has ${TEXT}`);
     }

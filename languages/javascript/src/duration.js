@@ -166,7 +166,7 @@ export class Duration {
       throw new RangeError(`largestUnit ${largestUnit}: day or a shorter unit`);
     }
     const fields = Array(FIELDS.length).fill(0);
-    let rest = BigInt(nanoseconds);
+    let rest = typeof nanoseconds === "bigint" ? nanoseconds : BigInt(whole(nanoseconds, "nanoseconds"));
     for (let unit = first; unit < LENGTHS.length; unit += 1) {
       fields[DAYS + unit] = Number(rest / LENGTHS[unit]);
       rest %= LENGTHS[unit];

@@ -45,10 +45,10 @@ export class Instant {
 
   /** The instant with so many nanoseconds since 1970, a BigInt; RangeError beyond the calendar. */
   constructor(epochNanoseconds) {
-    if (typeof epochNanoseconds === "number") {
-      throw new TypeError(`nanoseconds ${epochNanoseconds}: they are a BigInt`);
+    if (typeof epochNanoseconds !== "bigint") {
+      throw new TypeError(`nanoseconds ${String(epochNanoseconds)}: they are a BigInt`);
     }
-    this.#nanoseconds = BigInt(epochNanoseconds);
+    this.#nanoseconds = epochNanoseconds;
     if (this.#nanoseconds < FIRST || this.#nanoseconds > LAST) {
       throw new RangeError(`${this.#nanoseconds} nanoseconds since 1970 lie beyond the calendar`);
     }
@@ -74,7 +74,11 @@ export class Instant {
 
   /** The instant with so many milliseconds since 1970, as `Date.now()` counts them; RangeError for no whole number. */
   static fromEpochMilliseconds(milliseconds) {
-    return new Instant(BigInt(+milliseconds) * 1_000_000n);
+    const count = Number(milliseconds);
+    if (!Number.isInteger(count)) {
+      throw new RangeError(`milliseconds ${String(milliseconds)}: no whole number`);
+    }
+    return new Instant(BigInt(count) * 1_000_000n);
   }
 
   /** The instant with so many nanoseconds since 1970, a BigInt. */
@@ -148,6 +152,9 @@ export class Instant {
   /** The text of ISO 8601 in UTC, such as `2024-02-29T12:00:00.5Z`. */
   toString(options) {
     refuseRounding(options, "texts");
+    if (optionsOf(options).timeZone !== undefined) {
+      throw new RangeError("timeZone: ZonedDateTime.from(instant, { timeZone }) has that text");
+    }
     return `${dateTimeAt(this.#nanoseconds)}Z`;
   }
 

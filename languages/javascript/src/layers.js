@@ -373,10 +373,16 @@ export function zoneHoldsUntil(zone, second) {
   return room.layers.calendar_zone_holds_until(...putZone(room, zone), second);
 }
 
-/** The first date-time of UTC after another at which a schedule fires in a zone; undefined if there is none. */
-export function nextInZone(schedule, zone, start) {
+/** What a function finds by a schedule in a zone from a date-time of UTC on; undefined if there is none. */
+function foundInZone(find, schedule, zone, start) {
   const room = open();
   const [at, first] = putSchedule(room, schedule, start);
-  room.layers.calendar_zone_schedule_next(address(room, ANSWER), at, ...putZone(room, zone), first);
+  room.layers[find](address(room, ANSWER), at, ...putZone(room, zone), first);
   return getMoment(room.view, ANSWER);
 }
+
+/** The first date-time of UTC after another at which a schedule fires in a zone; undefined if there is none. */
+export const nextInZone = (...parts) => foundInZone("calendar_zone_schedule_next", ...parts);
+
+/** The last date-time of UTC before another at which a schedule fires in a zone; undefined if there is none. */
+export const previousInZone = (...parts) => foundInZone("calendar_zone_schedule_prev", ...parts);

@@ -51,11 +51,28 @@ export function optionsOf(options) {
   return options;
 }
 
+/** The values of a list, or of anything else that gives its values in order; a TypeError for another value, and for a text. */
+export function listOf(list, what) {
+  if (typeof list === "string" || typeof list?.[Symbol.iterator] !== "function") {
+    throw new TypeError(`${what}: a list is wanted`);
+  }
+  return [...list];
+}
+
+/** The choice of an option, which is the first one if it is left out; RangeError if it is none. */
+export function choiceOf(options, name, choices) {
+  const choice = `${optionsOf(options)[name] ?? choices[0]}`;
+  if (!choices.includes(choice)) {
+    throw new RangeError(`${name} ${choice}: it is one of ${choices.join(", ")}`);
+  }
+  return choice;
+}
+
 /** Refuses options that round, which nothing here does. */
 export function refuseRounding(options, what) {
   const given = optionsOf(options);
   for (const name of ["smallestUnit", "roundingIncrement", "roundingMode", "fractionalSecondDigits"]) {
-    if (given[name] !== undefined) {
+    if (given[name] !== undefined && !(name === "fractionalSecondDigits" && given[name] === "auto")) {
       throw new RangeError(`${name}: ${what} are not rounded here`);
     }
   }

@@ -6,7 +6,7 @@ import { optionsOf } from "./numbers.js";
 import { PlainDate } from "./plain_date.js";
 
 /** The number of the last date. */
-const LAST = 95_745_399;
+export const LAST = 95_745_399;
 
 /** The date of a number that the library answers; undefined if it is none. */
 const dateOrNone = (number) => (number === NONE ? undefined : PlainDate.fromDayNumber(number));

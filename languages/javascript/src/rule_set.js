@@ -1,12 +1,12 @@
 /** Sets of recurrence rules. */
 
-import { optionsOf } from "./numbers.js";
+import { listOf, optionsOf } from "./numbers.js";
 import { PlainDate } from "./plain_date.js";
-import { Rule } from "./rule.js";
+import { LAST, Rule } from "./rule.js";
 
 /** The rules of a list; a TypeError for another value. */
 function rulesOf(list) {
-  const rules = [...list];
+  const rules = listOf(list, "rules");
   if (rules.some((it) => !(it instanceof Rule))) {
     throw new TypeError("a set of rules is made of Rules");
   }
@@ -15,11 +15,58 @@ function rulesOf(list) {
 
 /** Dates in order, each once. */
 function sorted(list) {
-  const dates = Array.from(list, (it) => PlainDate.from(it)).sort(PlainDate.compare);
+  const dates = listOf(list, "dates").map((it) => PlainDate.from(it)).sort(PlainDate.compare);
   return dates.filter((it, index) => index === 0 || !it.equals(dates[index - 1]));
 }
 
 const isAmong = (dates, date) => dates.some((it) => it.equals(date));
+
+/** The days after which the calendar repeats: 400 years. And no year has more. */
+const [CYCLE, YEAR] = [146_097, 366];
+
+const isEndless = (rule) => !/COUNT=|UNTIL=/i.test(`${rule}`);
+const intervalOf = (rule) => Number(/INTERVAL=([0-9]+)/i.exec(`${rule}`)?.[1] ?? 1);
+const gcd = (one, other) => (other === 0 ? one : gcd(other, one % other));
+
+/**
+ * A stretch of days that endless rules leave out.
+ *
+ * Endless rules repeat with the calendar, after as many cycles as their intervals need. So once all days of one such time are left out, no
+ * day of an endless rule is an instance, from `begin` on.
+ */
+class Stretch {
+  #exceptRules;
+  #most;
+  #begin;
+  #first;
+  isOver = false;
+
+  constructor(rules, exceptRules) {
+    this.#exceptRules = exceptRules.filter(isEndless);
+    const endless = [...this.#exceptRules, ...rules.filter(isEndless)];
+    const interval = endless.map(intervalOf).reduce((one, other) => (one / gcd(one, other)) * other, 1);
+    this.#begin = Math.max(0, ...endless.map((it) => it.start.dayNumber)) + YEAR * interval;
+    this.#most = CYCLE * interval;
+  }
+
+  /** Whether a date is left out so. The dates are asked about in order. */
+  has(date) {
+    const isLeftOut = this.#exceptRules.some((it) => it.includes(date));
+    const day = date.dayNumber;
+    if (!isLeftOut || day < this.#begin) {
+      this.#first = undefined;
+    } else if (Math.abs(day - (this.#first ??= day)) > this.#most) {
+      this.isOver = true;
+    }
+    return isLeftOut;
+  }
+
+  /** Where to look before a date for a rule: before the time of which all days of endless rules are left out. */
+  place(rule, date) {
+    const isInside = this.isOver && isEndless(rule) && date.dayNumber > this.#begin;
+    return isInside ? PlainDate.fromDayNumber(this.#begin) : date;
+  }
+}
 
 /** The earliest of some dates if the sign is 1, or the latest if it is -1. Some may be undefined; it is too if all are. */
 function extreme(dates, sign) {
@@ -71,21 +118,18 @@ export class RuleSet {
 
   /** The first instance after a date; undefined if there is none. */
   nextAfter(date) {
-    let found = PlainDate.from(date);
-    do {
-      const later = this.#dates.find((it) => PlainDate.compare(it, found) > 0);
-      found = extreme([...this.#rules.map((it) => it.nextAfter(found)), later], 1);
-    } while (found && this.#isLeftOut(found));
-    return found;
+    const { dayNumber } = PlainDate.from(date);
+    return dayNumber === LAST ? undefined : this.iterate({ from: PlainDate.fromDayNumber(dayNumber + 1) }).next().value;
   }
 
   /** The last instance before a date; undefined if there is none. */
   previousBefore(date) {
+    const stretch = new Stretch(this.#rules, this.#exceptRules);
     let found = PlainDate.from(date);
     do {
       const earlier = this.#dates.filter((it) => PlainDate.compare(it, found) < 0).at(-1);
-      found = extreme([...this.#rules.map((it) => it.previousBefore(found)), earlier], -1);
-    } while (found && this.#isLeftOut(found));
+      found = extreme([...this.#rules.map((it) => it.previousBefore(stretch.place(it, found))), earlier], -1);
+    } while (found && (stretch.has(found) || this.#isLeftOut(found)));
     return found;
   }
 
@@ -101,22 +145,26 @@ export class RuleSet {
     const [first, last] = [from, until].map((it) => (it === undefined ? it : PlainDate.from(it)));
     const isWithin = (it) => !(first && PlainDate.compare(it, first) < 0) && !(last && PlainDate.compare(it, last) > 0);
     const walks = this.#rules.map((it) => it.iterate({ from: first, until: last }));
-    return this.#merged([...walks, this.#dates.filter(isWithin).values()]);
+    return this.#merged(walks, this.#dates.filter(isWithin).values());
   }
 
   [Symbol.iterator]() {
     return this.iterate();
   }
 
-  *#merged(walks) {
+  /** What walks over the rules and some dates, all in order, give together, each once. */
+  *#merged(ofRules, dates) {
+    const stretch = new Stretch(this.#rules, this.#exceptRules);
+    const walks = [...ofRules, dates];
     const heads = walks.map((it) => it.next().value);
+    const next = (index) => (stretch.isOver && index < ofRules.length && isEndless(this.#rules[index]) ? undefined : walks[index].next().value);
     let found = extreme(heads, 1);
     while (found) {
-      if (!this.#isLeftOut(found)) {
+      if (!stretch.has(found) && !this.#isLeftOut(found)) {
         yield found;
       }
       for (const [index, it] of heads.entries()) {
-        heads[index] = it?.equals(found) ? walks[index].next().value : it;
+        heads[index] = it?.equals(found) ? next(index) : it;
       }
       found = extreme(heads, 1);
     }

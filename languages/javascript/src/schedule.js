@@ -4,12 +4,27 @@ import { AT_ONCE, dueBetween, isDue, nextDue, previousDue, readSchedule } from "
 import { LAST_SECOND } from "./moments.js";
 import { optionsOf } from "./numbers.js";
 import { dateTimeOf, momentOf, PlainDateTime } from "./plain_date_time.js";
+import { Zone } from "./zone.js";
 
 /** The nanoseconds of a second. */
 const SECOND = 1_000_000_000n;
 
 /** The sets of numbers in the order of the library. */
 const SETS = ["minutes", "hours", "days", "months", "weekdays", "daysFromEnd", "nearestWorkdays", "lastWeekdays"];
+
+/** A date-time in a zone; a TypeError for another value. */
+function startOf(value) {
+  if (Object.prototype.toString.call(value) !== "[object ZonedDateTime]" || !(value.timeZone instanceof Zone)) {
+    throw new TypeError("a ZonedDateTime of this package is wanted");
+  }
+  return value;
+}
+
+/** What UTC shows at an instant, as its parts. */
+function utcOf({ epochNanoseconds }) {
+  const nanos = ((epochNanoseconds % SECOND) + SECOND) % SECOND;
+  return { seconds: (epochNanoseconds - nanos) / SECOND, nanos: Number(nanos) };
+}
 
 /** The numbers of a set, of which each binary digit says whether a number is listed. */
 function numbersOf(view, place) {
@@ -73,10 +88,26 @@ export class Schedule {
    * ends, and one that it shows twice fires once. But a schedule that lists every minute or every hour goes by what the clock shows.
    */
   nextInZone(start) {
-    const { epochNanoseconds, timeZone } = start;
-    const nanos = ((epochNanoseconds % SECOND) + SECOND) % SECOND;
-    const found = timeZone.nextDue(this.#bytes, { seconds: (epochNanoseconds - nanos) / SECOND, nanos: Number(nanos) });
-    return found && new start.constructor(found.seconds * SECOND, timeZone);
+    const found = startOf(start).timeZone.nextDue(this.#bytes, utcOf(start));
+    return found && new start.constructor(found.seconds * SECOND, start.timeZone);
+  }
+
+  /** The last instant before another at which it fires in a zone; undefined if there is none. */
+  previousInZone(start) {
+    const found = startOf(start).timeZone.previousDue(this.#bytes, utcOf(start));
+    return found && new start.constructor(found.seconds * SECOND, start.timeZone);
+  }
+
+  /** The instants after another at which it fires in a zone, in order, up to `until`, which counts, or to the end of the calendar. */
+  iterateInZone(start, options) {
+    const { until } = optionsOf(options);
+    return this.#firingsFrom(startOf(start), until === undefined ? undefined : startOf(until).epochNanoseconds);
+  }
+
+  *#firingsFrom(start, last) {
+    for (let found = this.nextInZone(start); found && !(last < found.epochNanoseconds); found = this.nextInZone(found)) {
+      yield found;
+    }
   }
 
   /** Whether it is due at a date-time. */

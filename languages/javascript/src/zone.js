@@ -1,6 +1,7 @@
 /** Time zones. */
 
-import { checkZone, LONGEST_ZONE, nextInZone, zoneHoldsUntil, zoneOffsetAt, zoneOffsetsOfLocal } from "./layers.js";
+import { isDetached } from "./column_room.js";
+import { checkZone, LONGEST_ZONE, nextInZone, previousInZone, zoneHoldsUntil, zoneOffsetAt, zoneOffsetsOfLocal } from "./layers.js";
 
 /** What a name of a zone is, so that a text of an instant can end with it. */
 const NAME = /^[A-Za-z0-9_+-]+(?:\/[A-Za-z0-9_+-]+)*$/;
@@ -24,11 +25,12 @@ function bytesOf(source) {
   if (typeof source === "string") {
     return new TextEncoder().encode(source);
   }
-  if (source instanceof ArrayBuffer) {
-    return new Uint8Array(source.slice(0));
-  }
-  if (ArrayBuffer.isView(source)) {
-    return new Uint8Array(source.buffer, source.byteOffset, source.byteLength).slice();
+  if (source instanceof ArrayBuffer || ArrayBuffer.isView(source)) {
+    const { buffer = source, byteOffset = 0, byteLength } = source;
+    if (isDetached({ length: 0, buffer })) {
+      throw new TypeError("the memory of the bytes was given away");
+    }
+    return new Uint8Array(buffer, byteOffset, byteLength).slice();
   }
   throw new TypeError("a zone is made of the text of a rule, or of the bytes of a TZif file");
 }
@@ -108,6 +110,11 @@ export class Zone {
   /** The first moment of UTC after another at which the bytes of a schedule fire. */
   nextDue(schedule, start) {
     return nextInZone(schedule, this.#bytes, start);
+  }
+
+  /** The last moment of UTC before another at which they fire. */
+  previousDue(schedule, start) {
+    return previousInZone(schedule, this.#bytes, start);
   }
 
   /** Whether it has the same bytes and the same name. */

@@ -1,9 +1,9 @@
 /** Instants in a zone. */
 
-import { zoneInBrackets } from "./calendar.js";
+import { annotation, zoneInBrackets } from "./calendar.js";
 import { Duration } from "./duration.js";
 import { Instant } from "./instant.js";
-import { largestUnitOf, optionsOf, overflowOf, refuseRounding } from "./numbers.js";
+import { choiceOf, largestUnitOf, optionsOf, overflowOf, refuseRounding } from "./numbers.js";
 import { PlainDate, replaced } from "./plain_date.js";
 import { dateTimeOf, momentOf, PlainDateTime } from "./plain_date_time.js";
 import { Zone } from "./zone.js";
@@ -26,14 +26,11 @@ const TEXT = /^(?:([^[Tt ]*[Tt ][^[Tt ]*?)([Zz]|[+-]\d\d(?::?\d\d(?::?\d\d)?)?)?
 /** What becomes of a local time that the clock skips or shows twice, and of an offset that is not the zone's. */
 const CHOICES = { disambiguation: ["compatible", "earlier", "later", "reject"], offset: ["reject", "use", "ignore", "prefer"] };
 
-/** The choice of an option; RangeError if it is none. */
-function choiceOf(options, name) {
-  const choice = `${optionsOf(options)[name] ?? CHOICES[name][0]}`;
-  if (!CHOICES[name].includes(choice)) {
-    throw new RangeError(`${name} ${choice}: it is one of ${CHOICES[name].join(", ")}`);
-  }
-  return choice;
-}
+/** What a text has of the offset and of the name of the zone; a `!` says that a reader must know the name. */
+const SHOWN = { offset: ["auto", "never"], timeZoneName: ["auto", "never", "critical"] };
+
+/** The choice of an option. */
+const chosen = (options, name) => choiceOf(options, name, CHOICES[name]);
 
 /** The whole seconds of nanoseconds, counted down, and the rest. */
 function split(nanoseconds) {
@@ -97,7 +94,7 @@ function instantOf(zone, { seconds, nanos }, disambiguation) {
 
 /** The nanoseconds since 1970 of a local moment with an offset beside it, which may be one in whole minutes. */
 function instantBy(zone, local, offset, options, isInMinutes = false) {
-  const [choice, disambiguation] = [choiceOf(options, "offset"), choiceOf(options, "disambiguation")];
+  const [choice, disambiguation] = [chosen(options, "offset"), chosen(options, "disambiguation")];
   if (offset === undefined || choice === "ignore") {
     return instantOf(zone, local, disambiguation);
   }
@@ -140,7 +137,7 @@ export class ZonedDateTime {
   static from(item, options) {
     const given = optionsOf(options);
     overflowOf(options);
-    Object.keys(CHOICES).forEach((it) => choiceOf(options, it));
+    Object.keys(CHOICES).forEach((it) => chosen(options, it));
     if (item instanceof ZonedDateTime) {
       return new ZonedDateTime(item.#nanoseconds, given.timeZone ?? item.#zone);
     }
@@ -182,7 +179,15 @@ export class ZonedDateTime {
 
   /** -1 if the first of two is the earlier instant, 1 if it is the later, 0 if they are the same. */
   static compare(one, other) {
+    if (![one, other].every((it) => it instanceof ZonedDateTime)) {
+      throw new TypeError("ZonedDateTimes are compared, whose zones are known");
+    }
     return Instant.compare(one.toInstant(), other.toInstant());
+  }
+
+  /** Another date-time, of which a text has this one's zone. */
+  #other(item) {
+    return item instanceof ZonedDateTime ? item : ZonedDateTime.from(item, { timeZone: this.#zone });
   }
 
   /** The nanoseconds since 1970. */
@@ -260,6 +265,9 @@ export class ZonedDateTime {
 
   /** The date-time with some parts of its name replaced. The offset stays if the clock has it there, unless `offset` asks otherwise. */
   with(parts, options) {
+    if (parts === null || typeof parts !== "object") {
+      throw new TypeError(`what replaces parts is an object with one of ${PARTS.join(", ")} or offset`);
+    }
     const { offset, ...others } = parts;
     const plain = offset === undefined || Object.keys(others).length > 0 ? PlainDateTime.from(replaced(this.#plain, others, PARTS), options) : this.#plain;
     const asked = { offset: "prefer", ...optionsOf(options) };
@@ -288,7 +296,7 @@ export class ZonedDateTime {
   /** How far it is to another, in hours and shorter units, or from a shorter unit of a clock on (`largestUnit`). */
   until(other, options) {
     const unit = largestUnitOf(options, UNITS, "hour");
-    return Duration.fromNanoseconds(other.epochNanoseconds - this.#nanoseconds, unit);
+    return Duration.fromNanoseconds(this.#other(other).#nanoseconds - this.#nanoseconds, unit);
   }
 
   /** How far it is from another, as `until` negated. */
@@ -308,15 +316,17 @@ export class ZonedDateTime {
 
   /** Whether it is the same instant in the same zone. */
   equals(other) {
-    return this.#nanoseconds === other.epochNanoseconds && this.#zone.equals(other.timeZone);
+    const theirs = this.#other(other);
+    return this.#nanoseconds === theirs.#nanoseconds && this.#zone.equals(theirs.#zone);
   }
 
   /** The text of ISO 8601 with the offset in whole minutes, and the name of the zone in brackets if it has one. */
   toString(options) {
     refuseRounding(options, "texts");
-    const { offset = "auto", timeZoneName = "auto" } = optionsOf(options);
-    const name = timeZoneName === "never" || this.#zone.name === undefined ? "" : `[${this.#zone.name}]`;
-    return `${this.#plain}${offset === "never" ? "" : offsetText(inMinutes(this.#offset))}${name}`;
+    const [offset, zoneName] = Object.entries(SHOWN).map(([name, choices]) => choiceOf(options, name, choices));
+    const calendar = annotation(options);
+    const name = zoneName === "never" || this.#zone.name === undefined ? "" : `[${zoneName === "critical" ? "!" : ""}${this.#zone.name}]`;
+    return `${this.#plain}${offset === "never" ? "" : offsetText(inMinutes(this.#offset))}${name}${calendar}`;
   }
 
   toJSON() {

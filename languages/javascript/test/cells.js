@@ -8,6 +8,12 @@ console.log(new Pattern("%d.%m.%Y").format(new PlainDate(2024, 2, 29))); // = 29
 // == schedules
 console.log(`${new Schedule("30 4 1,15 * fri").nextAfter("2024-02-09T04:30")}`); // = 2024-02-15T04:30:00
 
+// == schedules in a zone
+const berlin = new Zone("CET-1CEST,M3.5.0,M10.5.0/3");
+const firings = new Schedule("30 2 * * *").iterateInZone(ZonedDateTime.from("2024-03-30T00:00", { timeZone: berlin }));
+console.log(`${firings.next().value} ${firings.next().value}`); // = 2024-03-30T02:30:00+01:00 2024-03-31T03:00:00+02:00
+console.log(`${new Schedule("30 2 * * *").nextInZone(ZonedDateTime.from("2024-10-27T00:00", { timeZone: berlin }))}`); // = 2024-10-27T02:30:00+02:00
+
 // == recurrence rules
 const fridays = new Rule("FREQ=MONTHLY;BYDAY=-1FR", "2024-01-01");
 console.log(`${fridays.nextAfter("2024-01-01")}`); // = 2024-01-26

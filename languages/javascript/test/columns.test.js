@@ -6,7 +6,7 @@
 import { strict as assert } from "node:assert";
 import { test } from "node:test";
 
-import { BusinessCalendar, columns, PlainDate } from "proved-calendar";
+import { BusinessCalendar, columns, PlainDate, Zone } from "proved-calendar";
 
 const { NO_DATE } = columns;
 
@@ -240,4 +240,27 @@ test("column_roll", () => {
   assert.deepEqual(columns.roll(days, "modifiedFollowing", CALENDAR), numbers("2024-03-28", "2024-03-28"));
   compare(columns.roll(MANY, "preceding", CALENDAR), (it) => numberOf(() => CALENDAR.roll(it, "preceding")), NO_DATE);
   refused(() => columns.roll(days, "later", CALENDAR));
+});
+
+test("columns whose memory was given away", () => {
+  const given = () => {
+    const column = Int32Array.of(1, 2);
+    structuredClone(column.buffer, { transfer: [column.buffer] });
+    return column;
+  };
+  const calendar = new BusinessCalendar();
+  for (const [name, call] of Object.entries({
+    years: () => columns.years(given()), texts: () => columns.texts(given()), addDays: () => columns.addDays(given(), 1),
+    "days by column": () => columns.addDays(new Int32Array(), given()), daysBetween: () => columns.daysBetween(new Int32Array(), given()),
+    fromFields: () => columns.fromFields(given(), new Uint8Array(), new Uint8Array()), fromUnixDays: () => columns.fromUnixDays(given()),
+    isOpen: () => columns.isOpen(given(), calendar), openDaysBetween: () => columns.openDaysBetween(given(), given(), calendar),
+  })) {
+    assert.throws(call, { name: "TypeError", message: /given away/ }, name);
+  }
+  const bytes = new Uint8Array(20);
+  structuredClone(bytes.buffer, { transfer: [bytes.buffer] });
+  assert.throws(() => columns.fromTexts(bytes), { name: "TypeError", message: /given away/ });
+  assert.throws(() => new Zone(bytes), { name: "TypeError", message: /given away/ });
+  assert.throws(() => new Zone(bytes.buffer), { name: "TypeError", message: /given away/ });
+  assert.deepEqual(columns.years(new Int32Array()), new Int32Array());
 });

@@ -286,6 +286,44 @@ test("sets of rules", () => {
   assert.deepEqual([walk.next(), walk.next()].map((it) => `${it.value}`), march.slice(0, 2));
 });
 
+test("sets of rules of which all days are left out", () => {
+  const [weekly, seldom] = ["FREQ=WEEKLY;BYDAY=MO", "FREQ=YEARLY;INTERVAL=1000;BYMONTH=3;BYMONTHDAY=2,3;COUNT=4"].map((it) => new Rule(it, "2024-01-01"));
+  const [far, last] = ["+200000-03-03", "+262142-12-31"];
+  const set = new RuleSet({ rules: [weekly, seldom], dates: [far], exceptRules: [weekly] });
+  assert.deepEqual(texts(set), [...texts(seldom), far]);
+  assert.deepEqual([`${set.nextAfter("3024-03-03")}`, set.nextAfter(far)], [far, undefined]);
+  assert.deepEqual([`${set.previousBefore(far)}`, `${set.previousBefore(last)}`], ["3024-03-03", far]);
+  const halves = ["2024-01-01", "2024-01-02"].map((it) => new Rule("FREQ=DAILY;INTERVAL=2", it));
+  const none = new RuleSet({ rules: [new Rule("FREQ=DAILY", "2024-01-01")], exceptRules: halves });
+  assert.deepEqual([none.nextAfter("2024-01-01"), none.previousBefore(last), texts(none)], [undefined, undefined, []]);
+  assert.equal(set.nextAfter(last), undefined);
+});
+
+test("schedules in a zone, one after another", () => {
+  const timeZone = new Zone("CET-1CEST,M3.5.0,M10.5.0/3");
+  const inBerlin = (text) => ZonedDateTime.from(text, { timeZone });
+  const [nightly, never] = [new Schedule("30 2 * * *"), new Schedule("0 0 30 2 *")];
+  const nights = [...nightly.iterateInZone(inBerlin("2024-03-29T12:00"), { until: inBerlin("2024-04-01T02:30") })];
+  assert.deepEqual(nights.map((it) => `${it}`), ["2024-03-30T02:30:00+01:00", "2024-03-31T03:00:00+02:00", "2024-04-01T02:30:00+02:00"]);
+  assert.equal(`${nightly.previousInZone(nights[1])}`, `${nights[0]}`);
+  assert.equal(`${nightly.previousInZone(inBerlin("2024-10-28T02:30"))}`, "2024-10-27T02:30:00+02:00");
+  assert.deepEqual([never.previousInZone(nights[0]), [...never.iterateInZone(nights[0])]], [undefined, []]);
+  for (const wrong of [undefined, "2024-03-31T03:00", new PlainDateTime(2024, 3, 31), { epochNanoseconds: 0n, timeZone }]) {
+    for (const call of [() => nightly.nextInZone(wrong), () => nightly.previousInZone(wrong), () => nightly.iterateInZone(wrong)]) {
+      assert.throws(call, { name: "TypeError", message: /ZonedDateTime/ });
+    }
+  }
+});
+
+test("sets of rules with few instances", () => {
+  const [all, others] = ["", ";BYDAY=MO,TU,WE,TH,FR,SA"].map((it) => new Rule(`FREQ=DAILY;BYMONTH=2;BYMONTHDAY=29${it}`, "2024-01-01"));
+  const sundays = new RuleSet({ rules: [all], exceptRules: [others] });
+  assert.deepEqual(texts(sundays.iterate({ until: "2130-01-01" })), ["2032-02-29", "2060-02-29", "2088-02-29", "2128-02-29"]);
+  const years = [...sundays.iterate({ until: "3000-12-31" })].map((it) => it.year);
+  assert.deepEqual([years.length, years.at(-1)], [32, 2984]);
+  assert.equal(sundays.previousBefore("+262000-01-01").dayOfWeek, 7);
+});
+
 test("sets of rules with an end", () => {
   const rules = [new Rule("FREQ=DAILY;COUNT=4", "2024-03-01")];
   const set = new RuleSet({ rules, exceptRules: [new Rule("FREQ=DAILY;INTERVAL=2", "2024-03-01")], exceptDates: ["2024-03-04"] });
@@ -297,7 +335,7 @@ test("sets of rules with an end", () => {
   assert.deepEqual([texts(MEETINGS.dates), texts(MEETINGS.exceptDates), MEETINGS.rules.length, set.exceptRules.length], [["2024-03-13", "2024-03-31"], ["2024-03-29"], 2, 1]);
   set.rules.pop();
   assert.deepEqual([set.rules.length, `${set.rules[0]}`, Object.prototype.toString.call(set)], [1, "FREQ=DAILY;COUNT=4", "[object RuleSet]"]);
-  for (const options of [{ rules: ["FREQ=DAILY"] }, { exceptRules: [7] }, { dates: [7] }, 7, { rules: 7 }]) {
+  for (const options of [{ rules: ["FREQ=DAILY"] }, { exceptRules: [7] }, { dates: [7] }, 7, { rules: 7 }, { dates: "2024-03-04" }]) {
     assert.throws(() => new RuleSet(options), TypeError);
   }
   refused(() => new RuleSet({ dates: ["2024-02-30"] }));
@@ -479,6 +517,12 @@ test("texts of zoned date-times", () => {
   assert.deepEqual([noon.offset, noon.offsetNanoseconds, noon.timeZoneId, noon.hour, noon.dayOfWeek], ["+02:00", 7.2e12, "Europe/Berlin", 12, 1]);
   assert.equal(noon.toString({ timeZoneName: "never" }), "2024-07-01T12:00:00+02:00");
   assert.equal(noon.toString({ timeZoneName: "never", offset: "never" }), "2024-07-01T12:00:00");
+  const shown = { timeZoneName: "critical", offset: "auto", calendarName: "critical", fractionalSecondDigits: "auto" };
+  assert.equal(noon.toString(shown), "2024-07-01T12:00:00+02:00[!Europe/Berlin][!u-ca=iso8601]");
+  for (const options of [{ offset: "always" }, { timeZoneName: "always" }, { calendarName: "never!" }, { fractionalSecondDigits: 3 }]) {
+    refused(() => noon.toString(options));
+  }
+  refused(() => noon.toInstant().toString({ timeZone: noon.timeZone }));
   assert.deepEqual([JSON.stringify(noon), inspect(noon)], [`"${noon}"`, `ZonedDateTime ${noon}`]);
   assert.deepEqual([`${noon.toInstant()}`, `${noon.toPlainDateTime()}`, `${noon.toPlainDate()}`], ["2024-07-01T10:00:00Z", "2024-07-01T12:00:00", "2024-07-01"]);
   assert.ok(noon.toLocaleString("en").endsWith(" +02:00"));

@@ -4,7 +4,9 @@ import { strict as assert } from "node:assert";
 import { inspect } from "node:util";
 import { test } from "node:test";
 
-import { Duration, PlainDate, PlainDateTime } from "proved-calendar";
+import * as all from "proved-calendar";
+
+const { Duration, PlainDate, PlainDateTime } = all;
 
 const refused = (call) => assert.throws(call, RangeError);
 
@@ -214,4 +216,52 @@ test("short texts, and texts in the words of a language", () => {
   assert.equal(moment.toLocaleString("de-DE"), "31.12.2016, 23:59:59");
   assert.equal(new PlainDate(-262_143, 1, 1).toLocaleString("en-US", { year: "numeric", era: "short" }), "262144 BC");
   assert.throws(() => date.toLocaleString("en-US", { timeStyle: "short" }), TypeError);
+});
+
+/** What an engine says of itself, and not of a value. */
+const RAW = /is not a function|not iterable|Symbol\.iterator|cannot (read|destructure|mix|convert undefined|convert null|perform)|of undefined|is undefined|private/i;
+
+/** Values that serve no call, or few. */
+const JUNK = [undefined, null, 7, "x", {}, [], true, NaN, () => 1, new Date(0), new Uint8Array(2)];
+
+/** Calls the function with each two values; what it throws has to say what is wanted. */
+function refuseClearly(name, call) {
+  for (const one of JUNK) {
+    for (const other of JUNK) {
+      try {
+        call(one, other);
+      } catch (error) {
+        assert.ok(error instanceof RangeError || error instanceof TypeError, `${name}: ${error}`);
+        assert.doesNotMatch(error.message, RAW, name);
+      }
+    }
+  }
+}
+
+test("what is wrong is told in words", () => {
+  const zone = new all.Zone("CET-1CEST,M3.5.0,M10.5.0/3", "Europe/Berlin");
+  const date = new PlainDate(2024, 2, 29);
+  const values = {
+    date, moment: PlainDateTime.from(date), duration: Duration.from("PT1H"), instant: new all.Instant(0n), zone,
+    zoned: all.ZonedDateTime.from("2024-02-29T12:00", { timeZone: zone }), schedule: new all.Schedule("@daily"), rule: new all.Rule("FREQ=DAILY;COUNT=3", date),
+    set: new all.RuleSet({ dates: [date] }), calendar: new all.BusinessCalendar(), pattern: new all.Pattern("%F"),
+  };
+  for (const [name, it] of Object.entries(values)) {
+    const members = Object.getOwnPropertyNames(Object.getPrototypeOf(it)).filter((member) => !/^constructor$|^toLocaleString$|^(next|previous)Due$/.test(member));
+    for (const member of members.filter((it_member) => typeof Object.getOwnPropertyDescriptor(Object.getPrototypeOf(it), it_member).value === "function")) {
+      refuseClearly(`${name}.${member}`, (...given) => it[member](...given));
+    }
+  }
+  const kinds = Object.entries(all).filter(([, it]) => typeof it === "function" && /^[A-Z]/.test(it.name));
+  for (const [name, kind] of kinds.filter(([it]) => it !== "TextError")) {
+    refuseClearly(`new ${name}`, (...given) => new kind(...given));
+    for (const member of Object.getOwnPropertyNames(kind).filter((it) => typeof kind[it] === "function")) {
+      refuseClearly(`${name}.${member}`, (...given) => kind[member](...given));
+    }
+  }
+  for (const [name, call] of [...Object.entries(all.columns), ["dayCount", all.dayCount], ["easter", all.easter], ["isLeapYear", all.isLeapYear]]) {
+    if (typeof call === "function") {
+      refuseClearly(name, call);
+    }
+  }
 });

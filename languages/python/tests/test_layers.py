@@ -323,6 +323,8 @@ class RuleSets(unittest.TestCase):
         leap_days, others = (Rule(f"FREQ=DAILY;BYMONTH=2;BYMONTHDAY=29{it}", JANUARY) for it in ("", ";BYDAY=MO,TU,WE,TH,FR,SA"))
         sundays = RuleSet([leap_days], except_rules=[others])
         self.assertEqual([it.year for it in sundays[:4]], [2032, 2060, 2088, 2128])
+        years = [it.year for it in sundays.between(JANUARY, Date(3001, 1, 1))]
+        self.assertEqual((len(years), years[-1]), (32, 2984))
         self.assertEqual(sundays.before(Date(262_000, 1, 1)).isoweekday(), 7)
 
     def test_values(self):

@@ -147,6 +147,12 @@ class OwnZones(Cases):
         self.assertRaises(OverflowError, DateTime.max.replace(tzinfo=timezone.utc).astimezone, berlin)
         self.assertRaises(OverflowError, DateTime.min.replace(tzinfo=berlin).astimezone, timezone.utc)
 
+    def test_fold(self):
+        for hour, wanted in ((0, ("2024-10-27T02:30:00+02:00", 0)), (1, ("2024-10-27T02:30:00+01:00", 1))):
+            fresh = Zone.from_rule("CET-1CEST,M3.5.0,M10.5.0/3")
+            shown = DateTime(2024, 10, 27, hour, 30, tzinfo=timezone.utc).astimezone(fresh)
+            self.assertEqual((shown.isoformat(), shown.fold), wanted)
+
     def test_gap(self):
         for fold, wanted in ((0, 1), (1, 2)):
             self.assertEqual(DateTime.from_datetime(GAP).replace(tzinfo=Zone("Europe/Berlin"), fold=fold).utcoffset(), timedelta(hours=wanted))

@@ -977,6 +977,8 @@ fn rule_sets_with_few_instances() {
         );
     let years: Vec<i32> = sundays.instances().take(4).map(|it| it.year()).collect();
     assert_eq!(years, [2032, 2060, 2088, 2128]);
+    let all = sundays.instances_between(start, date("3000-12-31"));
+    assert_eq!(all.count(), 32);
     let last = sundays.prev_before(date("+262000-01-01")).unwrap();
     assert_eq!(last.weekday(), Weekday::Sun);
 }
