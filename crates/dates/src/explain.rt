@@ -21,7 +21,7 @@ pub(crate) fn command() -> CommandRow {
 pub(crate) fn answer(rt: &HostRuntime, asked: &Asked<'_>, _none: &mut Reply) -> Answered {
     let word = asked.word(0);
     let mut out = Buffer::new(rt.alloc());
-    if word.text.contains("=") {
+    if word.text.contains("FREQ") {
         let rule = value!(rule_of(word));
         put_rule(&mut out, &rule);
     } else {
@@ -447,7 +447,8 @@ fn put_rule(out: &mut Buffer, rule: &Rule) {
         noun,
     );
     put_weekdays(out, rule);
-    if names_no_day(rule) {
+    let is_plain = rule.frequency == Frequency::Daily && rule.interval < 2;
+    if names_no_day(rule) && !is_plain {
         out.put(" from its start on");
     }
     put_ends(
