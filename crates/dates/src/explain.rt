@@ -21,7 +21,7 @@ pub(crate) fn command() -> CommandRow {
 pub(crate) fn answer(rt: &HostRuntime, asked: &Asked<'_>, _none: &mut Reply) -> Answered {
     let word = asked.word(0);
     let mut out = Buffer::new(rt.alloc());
-    if word.text.contains("FREQ") {
+    if word.text.contains("FREQ") || word.text.contains("freq") {
         let rule = value!(rule_of(word));
         put_rule(&mut out, &rule);
     } else {
