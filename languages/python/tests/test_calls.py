@@ -290,6 +290,8 @@ class Texts(Answers):
             moment = DateTime.fromisoformat(text)
             self.assertEqual((moment.seconds, moment.nanos), (seconds, nanos))
         self.assertEqual(DateTime.fromisoformat("2024-02-29 12:00:00.25"), DateTime(LEAP_DAY, 12, nanosecond=250_000_000))
+        for text, day, clock in (("2024-W09-0102", 26, (1, 2)), ("2024-02-29712:30", 29, (12, 30)), ("2024W094512", 29, (12,)), ("2024W09512", 26, (12,))):
+            self.assertEqual(DateTime.fromisoformat(text), DateTime(Date(2024, 2, day), *clock))
         for text in self.NO_MOMENTS:
             self.none(DateTime.fromisoformat, text)
 

@@ -180,7 +180,7 @@ class OwnZones(Cases):
         self.assertRaises(AttributeError, setattr, berlin, "key", "")
 
     def test_refused(self):
-        for key in ("Europe/Berlim", "", "/etc/passwd", "../zoneinfo/Europe/Berlin", "Europe", "Europe/Berlin\0", "tzdata.zi"):
+        for key in ("Europe/Berlim", "", "/etc/passwd", "../zoneinfo/Europe/Berlin", "Europe/../Europe/Berlin", "Europe", "Europe/Berlin\0", "tzdata.zi"):
             self.assertRaises(ValueError, Zone, key)
         with self.assertRaises(TextError) as caught:
             Zone.from_rule("EST5EDT")
@@ -202,6 +202,7 @@ class OwnZones(Cases):
         self.assertEqual((first.isoformat(), first.fold, nightly.next_after(first).isoformat()), ("2024-10-27T02:30:00+02:00", 0, "2024-10-28T02:30:00+01:00"))
         second = hourly.next_after(first)
         self.assertEqual((second.isoformat(), second.fold, hourly.prev_before(second)), ("2024-10-27T02:30:00+01:00", 1, first))
+        self.assertEqual(hourly.next_after(second).isoformat(), "2024-10-27T03:30:00+01:00")
         self.assertEqual(nightly.prev_before(nightly.next_after(start)), DateTime(2024, 3, 30, 2, 30, tzinfo=berlin))
         many = [*hourly.iterate(winter, until=winter + Duration(days=10))]
         self.assertEqual((len(many), many[-1]), (241, winter + Duration(days=9, hours=23, minutes=30)))
