@@ -358,7 +358,9 @@ fn near_name(
 fn near_command(rt: &HostRuntime, text: &str) -> Result<Option<&'static str>, AllocError> {
     let mut names: Vec<&'static str> = Vec::new(rt.alloc());
     for command in &commands() {
-        names.push(command.name)?;
+        if !command.name.is_empty() {
+            names.push(command.name)?;
+        }
     }
     names.push("tomorrow")?;
     names.push("yesterday")?;
