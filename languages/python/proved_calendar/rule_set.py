@@ -5,6 +5,7 @@ import datetime
 import heapq
 import itertools
 import math
+import operator
 import re
 from collections.abc import Iterable, Iterator
 from typing import Any, Generic, TypeVar, overload
@@ -129,8 +130,9 @@ class RuleSet(Generic[_Instance]):
 
     def xafter(self, dt: Any, count: int | None = None, inc: bool = False) -> Iterator[_Instance]:
         """Returns an iterator over the instances after dt, with inc also at it, and at most count of them."""
+        most = None if count is None else max(operator.index(count), 0)
         later = [it for it in self.dates if it > dt or (inc and it == dt)]
-        return itertools.islice(self._merged([rule.xafter(dt, inc=inc) for rule in self.rules], later), count)
+        return itertools.islice(self._merged([rule.xafter(dt, inc=inc) for rule in self.rules], later), most)
 
     def after(self, dt: Any, inc: bool = False) -> _Instance | None:
         """Returns the first instance after dt, with inc also at it, or None if there is none."""
@@ -165,6 +167,8 @@ class RuleSet(Generic[_Instance]):
     def __getitem__(self, key: slice) -> list[_Instance]: ...
 
     def __getitem__(self, key: int | slice) -> _Instance | list[_Instance]:
+        if not isinstance(key, slice):
+            key = operator.index(key)
         numbers = (key.start, key.stop, key.step) if isinstance(key, slice) else (key,)
         if any(it is not None and it < 0 for it in numbers):
             return list(self)[key]

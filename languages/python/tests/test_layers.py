@@ -299,6 +299,10 @@ class RuleSets(unittest.TestCase):
             self.assertNotIn(it, made)
         self.assertIsNone(made.before(JANUARY))
         self.assertEqual([*made.xafter(JANUARY, 2)], wanted[1:3])
+        for count in (0, -1):
+            self.assertEqual([*made.xafter(JANUARY, count)], [])
+        for wrong in (lambda: made.xafter(JANUARY, 1.0), lambda: made[1.0], lambda: made["1"]):
+            self.assertRaises(TypeError, wrong)
         few = RuleSet([daily], except_dates=[it.to_date() for it in daily][:15])
         self.assertEqual((few.count(), few[-1], few[-2:], few.before(Date(2024, 1, 16))), (5, Date(2024, 1, 20), [*few][-2:], None))
         self.assertRaises(IndexError, lambda: few[5])
