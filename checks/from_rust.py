@@ -171,15 +171,20 @@ def test_missing(results, room, package):
         os.rename(f"{package}/lib-away", f"{package}/lib")
 
 
+# So many seconds may the tests take with a wrong line. Some make a search go on and on.
+LONGEST = "240"
+
+
 def try_wrong_lines(results, room, built):
-    """Each wrong line in the wrapper fails its tests, which are built."""
+    """Each wrong line in the wrapper fails its tests, which are built, or keeps them from ending."""
     package, found = f"{room}/planted-package", 0
     project = make_project(f"{room}/planted-project", package, TESTS)
     for number, edit in enumerate(edits("rust"), 1):
         rust.make_package(TOP, planted("rust", f"{room}/planted", edit), built, package)
-        words = ["cargo", "test", "--offline", "--quiet", "--no-fail-fast", "--tests"]
+        words = ["timeout", LONGEST, "cargo", "test", "--offline", "--quiet", "--no-fail-fast", "--tests"]
         ran = subprocess.run(words, cwd=project, env=environment(room), stdout=subprocess.PIPE, stderr=subprocess.STDOUT, text=True)
-        is_found = "test result: FAILED" in ran.stdout
+        # (timeout ends with the status 124)
+        is_found = "test result: FAILED" in ran.stdout or ran.returncode == 124
         results.count(is_found, f"wrong line {number} of languages/rust is not found: {edit}\n{ran.stdout[-1500:]}")
         found += is_found
     print(f"wrong lines in Rust: {found} found", flush=True)

@@ -109,6 +109,9 @@ class Findings(Results):
 
 # ---- in node
 
+# So many seconds may all tests of the package take. Some wrong lines make a search go on and on.
+LONGEST = "240"
+
 
 def make_project(room, package):
     """A project that has the package as npm puts it, and the tests."""
@@ -121,10 +124,10 @@ def make_project(room, package):
 
 
 def run_tests(project):
-    """Runs the tests in a project: what passed and failed, and what was printed."""
+    """Runs the tests in a project: what passed and failed, and what was printed. Tests that do not end have failed."""
     names = [f"test/{it}" for it in sorted(os.listdir(f"{project}/test")) if it.endswith(".test.js")]
     ran = subprocess.run(
-        ["node", "--test", *names], cwd=project, stdout=subprocess.PIPE, stderr=subprocess.STDOUT, text=True, timeout=120
+        ["timeout", LONGEST, "node", "--test", *names], cwd=project, stdout=subprocess.PIPE, stderr=subprocess.STDOUT, text=True
     )
     passed, failed = (sum(int(it) for it in re.findall(rf"^# {name} (\d+)$", ran.stdout, re.M)) for name in ("pass", "fail"))
     return passed, failed or int(ran.returncode != 0 or not passed), ran.stdout

@@ -377,12 +377,12 @@ export function zoneHoldsUntil(zone, second) {
 function foundInZone(find, schedule, zone, start) {
   const room = open();
   const [at, first] = putSchedule(room, schedule, start);
-  room.layers[find](address(room, ANSWER), at, ...putZone(room, zone), first);
+  find(room.layers, address(room, ANSWER), at, ...putZone(room, zone), first);
   return getMoment(room.view, ANSWER);
 }
 
 /** The first date-time of UTC after another at which a schedule fires in a zone; undefined if there is none. */
-export const nextInZone = (...parts) => foundInZone("calendar_zone_schedule_next", ...parts);
+export const nextInZone = (...parts) => foundInZone((layers, ...given) => layers.calendar_zone_schedule_next(...given), ...parts);
 
 /** The last date-time of UTC before another at which a schedule fires in a zone; undefined if there is none. */
-export const previousInZone = (...parts) => foundInZone("calendar_zone_schedule_prev", ...parts);
+export const previousInZone = (...parts) => foundInZone((layers, ...given) => layers.calendar_zone_schedule_prev(...given), ...parts);

@@ -575,6 +575,14 @@ test("zone_schedule_next", () => {
   assert.equal(new Schedule("0 0 30 2 *").nextInZone(first), undefined);
 });
 
+test("zone_schedule_prev", () => {
+  const [nightly, hourly] = [new Schedule("30 2 * * *"), new Schedule("30 * * * *")];
+  assert.equal(`${nightly.previousInZone(inBerlin("2024-04-01T02:30"))}`, "2024-03-31T03:00:00+02:00");
+  assert.equal(`${nightly.previousInZone(inBerlin("2024-10-28T02:30"))}`, "2024-10-27T02:30:00+02:00");
+  assert.equal(`${hourly.previousInZone(inBerlin("2024-10-27T03:00"))}`, "2024-10-27T02:30:00+01:00");
+  assert.equal(new Schedule("0 0 30 2 *").previousInZone(inBerlin("2024-10-28T02:30")), undefined);
+});
+
 test("zones of this machine, beside Intl", { skip: !existsSync("/usr/share/zoneinfo/Europe/Berlin") }, () => {
   for (const name of ["Europe/Berlin", "America/New_York", "Australia/Lord_Howe", "Africa/Casablanca", "Asia/Kathmandu", "Pacific/Apia"]) {
     const zone = new Zone(readFileSync(`/usr/share/zoneinfo/${name}`), name);
