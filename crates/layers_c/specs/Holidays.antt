@@ -1,5 +1,5 @@
 -- Calendars of holidays by their numbers, and what is wrong with holidays.
-use Rattle.std.specs.Prelude.{◌≡◌, ℕ, ◌<◌, nat_le, if◌then◌else◌, true, List, [], ◌∷◌, length, slice_get, slice_index_or, ℤ, pos, Option}
+use Rattle.std.specs.Prelude.{◌≡◌, ℕ, ◌<◌, ◌≤◌, nat_le, if◌then◌else◌, true, List, [], ◌∷◌, length, slice_get, slice_index_or, ℤ, pos, Option}
 use Rattle.std.specs.List.{All}
 use Rattle.chrono_datetime.specs.Days.{IsDate}
 use Rattle.chrono_datetime.specs.WeekdaySet.{DaySet}
@@ -36,6 +36,7 @@ pub record IsFirstNoDate (xs : List ℤ) (place : ℕ) : Type 0 where
 
 -- what is wrong with holidays: there are too many, a number is no date, one is not later than the one before it, or one is on the weekend
 pub record IsHolidayFault (weekend : DaySet) (xs : List ℤ) (code place : ℕ) : Type 0 where
+  pub numbered : (1 ≤ code) × (code ≤ 4)
   pub many : code ≡ 1 → (1000 < length xs) × (place ≡ 1000)
   pub no_date : code ≡ 2 → IsFirstNoDate xs place
   pub not_rising : code ≡ 3 → All IsDate xs × IsWrong weekend xs (NotRising place)

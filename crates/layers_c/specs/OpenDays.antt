@@ -1,5 +1,5 @@
 -- Calendars by the numbers of C.
-use Rattle.std.specs.Prelude.{ℕ, ◌≤◌, List, [], ◌∷◌, length, slice_get, ℤ, Option}
+use Rattle.std.specs.Prelude.{ℕ, ◌≤◌, ◌^◌, List, [], ◌∷◌, length, slice_get, ℤ, pos, neg_ℤ, Option}
 use Rattle.chrono_units.specs.SetDigits.{set_at}
 use Rattle.chrono_business.specs.OpenDays.{AreHolidays, Closed, closed}
 use Rattle.chrono_business.specs.declared.roll.Roll.{Roll}
@@ -13,6 +13,10 @@ closed_from_c weekend holidays = closed (set_at weekend) holidays
 pub record IsCalendar (weekend : ℕ) (holidays : List ℤ) : Type 0 where
   pub are_holidays : AreHolidays (set_at weekend) holidays
   pub few : length holidays ≤ 1000
+
+-- the least i64, which counts no days, stands for none
+abbrev pub no_count : ℤ
+no_count = neg_ℤ (pos (2 ^ 63))
 
 -- the rolls, numbered from 0
 abbrev pub roll_numbered : ℕ → Option Roll

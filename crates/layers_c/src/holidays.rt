@@ -1,5 +1,5 @@
 //! Holidays: those of calendars that are known by name, Easter, and a test of holidays.
-ghost use Rattle.std.specs.Prelude.{◌≡◌, ◌≤◌, ◌<◌, ℕ, List, true, false, Some, All, IfSome, IfNone, IfErr, length, take, drop, pos, ◌^◌};
+ghost use Rattle.std.specs.Prelude.{◌≡◌, ◌≢◌, ◌≤◌, ◌≤ℤ◌, ◌<◌, ℕ, List, true, false, None, Some, All, IfSome, IfNone, IfErr, IsSome, length, take, drop, pos, ◌^◌};
 ghost use Rattle.chrono_units.specs.Years.{IsYear};
 ghost use Rattle.chrono_units.specs.SetDigits.{set_at};
 ghost use Rattle.chrono_datetime.specs.Days.{IsDate};
@@ -41,6 +41,8 @@ pub extern "C" fn calendar_holidays_of(
     ensures none { (rules : List HolidayRule) → result ≡ none_number → rules_numbered which ≡ Some rules → IsYear first_year → IsYear last_year
         → AreTooManyFor (most_within (length out.old)) rules first_year last_year (set_at weekend) }
     ensures kept { result ≡ none_number → out.new ≡ out.old }
+    ensures counted { result ≢ none_number → pos 0 ≤ℤ result }
+    ensures unknown { rules_numbered which ≡ None → result ≡ none_number }
 {
     if first_year < MIN_YEAR || last_year > MAX_YEAR {
         return NONE;
@@ -146,6 +148,7 @@ fn found_holidays(
         → IfSome result (λ n. AreHolidaysOf rules first_year last_year weekend (take n dates.new)) }
     ensures none { (rules : List HolidayRule) → rules_numbered which ≡ Some rules
         → IfNone result (AreTooManyFor most rules first_year last_year weekend) }
+    ensures known { IfSome result (λ _. IsSome (rules_numbered which)) }
 {
     match which {
         0 => holidays_of(&us_federal(), first_year, last_year, weekend, dates),

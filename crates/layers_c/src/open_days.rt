@@ -1,12 +1,12 @@
 //! Open days: which days are open, how many lie between two dates, and the `n`-th one.
-ghost use Rattle.std.specs.Prelude.{◌≡◌, ◌≢◌, ◌<◌, ℤ, true, Some, All, IfSome, IfNone, length};
+ghost use Rattle.std.specs.Prelude.{◌≡◌, ◌≢◌, ◌<◌, ◌≤◌, ℤ, false, true, None, Some, All, IfSome, IfNone, length};
 ghost use Rattle.chrono_units.specs.SetDigits.{set_at};
 ghost use Rattle.chrono_datetime.specs.Days.{IsDate};
 ghost use Rattle.chrono_business.specs.OpenDays.{AreHolidays, IsMovedByOpenDays, closed, is_open, open_days_signed};
 ghost use Rattle.chrono_business.specs.Rolls.{RollsTo};
 ghost use Rattle.chrono_business.specs.declared.roll.Roll.{Roll};
 ghost use Rattle.numbers_c.specs.Answers.{none_number};
-ghost use Rattle.layers_c.specs.OpenDays.{IsCalendar, closed_from_c, roll_numbered};
+ghost use Rattle.layers_c.specs.OpenDays.{IsCalendar, closed_from_c, no_count, roll_numbered};
 
 use chrono_business::{Calendar, Roll};
 use chrono_datetime::{Datelike, NaiveDate};
@@ -21,6 +21,8 @@ pub extern "C" fn calendar_is_open_day(weekend: u8, holidays: &[i32], date: i32)
     ensures open { result ≡ true → is_open (closed_from_c weekend holidays.now) date ≡ true }
     ensures every { IsCalendar weekend holidays.now → IsDate date
         → result ≡ is_open (closed_from_c weekend holidays.now) date }
+    ensures no_calendar { (IsCalendar weekend holidays.now → ⊥) → result ≡ false }
+    ensures no_date { (IsDate date → ⊥) → result ≡ false }
 {
     let mut room = [NaiveDate::MIN; MOST];
     let Some(calendar) = calendar_of(weekend, holidays, &mut room) else {
@@ -38,6 +40,8 @@ pub extern "C" fn calendar_add_open_days(weekend: u8, holidays: &[i32], date: i3
     ensures moved { result ≢ none_number → IsMovedByOpenDays (closed_from_c weekend holidays.now) date n result }
     ensures none { result ≡ none_number → IsCalendar weekend holidays.now → IsDate date
         → (e : ℤ) → IsDate e → ¬ IsMovedByOpenDays (closed_from_c weekend holidays.now) date n e }
+    ensures no_calendar { (IsCalendar weekend holidays.now → ⊥) → result ≡ none_number }
+    ensures no_date { (IsDate date → ⊥) → result ≡ none_number }
 {
     let mut room = [NaiveDate::MIN; MOST];
     let Some(calendar) = calendar_of(weekend, holidays, &mut room) else {
@@ -57,8 +61,11 @@ pub extern "C" fn calendar_open_days_between(
     from: i32,
     to: i32,
 ) -> i64
-    ensures { IsCalendar weekend holidays.now → IsDate from → IsDate to
+    ensures count { IsCalendar weekend holidays.now → IsDate from → IsDate to
         → result ≡ open_days_signed (closed_from_c weekend holidays.now) from to }
+    ensures no_calendar { (IsCalendar weekend holidays.now → ⊥) → result ≡ no_count }
+    ensures no_from { (IsDate from → ⊥) → result ≡ no_count }
+    ensures no_to { (IsDate to → ⊥) → result ≡ no_count }
 {
     let mut room = [NaiveDate::MIN; MOST];
     let Some(calendar) = calendar_of(weekend, holidays, &mut room) else {
@@ -80,6 +87,9 @@ pub extern "C" fn calendar_roll(weekend: u8, holidays: &[i32], date: i32, roll: 
         → IfSome (roll_numbered roll) (λ r. RollsTo (closed_from_c weekend holidays.now) r date result) }
     ensures none { (r : Roll) → result ≡ none_number → roll_numbered roll ≡ Some r → IsCalendar weekend holidays.now → IsDate date
         → (e : ℤ) → IsDate e → ¬ RollsTo (closed_from_c weekend holidays.now) r date e }
+    ensures no_calendar { (IsCalendar weekend holidays.now → ⊥) → result ≡ none_number }
+    ensures no_date { (IsDate date → ⊥) → result ≡ none_number }
+    ensures no_roll { roll_numbered roll ≡ None → result ≡ none_number }
 {
     let mut room = [NaiveDate::MIN; MOST];
     let Some(calendar) = calendar_of(weekend, holidays, &mut room) else {
@@ -118,6 +128,7 @@ pub(crate) fn calendar_of<'a>(
 ) -> Option<Calendar<'a>>
     requires { length room.old ≡ 1000 }
     ensures calendar { IfSome result (λ c. c ≡ closed_from_c weekend holidays.now) }
+    ensures only { IfSome result (λ _. IsCalendar weekend holidays.now) }
     ensures none { IfNone result (IsCalendar weekend holidays.now → ⊥) }
 {
     let Some(days) = dates_of(holidays, room) else {
@@ -132,6 +143,7 @@ pub(crate) fn calendar_of<'a>(
 // The dates with these numbers, if each is a date's and there is room for all.
 pub(crate) fn dates_of<'a>(numbers: &[i32], room: &'a mut [NaiveDate]) -> Option<&'a [NaiveDate]>
     ensures dates { IfSome result (λ days. days.now ≡ numbers.now) }
+    ensures few { IfSome result (λ _. length numbers.now ≤ length room.old) }
     ensures none { IfNone result (All IsDate numbers.now → length room.old < length numbers.now) }
 {
     let mut count = 0;

@@ -4,7 +4,7 @@ ghost use Rattle.chrono_datetime.specs.Days.{IsDate, date_of_day};
 ghost use Rattle.chrono_rules.specs.InstanceLists.{instances_from};
 ghost use Rattle.chrono_rules.specs.Instances.{is_instance};
 ghost use Rattle.chrono_rules.specs.declared.rule.Rule.{Rule};
-ghost use Rattle.numbers_c.specs.Answers.{none_number};
+ghost use Rattle.numbers_c.specs.Answers.{none_number, or_none};
 ghost use Rattle.layers_c.specs.Rules.{IsLastInstance, IsNextInstance, WritesRule, instances_up_to};
 
 use chrono_datetime::{Datelike, NaiveDate};
@@ -16,6 +16,7 @@ use numbers_c::{NONE, date_of, number_or_none};
 pub extern "C" fn calendar_rule_next(text: &[u8], start: i32, day: i32) -> i32
     ensures next { (r : Rule) → WritesRule text.now r → IsDate start → IsDate day
         → IsNextInstance r start day (date_of_day result) }
+    ensures number { result ≡ or_none (date_of_day result) }
     ensures no_rule { ((r : Rule) → ¬ WritesRule text.now r) → result ≡ none_number }
     ensures no_start { (IsDate start → ⊥) → result ≡ none_number }
     ensures no_day { (IsDate day → ⊥) → result ≡ none_number }
@@ -31,6 +32,7 @@ pub extern "C" fn calendar_rule_next(text: &[u8], start: i32, day: i32) -> i32
 pub extern "C" fn calendar_rule_prev(text: &[u8], start: i32, day: i32) -> i32
     ensures last { (r : Rule) → WritesRule text.now r → IsDate start → IsDate day
         → IsLastInstance r start day (date_of_day result) }
+    ensures number { result ≡ or_none (date_of_day result) }
     ensures no_rule { ((r : Rule) → ¬ WritesRule text.now r) → result ≡ none_number }
     ensures no_start { (IsDate start → ⊥) → result ≡ none_number }
     ensures no_day { (IsDate day → ⊥) → result ≡ none_number }

@@ -4,7 +4,7 @@ use Rattle.chrono_calendar.proofs.NamedDates.{date_of_day-number, none-date_of_d
 use Rattle.chrono_calendar.specs.Days.{IsDate}
 use Rattle.chrono_business.specs.OpenDays.{IsMovedByOpenDays}
 use Rattle.layers_c.specs.OpenDays.{closed_from_c}
-use Rattle.layers_c.proofs.FoundNumbers.{found-holds, none-holds}
+use Rattle.layers_c.proofs.FoundNumbers.{found-holds, named-is-date, none-holds}
 use Rattle.layers_c.proofs.open_days.calendar_add_open_days.Goals as goal
 
 pub returns-in-Some-date_of-clause-moved : goal.returns-in-Some-date_of-clause-moved
@@ -27,3 +27,8 @@ returns-in-Some-date_of-clause-none c =
 pub returns-in-None-clause-none : goal.returns-in-None-clause-none
 returns-in-None-clause-none c =
     λ _ _ date. absurd (none-date_of_day c.args.date (rw (to_z-of_z w32 c.args.date c.ranges.date) at c.in-None.ensures.date) date)
+
+pub returns-in-Some-date_of-clause-no_date : goal.returns-in-Some-date_of-clause-no_date
+returns-in-Some-date_of-clause-no_date c =
+    let date = named-is-date c.in-Some-date_of.date c.args.date (sym (rw (to_z-of_z w32 c.args.date c.ranges.date) at c.in-Some-date_of.ensures.date)) in
+    λ none. absurd (none date)
