@@ -9,8 +9,8 @@ write the same of each specifier that it has, and GNU date of all its specifiers
 checks/chrono_patterns has to write the same too, and to refuse the same patterns: all that have none of `%q`, `%U`, `%W` and `%#z`. The
 first is newer, and chrono only reads the last. Of the other two Debian's chrono writes another number in some years, where GNU date and
 Python agree: how many lines differ is printed. Python writes the seconds of an offset by `%z`, so it is asked at whole minutes alone.
-Bytes that are no pattern are read by a regular expression. `rt try` runs a small program unproved, in a copy of the crates: it answers the
-lines, and what differs is printed. A second run of the same lines with one answer changed has to find that answer. The table of patterns
+Bytes that are no pattern are read by a regular expression, and each one and each two visible bytes behind a `%` are asked for.
+`rt try` runs a small program unproved, in a copy of the crates: it answers the lines, and what differs is printed. A second run of the same lines with one answer changed has to find that answer. The table of patterns
 in docs/chrono.md is asked with them. Each round has as many lines of its own, by the next seed: `--lines 200000 --rounds 5` are a million.
 GNU date is asked for 20,000 in a round at most.
 """
@@ -232,6 +232,15 @@ def part(draw):
     return draw.choice(("%", "%Q", "%-a", "%--d", "%.5f", "%.", "%3", "%.3", "%-", "%0F", "%33f", "%.-d", "%_%", "%:", "%::", "%::::z", "%#", "%-z", "%:Z", "%_+", "%#:z", "%:::"))
 
 
+def short_patterns():
+    """Each pattern of `%` and one or two visible bytes of ASCII behind it, so that no specifier more is read than are known.
+
+    `%n` ends a line, and so is left out.
+    """
+    visible = [chr(it) for it in range(0x21, 0x7F)]
+    return [f"%{one}{other}" for one in visible if one != "n" for other in ["", *visible]]
+
+
 def of_page():
     """The patterns of the page as questions, and their texts there."""
     with open(f"{TOP}/{PAGE}", encoding="utf-8") as it:
@@ -357,8 +366,9 @@ def main():
             drawn = [question(draw) for _ in range(count)]
             questions, wanted = drawn + shown, [both(it) for it in drawn] + [f"{it}|{it}" for it in texts]
             wrong = unlike + answers_by_others(own, chrono, draw, questions, wanted)
-            lines = [line_of(it) for it in questions]
-            return lines, answers_in_parts(own, folder, lines, PART), wanted, wrong
+            each = [(*MOMENT, 0, it) for it in short_patterns()]
+            lines = [line_of(it) for it in questions + each]
+            return lines, answers_in_parts(own, folder, lines, PART), wanted + [both(it) for it in each], wrong
 
         run_rounds(options, room, run_round)
 
