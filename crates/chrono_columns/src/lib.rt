@@ -42,6 +42,7 @@ pub use moves::{
 pub use names::{join_dates, ordinals, split_dates, years};
 pub use none::{NONE, NOT_A_TIME};
 pub use occasions::first_on;
+pub use read::date_of_text_entry;
 pub use texts::{read_dates, write_dates};
 pub use unix::{from_unix_days, to_unix_days};
 pub use week::{iso_weeks, weekdays};

@@ -22,9 +22,16 @@ fn number_of_two(tens: u8, ones: u8) -> (u8, bool)
     )
 }
 
-/// Returns the date that the text writes, or [`NONE`].
+/// Returns the date that the text writes, such as `2024-02-29` (ISO 8601 calendar date). For no date's text it returns [`NONE`].
+///
+/// It computes one element of [`read_dates`](crate::read_dates), for loops that make the text.
+///
+/// ```
+/// date_of_text_entry(*b"2024-02-29") // 738945
+/// date_of_text_entry(*b"2023-02-29") == NONE // true
+/// ```
 #[inline]
-pub(crate) fn date_of_text(text: [u8; 10]) -> i32
+pub fn date_of_text_entry(text: [u8; 10]) -> i32
     ensures { IsTextEntry text result }
 {
     let (centuries, has_centuries) = number_of_two(text[0], text[1]);

@@ -3,7 +3,7 @@ ghost use Rattle.std.specs.Prelude.{◌≡◌, ℕ, ◌<◌, ◌≤◌, [], leng
 ghost use Rattle.chrono_columns.specs.Columns.{IsTextEntry, name_text_entry, text_entry};
 
 use crate::names::split_dates;
-use crate::read::date_of_text;
+use crate::read::date_of_text_entry;
 use crate::written::text_of_name_entry;
 
 // How many dates are named before their texts are written.
@@ -80,6 +80,6 @@ pub fn read_dates(texts: &[[u8; 10]], out: &mut [i32])
         → IsTextEntry (slice_index_or texts.now i []) (slice_index_or out.new i (pos 0)) }
 {
     for i in 0..texts.len() {
-        out[i] = date_of_text(texts[i]);
+        out[i] = date_of_text_entry(texts[i]);
     }
 }

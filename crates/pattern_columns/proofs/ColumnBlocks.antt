@@ -1,15 +1,15 @@
 -- Columns that are filled element by element, and block by block.
 use Rattle.std.proofs.Common.{◌≡◌, ◌∙◌, ℕ, ◌+◌, ◌-◌, ◌<◌, ◌≤◌, ℤ, pos, List, [], ◌++◌, length, take, map, get_or, slice_set, inl, inr, ap, sym, arith}
 use Rattle.std.proofs.lemmas.Bool.{cases_lt}
-use Rattle.std.proofs.lemmas.List.{ext_get_or, get_or_append_left, get_or-append_right, get_or-map, get_or-set_other, get_or-set_same, get_or-take, length-map, length-take-le, take_at}
+use Rattle.std.proofs.lemmas.List.{ext_get_or, get_or_append_left, get_or-append_right, get_or-map, get_or-set_other, get_or-set_same, get_or-take, length-map, length-take-le}
 use Rattle.std.proofs.lemmas.List.Edits.{get_or-between, length-between}
 use Rattle.std.proofs.lemmas.Slice.{take-put_mid}
 use Rattle.std.specs.List.{between}
 use borrow.Rule.Slice.PartMut.{put_mid}
-use Rattle.chrono_columns.specs.Columns.{IsTextEntry, day_entry, month_entry, year_entry}
+use Rattle.chrono_columns.specs.Columns.{day_entry, month_entry, year_entry}
 use Rattle.chrono_columns.proofs.Blocks.{named_at}
-use Rattle.pattern_columns.specs.Layouts.{AreNameTexts, IsEntryBy, NamesSame, entry_by, name_text_by}
-use Rattle.pattern_columns.proofs.LayoutEntries.{entry-named, entry-renamed}
+use Rattle.pattern_columns.specs.Layouts.{AreNameTexts, entry_by, name_text_by}
+use Rattle.pattern_columns.proofs.LayoutEntries.{entry-named}
 
 -- one element more is written
 pub more-written : {X Y : Type 0} (p : X → Y → Type 0) (x : X) (y : Y) (xs : List X) (out : List Y) (i : ℕ) (z : Y) → i < length out → ((k : ℕ) → k < i → p (get_or xs k x) (get_or out k y))
@@ -64,13 +64,3 @@ names-laid_out size f dates years months days texts p q r each i h =
     let name = named_at dates years months days p q r i h in
     let within : i < length years = omega (arith, h, ap (λ (l : List ℤ). length l) p, length-map dates year_entry) in
     each i within ∙ rw (name.year, name.month, name.day) (entry-named size f (get_or dates i (pos 0)))
-
--- the dates of a block, by its ISO texts at the front of their room
-pub front-read : (f : ℤ → ℕ → ℕ → List ℕ) (texts iso rest : List (List ℕ)) (out : List ℤ) (n : ℕ) → length texts ≡ n → length iso ≡ n
-    → ((i : ℕ) → i < length texts → NamesSame f (get_or texts i []) (get_or iso i []))
-    → ((i : ℕ) → i < length (take n (iso ++ rest)) → IsTextEntry (get_or (take n (iso ++ rest)) i []) (get_or out i (pos 0)))
-    → (i : ℕ) → i < length texts → IsEntryBy f (get_or texts i []) (get_or out i (pos 0))
-front-read f texts iso rest out n long also same read i h =
-    let front : take n (iso ++ rest) ≡ iso = take_at iso rest n also in
-    let here = (rw front at read) i (omega (arith, h, long, also)) in
-    entry-renamed f (get_or texts i []) (get_or iso i []) (get_or out i (pos 0)) (same i h) here

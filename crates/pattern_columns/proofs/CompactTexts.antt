@@ -1,5 +1,5 @@
 -- Texts of eight digits, and the ISO texts of which they are made.
-use Rattle.std.proofs.Common.{◌≡◌, ◌∙◌, ℕ, ℤ, List, [], ◌∷◌, ◌++◌, length, length-append, drop, get_or, ap, sym, refl, arith}
+use Rattle.std.proofs.Common.{◌≡◌, ◌∙◌, ℕ, ℤ, List, [], ◌∷◌, ◌++◌, length, length-append, drop, get_or, slice_set, ap, sym, refl, arith}
 use Rattle.std.proofs.lemmas.List.{drop_all}
 use Rattle.chrono_text.specs.Text.{calendar_text, two_digits, year_text}
 use Rattle.chrono_columns.proofs.TenBytes.{next_byte}
@@ -12,6 +12,12 @@ eight_bytes t l =
     let end : drop 8 t ≡ [] = drop_all 8 t (omega (arith, l)) in
     next_byte t 0 _ (omega (arith, l)) (next_byte t 1 _ (omega (arith, l)) (next_byte t 2 _ (omega (arith, l)) (next_byte t 3 _ (omega (arith, l))
     (next_byte t 4 _ (omega (arith, l)) (next_byte t 5 _ (omega (arith, l)) (next_byte t 6 _ (omega (arith, l)) (next_byte t 7 _ (omega (arith, l)) end)))))))
+
+-- eight bytes in place of a text of eight
+pub eight-put : (t : List ℕ) → length t ≡ 8 → (a b c d e f g h : ℕ)
+    → slice_set (slice_set (slice_set (slice_set (slice_set (slice_set (slice_set (slice_set t 0 a) 1 b) 2 c) 3 d) 4 e) 5 f) 6 g) 7 h ≡ a ∷ b ∷ c ∷ d ∷ e ∷ f ∷ g ∷ h ∷ []
+eight-put t l a b c d e f g h =
+    ap (λ s. slice_set (slice_set (slice_set (slice_set (slice_set (slice_set (slice_set (slice_set s 0 a) 1 b) 2 c) 3 d) 4 e) 5 f) 6 g) 7 h) (eight_bytes t l)
 
 three_joined : (a b c d e f : List ℕ) → a ≡ d → b ≡ e → c ≡ f → a ++ (b ++ c) ≡ d ++ (e ++ f)
 three_joined a b c d e f p q r = rw (p, q, r) refl

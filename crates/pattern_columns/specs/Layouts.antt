@@ -48,6 +48,10 @@ pub record IsEntryBy (f : ℤ → ℕ → ℕ → List ℕ) (text : List ℕ) (n
   pub read : n ≢ number_entry None → IsTextBy f text n
   pub every : (m : ℤ) → IsTextBy f text m → n ≡ m
 
+-- each date is the one whose text stands at its place
+abbrev pub AreReadBy : (ℤ → ℕ → ℕ → List ℕ) → List (List ℕ) → List ℤ → Type 0
+AreReadBy f texts dates = (i : ℕ) → i < length texts → IsEntryBy f (slice_index_or texts i []) (slice_index_or dates i (pos 0))
+
 -- a text by f and an ISO text that name the same
 abbrev pub NamesSame : (ℤ → ℕ → ℕ → List ℕ) → List ℕ → List ℕ → Type 0
 NamesSame f text iso = (y : ℤ) → (m d : ℕ) → (calendar_text y m d ≡ iso) ↔ (f y m d ≡ text)

@@ -1,26 +1,31 @@
 //! Between a column of dates and one of their texts of eight digits.
 ghost use Rattle.std.specs.Prelude.{◌≡◌, ℕ, ℤ, ◌<◌, ◌≤◌, [], length, map, pos, replicate, slice_index, slice_index_or};
 ghost use Rattle.chrono_text.specs.Text.{calendar_text};
-ghost use Rattle.pattern_columns.specs.Layouts.{AreNameTexts, IsEntryBy, NamesSame, compact_text, entry_by};
+ghost use Rattle.pattern_columns.specs.Layouts.{AreNameTexts, AreReadBy, NamesSame, compact_text, entry_by};
 
 use crate::texts::BLOCK;
-use chrono_columns::{read_dates, split_dates, text_of_name_entry};
+use chrono_columns::{date_of_text_entry, split_dates, text_of_name_entry};
 
-// The eight digits of an ISO text. For ten zero bytes it returns eight of them.
+// Puts the eight digits of an ISO text in place of a text. For ten zero bytes it puts eight of them.
 #[inline]
-fn digits_of_iso(text: [u8; 10]) -> [u8; 8]
-    ensures date { (y : ℤ) → (m : ℕ) → (d : ℕ) → calendar_text y m d ≡ text → compact_text y m d ≡ result }
-    ensures none { text ≡ replicate 10 0 → result ≡ replicate 8 0 }
+fn put_digits_of_iso(iso: [u8; 10], text: &mut [u8; 8])
+    ensures date { (y : ℤ) → (m : ℕ) → (d : ℕ) → calendar_text y m d ≡ iso → compact_text y m d ≡ text.new }
+    ensures none { iso ≡ replicate 10 0 → text.new ≡ replicate 8 0 }
 {
-    [
-        text[0], text[1], text[2], text[3], text[5], text[6], text[8], text[9],
-    ]
+    text[0] = iso[0];
+    text[1] = iso[1];
+    text[2] = iso[2];
+    text[3] = iso[3];
+    text[4] = iso[5];
+    text[5] = iso[6];
+    text[6] = iso[8];
+    text[7] = iso[9];
 }
 
 // The ISO text for a text of eight digits. For no date's text it returns none.
 #[inline]
-fn iso_of_digits(text: [u8; 8]) -> [u8; 10]
-    ensures { NamesSame compact_text text result }
+fn iso_of_digits(text: &[u8; 8]) -> [u8; 10]
+    ensures { NamesSame compact_text text.now result }
 {
     [
         text[0], text[1], text[2], text[3], b'-', text[4], text[5], b'-', text[6], text[7],
@@ -36,7 +41,8 @@ fn write_compact_names(years: &[i32], months: &[u8], days: &[u8], texts: &mut [[
     ensures { AreNameTexts 8 compact_text years.now months.now days.now texts.new }
 {
     for i in 0..years.len() {
-        texts[i] = digits_of_iso(text_of_name_entry(years[i], months[i], days[i]));
+        let iso = text_of_name_entry(years[i], months[i], days[i]);
+        put_digits_of_iso(iso, &mut texts[i]);
     }
 }
 
@@ -83,29 +89,6 @@ pub fn write_compact_dates(dates: &[i32], texts: &mut [[u8; 8]])
     }
 }
 
-// The ISO text for each text.
-fn rewrite_compact_texts(texts: &[[u8; 8]], iso: &mut [[u8; 10]])
-    requires { length iso.old ≡ length texts.now }
-    ensures { (i : ℕ) → i < length texts.now → NamesSame compact_text (slice_index_or texts.now i []) (slice_index_or iso.new i []) }
-{
-    for i in 0..texts.len() {
-        iso[i] = iso_of_digits(texts[i]);
-    }
-}
-
-// The date of each text of a block, by the ISO texts of all of them.
-fn read_compact_block(texts: &[[u8; 8]], out: &mut [i32])
-    requires few { length texts.now ≤ 256 }
-    requires out { length out.old ≡ length texts.now }
-    ensures { (i : ℕ) → i < length texts.now
-        → IsEntryBy compact_text (slice_index_or texts.now i []) (slice_index_or out.new i (pos 0)) }
-{
-    let count = texts.len();
-    let mut iso = [[0; 10]; BLOCK];
-    rewrite_compact_texts(texts, &mut iso[..count]);
-    read_dates(&iso[..count], out);
-}
-
 /// Writes the date that each of `texts` is the text of in eight digits, such as `20240229`: the pattern `%Y%m%d`.
 ///
 /// It writes [`NONE`](chrono_columns::NONE) where a text is no date. Requires that `out` is as long as `texts`.
@@ -117,13 +100,9 @@ fn read_compact_block(texts: &[[u8; 8]], out: &mut [i32])
 /// ```
 pub fn read_compact_dates(texts: &[[u8; 8]], out: &mut [i32])
     requires { length out.old ≡ length texts.now }
-    ensures { (i : ℕ) → i < length texts.now
-        → IsEntryBy compact_text (slice_index_or texts.now i []) (slice_index_or out.new i (pos 0)) }
+    ensures { AreReadBy compact_text texts.now out.new }
 {
-    let mut begun = 0;
-    while begun < texts.len() {
-        let end = begun + BLOCK.min(texts.len() - begun);
-        read_compact_block(&texts[begun..end], &mut out[begun..end]);
-        begun = end;
+    for i in 0..texts.len() {
+        out[i] = date_of_text_entry(iso_of_digits(&texts[i]));
     }
 }

@@ -1,12 +1,12 @@
 //! Between a column of dates and one of their texts in a layout, of ten bytes each.
 ghost use Rattle.std.specs.Prelude.{◌≡◌, ℕ, ◌<◌, ◌≤◌, [], length, map, pos, slice_index, slice_index_or};
-ghost use Rattle.pattern_columns.specs.Layouts.{AreLaidOut, IsEntryBy, NamesSame, entry_by, layout_text};
+ghost use Rattle.pattern_columns.specs.Layouts.{AreLaidOut, AreReadBy, entry_by, layout_text};
 
 use crate::arranged::{from_iso, to_iso};
 use crate::layout::{DateLayout, DateOrder};
-use chrono_columns::{read_dates, split_dates, text_of_name_entry};
+use chrono_columns::{date_of_text_entry, split_dates, text_of_name_entry};
 
-// How many dates are named before their texts are written, and how many ISO texts are kept beside the column.
+// How many dates are named before their texts are written.
 pub(crate) const BLOCK: usize = 256;
 
 // The text in a layout for each year, month and day.
@@ -104,50 +104,15 @@ pub fn write_layout_dates(layout: DateLayout, dates: &[i32], texts: &mut [[u8; 1
     }
 }
 
-// The ISO text for each text.
+// The date of each text.
 #[inline]
-fn rewrite_each(layout: DateLayout, texts: &[[u8; 10]], iso: &mut [[u8; 10]])
-    requires { length iso.old ≡ length texts.now }
-    ensures { (i : ℕ) → i < length texts.now → NamesSame (layout_text layout) (slice_index_or texts.now i []) (slice_index_or iso.new i []) }
+fn read_each(layout: DateLayout, texts: &[[u8; 10]], out: &mut [i32])
+    requires { length out.old ≡ length texts.now }
+    ensures { AreReadBy (layout_text layout) texts.now out.new }
 {
     for i in 0..texts.len() {
-        iso[i] = to_iso(layout, texts[i]);
+        out[i] = date_of_text_entry(to_iso(layout, texts[i]));
     }
-}
-
-// The same by a loop for each order, which does not ask for the order.
-fn rewrite_texts(layout: DateLayout, texts: &[[u8; 10]], iso: &mut [[u8; 10]])
-    requires { length iso.old ≡ length texts.now }
-    ensures { (i : ℕ) → i < length texts.now → NamesSame (layout_text layout) (slice_index_or texts.now i []) (slice_index_or iso.new i []) }
-{
-    let separator = layout.separator;
-    match layout.order {
-        DateOrder::YearMonthDay => {
-            let order = DateOrder::YearMonthDay;
-            rewrite_each(DateLayout { order, separator }, texts, iso);
-        }
-        DateOrder::DayMonthYear => {
-            let order = DateOrder::DayMonthYear;
-            rewrite_each(DateLayout { order, separator }, texts, iso);
-        }
-        DateOrder::MonthDayYear => {
-            let order = DateOrder::MonthDayYear;
-            rewrite_each(DateLayout { order, separator }, texts, iso);
-        }
-    }
-}
-
-// The date of each text of a block, by the ISO texts of all of them.
-fn read_block(layout: DateLayout, texts: &[[u8; 10]], out: &mut [i32])
-    requires few { length texts.now ≤ 256 }
-    requires out { length out.old ≡ length texts.now }
-    ensures { (i : ℕ) → i < length texts.now
-        → IsEntryBy (layout_text layout) (slice_index_or texts.now i []) (slice_index_or out.new i (pos 0)) }
-{
-    let count = texts.len();
-    let mut iso = [[0; 10]; BLOCK];
-    rewrite_texts(layout, texts, &mut iso[..count]);
-    read_dates(&iso[..count], out);
 }
 
 /// Writes the date that each of `texts` is the text of in a layout.
@@ -162,13 +127,22 @@ fn read_block(layout: DateLayout, texts: &[[u8; 10]], out: &mut [i32])
 /// ```
 pub fn read_layout_dates(layout: DateLayout, texts: &[[u8; 10]], out: &mut [i32])
     requires { length out.old ≡ length texts.now }
-    ensures { (i : ℕ) → i < length texts.now
-        → IsEntryBy (layout_text layout) (slice_index_or texts.now i []) (slice_index_or out.new i (pos 0)) }
+    ensures { AreReadBy (layout_text layout) texts.now out.new }
 {
-    let mut begun = 0;
-    while begun < texts.len() {
-        let end = begun + BLOCK.min(texts.len() - begun);
-        read_block(layout, &texts[begun..end], &mut out[begun..end]);
-        begun = end;
+    // A loop for each order does not ask for the order.
+    let separator = layout.separator;
+    match layout.order {
+        DateOrder::YearMonthDay => {
+            let order = DateOrder::YearMonthDay;
+            read_each(DateLayout { order, separator }, texts, out);
+        }
+        DateOrder::DayMonthYear => {
+            let order = DateOrder::DayMonthYear;
+            read_each(DateLayout { order, separator }, texts, out);
+        }
+        DateOrder::MonthDayYear => {
+            let order = DateOrder::MonthDayYear;
+            read_each(DateLayout { order, separator }, texts, out);
+        }
     }
 }

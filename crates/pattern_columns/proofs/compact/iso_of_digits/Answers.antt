@@ -3,4 +3,4 @@ use Rattle.pattern_columns.proofs.CompactTexts.{marked-same}
 use Rattle.pattern_columns.proofs.compact.iso_of_digits.Goals as goal
 
 pub returns : goal.returns
-returns c = marked-same c.args.text (search rules)
+returns c = marked-same c.args.text.now (search rules)

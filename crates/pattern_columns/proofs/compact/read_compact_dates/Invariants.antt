@@ -1,12 +1,6 @@
-use Rattle.std.proofs.Common.{ℕ, ◌<◌, ◌≤◌, ◌-◌, [], length, pos, get_or}
+use Rattle.std.proofs.Common.{ℕ, ◌<◌, [], pos, get_or}
 use Rattle.pattern_columns.specs.Layouts.{IsEntryBy, compact_text}
 use Rattle.pattern_columns.proofs.compact.read_compact_dates.Given as goal
 
-abbrev pub invariant-loop-begun : goal.invariant-loop-begun
-invariant-loop-begun l = record {
-  within : l.begun ≤ length l.texts;
-  read : (k : ℕ) → k < l.begun → IsEntryBy compact_text (get_or l.texts k []) (get_or l.out k (pos 0));
-}
-
-abbrev pub decreases-loop-begun : goal.decreases-loop-begun
-decreases-loop-begun l = length l.texts - l.begun
+abbrev pub invariant-loop-i : goal.invariant-loop-i
+invariant-loop-i l = (k : ℕ) → k < l.i → IsEntryBy compact_text (get_or l.texts k []) (get_or l.out k (pos 0))

@@ -1,12 +1,10 @@
-use Rattle.std.proofs.Common.{◌+◌, [], pos, rules, arith}
-use Rattle.pattern_columns.specs.Layouts.{IsEntryBy, layout_text}
-use Rattle.pattern_columns.proofs.ColumnBlocks.{block-written}
 use Rattle.pattern_columns.proofs.texts.read_layout_dates.Goals as goal
 
-pub loop-begun-preserved : goal.loop-begun-preserved
-loop-begun-preserved c =
-    let begun = c.loop-begun.begun in
-    record {
-      within = search rules;
-      read = block-written (IsEntryBy (layout_text c.args.layout)) [] (pos 0) c.args.texts.now c.loop-begun.out c.read_block.new.out begun (begun + c.min.result) (omega arith) (search rules) (search rules) (search rules) c.loop-begun.invariant.read c.read_block.ensures;
-    }
+pub returns-in-YearMonthDay : goal.returns-in-YearMonthDay
+returns-in-YearMonthDay c i h = rw (c.in-YearMonthDay.is) (c.read_each.ensures i h)
+
+pub returns-in-DayMonthYear : goal.returns-in-DayMonthYear
+returns-in-DayMonthYear c i h = rw (c.in-DayMonthYear.is) (c.read_each-in-DayMonthYear.ensures i h)
+
+pub returns-in-MonthDayYear : goal.returns-in-MonthDayYear
+returns-in-MonthDayYear c i h = rw (c.in-MonthDayYear.is) (c.read_each-in-MonthDayYear.ensures i h)

@@ -3,7 +3,7 @@ use Rattle.std.proofs.lemmas.Bool.{and_parts, eqb-true, eq-eqb, false≢true}
 use Rattle.std.proofs.lemmas.Int.{to_z-of_z}
 use Rattle.chrono_calendar.proofs.Signed.{casts}
 use Rattle.chrono_columns.proofs.TextNames.{IsPairs, entry-read, pairs_of}
-use Rattle.chrono_columns.proofs.read.date_of_text.Goals as goal
+use Rattle.chrono_columns.proofs.read.date_of_text_entry.Goals as goal
 
 pub returns-then-has_digits-text : goal.returns-then-has_digits-text
 returns-then-has_digits-text c =

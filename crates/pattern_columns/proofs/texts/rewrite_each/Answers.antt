@@ -1,7 +1,0 @@
-use Rattle.std.proofs.Common.{[], rules}
-use Rattle.pattern_columns.specs.Layouts.{NamesSame, layout_text}
-use Rattle.pattern_columns.proofs.ColumnBlocks.{more-written}
-use Rattle.pattern_columns.proofs.texts.rewrite_each.Goals as goal
-
-pub loop-i-preserved : goal.loop-i-preserved
-loop-i-preserved c = more-written (NamesSame (layout_text c.args.layout)) [] [] c.args.texts.now c.loop-i.iso c.loop-i.i _ (search rules) c.loop-i.invariant (search rules)
