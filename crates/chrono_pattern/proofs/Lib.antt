@@ -34,5 +34,9 @@ mod OffsetExact
 mod PieceExact
 mod OffsetPieces
 mod RowExact
+mod NamedLemmas
+mod FieldNames
+mod StopLemmas
+mod NotEnough
 mod CutTexts
 mod CutAgain

@@ -1,13 +1,14 @@
 -- A pattern byte by byte: its text, and its first error.
 use Rattle.std.proofs.Common.{◌≡◌, ℕ, Bool, true, false, ◌||◌, ◌+◌, ◌≤◌, List, [], ◌∷◌, ◌++◌, length, length-append, append-nil, Option, None, Some, ℤ, refl, ap, sym, ◌∙◌, arith}
 use Rattle.chrono_datetime.specs.Moment.{Moment}
-use Rattle.chrono_pattern.specs.Needs.{item_needs_offset, item_needs_time, needs_offset_from, needs_time_from}
+use Rattle.chrono_pattern.specs.Needs.{has_item_of, is_item_of}
 use Rattle.chrono_pattern.specs.Patterns.{begun_at, cut_error, error_from, text_of_item, text_from}
 use Rattle.chrono_pattern.specs.PatternSteps.{pattern_step}
 use Rattle.chrono_pattern.specs.declared.error.PatternError.{PatternError}
 use Rattle.chrono_pattern.specs.declared.error.PatternFault.TheVariants.{Unknown}
 use Rattle.chrono_pattern.specs.declared.item.Item.{Item}
 use Rattle.chrono_pattern.specs.declared.item.State.{State}
+use Rattle.chrono_pattern.specs.declared.needs.Sort.{Sort}
 
 -- ---- the text
 
@@ -70,74 +71,38 @@ pub error_from-ends : (s : State) (begun place : ℕ) (bytes : List ℕ) → len
 error_from-ends s begun place [] none = error_from-nothing s begun place
 error_from-ends s begun place (c ∷ bytes) none = absurd (omega (arith, none))
 
--- ---- whether a time of day is written
+-- ---- whether an item of a sort is there
 
-pub needs_time_from-more : (s : State) (c : ℕ) (bytes : List ℕ) (next : State × Item) → pattern_step s c ≡ Some next
-    → needs_time_from s (c ∷ bytes) ≡ (item_needs_time next.1 || needs_time_from next.0 bytes)
-unfolding needs_time_from
-needs_time_from-more s c bytes next e =
-    ap (λ (o : Option (State × Item)). elim o as (λ _. Bool) [ None ↦ false | Some n ↦ item_needs_time n.1 || needs_time_from n.0 bytes ]) e
+pub has_item_of-more : (sort : Sort) (s : State) (c : ℕ) (bytes : List ℕ) (next : State × Item) → pattern_step s c ≡ Some next
+    → has_item_of sort s (c ∷ bytes) ≡ (is_item_of sort next.1 || has_item_of sort next.0 bytes)
+unfolding has_item_of
+has_item_of-more sort s c bytes next e =
+    ap (λ (o : Option (State × Item)). elim o as (λ _. Bool) [ None ↦ false | Some n ↦ is_item_of sort n.1 || has_item_of sort n.0 bytes ]) e
 
-needs_time_from-none : (s : State) (c : ℕ) (bytes : List ℕ) → pattern_step s c ≡ None → needs_time_from s (c ∷ bytes) ≡ false
-unfolding needs_time_from
-needs_time_from-none s c bytes e =
-    ap (λ (o : Option (State × Item)). elim o as (λ _. Bool) [ None ↦ false | Some n ↦ item_needs_time n.1 || needs_time_from n.0 bytes ]) e
+pub has_item_of-none : (sort : Sort) (s : State) (c : ℕ) (bytes : List ℕ) → pattern_step s c ≡ None → has_item_of sort s (c ∷ bytes) ≡ false
+unfolding has_item_of
+has_item_of-none sort s c bytes e =
+    ap (λ (o : Option (State × Item)). elim o as (λ _. Bool) [ None ↦ false | Some n ↦ is_item_of sort n.1 || has_item_of sort n.0 bytes ]) e
 
-needs_time_from-nothing : (s : State) → needs_time_from s [] ≡ false
-unfolding needs_time_from
-needs_time_from-nothing s = refl
-
--- the same of bytes that begin with one
-pub needs_time_from-goes_on : (s : State) (c : ℕ) (bytes behind : List ℕ) (next : State × Item) → bytes ≡ c ∷ behind
-    → pattern_step s c ≡ Some next → item_needs_time next.1 ≡ false → needs_time_from s bytes ≡ needs_time_from next.0 behind
-needs_time_from-goes_on s c bytes behind next is step not =
-    ap (λ (l : List ℕ). needs_time_from s l) is ∙ needs_time_from-more s c behind next step ∙ ap (λ (b : Bool). b || needs_time_from next.0 behind) not
-
-pub needs_time_from-found : (s : State) (c : ℕ) (bytes behind : List ℕ) (next : State × Item) → bytes ≡ c ∷ behind
-    → pattern_step s c ≡ Some next → item_needs_time next.1 ≡ true → needs_time_from s bytes ≡ true
-needs_time_from-found s c bytes behind next is step found =
-    ap (λ (l : List ℕ). needs_time_from s l) is ∙ needs_time_from-more s c behind next step ∙ ap (λ (b : Bool). b || needs_time_from next.0 behind) found
-
-pub needs_time_from-stops : (s : State) (c : ℕ) (bytes behind : List ℕ) → bytes ≡ c ∷ behind → pattern_step s c ≡ None
-    → needs_time_from s bytes ≡ false
-needs_time_from-stops s c bytes behind is step = ap (λ (l : List ℕ). needs_time_from s l) is ∙ needs_time_from-none s c behind step
-
-pub needs_time_from-ends : (s : State) (bytes : List ℕ) → length bytes ≡ 0 → needs_time_from s bytes ≡ false
-needs_time_from-ends s [] none = needs_time_from-nothing s
-needs_time_from-ends s (c ∷ bytes) none = absurd (omega (arith, none))
-
--- ---- whether an offset is written
-
-pub needs_offset_from-more : (s : State) (c : ℕ) (bytes : List ℕ) (next : State × Item) → pattern_step s c ≡ Some next
-    → needs_offset_from s (c ∷ bytes) ≡ (item_needs_offset next.1 || needs_offset_from next.0 bytes)
-unfolding needs_offset_from
-needs_offset_from-more s c bytes next e =
-    ap (λ (o : Option (State × Item)). elim o as (λ _. Bool) [ None ↦ false | Some n ↦ item_needs_offset n.1 || needs_offset_from n.0 bytes ]) e
-
-needs_offset_from-none : (s : State) (c : ℕ) (bytes : List ℕ) → pattern_step s c ≡ None → needs_offset_from s (c ∷ bytes) ≡ false
-unfolding needs_offset_from
-needs_offset_from-none s c bytes e =
-    ap (λ (o : Option (State × Item)). elim o as (λ _. Bool) [ None ↦ false | Some n ↦ item_needs_offset n.1 || needs_offset_from n.0 bytes ]) e
-
-needs_offset_from-nothing : (s : State) → needs_offset_from s [] ≡ false
-unfolding needs_offset_from
-needs_offset_from-nothing s = refl
+pub has_item_of-nothing : (sort : Sort) (s : State) → has_item_of sort s [] ≡ false
+unfolding has_item_of
+has_item_of-nothing sort s = refl
 
 -- the same of bytes that begin with one
-pub needs_offset_from-goes_on : (s : State) (c : ℕ) (bytes behind : List ℕ) (next : State × Item) → bytes ≡ c ∷ behind
-    → pattern_step s c ≡ Some next → item_needs_offset next.1 ≡ false → needs_offset_from s bytes ≡ needs_offset_from next.0 behind
-needs_offset_from-goes_on s c bytes behind next is step not =
-    ap (λ (l : List ℕ). needs_offset_from s l) is ∙ needs_offset_from-more s c behind next step ∙ ap (λ (b : Bool). b || needs_offset_from next.0 behind) not
+pub has_item_of-goes_on : (sort : Sort) (s : State) (c : ℕ) (bytes behind : List ℕ) (next : State × Item) → bytes ≡ c ∷ behind
+    → pattern_step s c ≡ Some next → is_item_of sort next.1 ≡ false → has_item_of sort s bytes ≡ has_item_of sort next.0 behind
+has_item_of-goes_on sort s c bytes behind next is step not =
+    ap (λ (l : List ℕ). has_item_of sort s l) is ∙ has_item_of-more sort s c behind next step ∙ ap (λ (b : Bool). b || has_item_of sort next.0 behind) not
 
-pub needs_offset_from-found : (s : State) (c : ℕ) (bytes behind : List ℕ) (next : State × Item) → bytes ≡ c ∷ behind
-    → pattern_step s c ≡ Some next → item_needs_offset next.1 ≡ true → needs_offset_from s bytes ≡ true
-needs_offset_from-found s c bytes behind next is step found =
-    ap (λ (l : List ℕ). needs_offset_from s l) is ∙ needs_offset_from-more s c behind next step ∙ ap (λ (b : Bool). b || needs_offset_from next.0 behind) found
+pub has_item_of-found : (sort : Sort) (s : State) (c : ℕ) (bytes behind : List ℕ) (next : State × Item) → bytes ≡ c ∷ behind
+    → pattern_step s c ≡ Some next → is_item_of sort next.1 ≡ true → has_item_of sort s bytes ≡ true
+has_item_of-found sort s c bytes behind next is step found =
+    ap (λ (l : List ℕ). has_item_of sort s l) is ∙ has_item_of-more sort s c behind next step ∙ ap (λ (b : Bool). b || has_item_of sort next.0 behind) found
 
-pub needs_offset_from-stops : (s : State) (c : ℕ) (bytes behind : List ℕ) → bytes ≡ c ∷ behind → pattern_step s c ≡ None
-    → needs_offset_from s bytes ≡ false
-needs_offset_from-stops s c bytes behind is step = ap (λ (l : List ℕ). needs_offset_from s l) is ∙ needs_offset_from-none s c behind step
+pub has_item_of-stops : (sort : Sort) (s : State) (c : ℕ) (bytes behind : List ℕ) → bytes ≡ c ∷ behind → pattern_step s c ≡ None
+    → has_item_of sort s bytes ≡ false
+has_item_of-stops sort s c bytes behind is step = ap (λ (l : List ℕ). has_item_of sort s l) is ∙ has_item_of-none sort s c behind step
 
-pub needs_offset_from-ends : (s : State) (bytes : List ℕ) → length bytes ≡ 0 → needs_offset_from s bytes ≡ false
-needs_offset_from-ends s [] none = needs_offset_from-nothing s
-needs_offset_from-ends s (c ∷ bytes) none = absurd (omega (arith, none))
+pub has_item_of-ends : (sort : Sort) (s : State) (bytes : List ℕ) → length bytes ≡ 0 → has_item_of sort s bytes ≡ false
+has_item_of-ends sort s [] none = has_item_of-nothing sort s
+has_item_of-ends sort s (c ∷ bytes) none = absurd (omega (arith, none))

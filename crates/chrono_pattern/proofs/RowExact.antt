@@ -262,17 +262,17 @@ item_exact (Zoned field) r q = zoned_exact field r q
 abbrev Items : List Item → Piece
 Items items = InRow ReadsItem items
 
-items_from-more : (s : State) (c : ℕ) (bytes : List ℕ) (next : State × Item) → pattern_step s c ≡ Some next
+pub items_from-more : (s : State) (c : ℕ) (bytes : List ℕ) (next : State × Item) → pattern_step s c ≡ Some next
     → items_from s (c ∷ bytes) ≡ item_before next.1 (items_from next.0 bytes)
 unfolding items_from
 items_from-more s c bytes next e =
     ap (λ (o : Option (State × Item)). elim o as (λ _. List Item) [ None ↦ [] | Some n ↦ item_before n.1 (items_from n.0 bytes) ]) e
 
-items_from-none : (s : State) (c : ℕ) (bytes : List ℕ) → pattern_step s c ≡ None → items_from s (c ∷ bytes) ≡ []
+pub items_from-none : (s : State) (c : ℕ) (bytes : List ℕ) → pattern_step s c ≡ None → items_from s (c ∷ bytes) ≡ []
 unfolding items_from
 items_from-none s c bytes e = ap (λ (o : Option (State × Item)). elim o as (λ _. List Item) [ None ↦ [] | Some n ↦ item_before n.1 (items_from n.0 bytes) ]) e
 
-items_from-nothing : (s : State) → items_from s [] ≡ []
+pub items_from-nothing : (s : State) → items_from s [] ≡ []
 unfolding items_from
 items_from-nothing s = refl
 

@@ -1,5 +1,5 @@
 -- A text that a pattern reads gives the parts that the pattern names, but for a fraction that it may leave out.
-use Rattle.std.proofs.Common.{◌≡◌, ℕ, Bool, true, false, ◌&&◌, ◌||◌, ◌+◌, ◌*◌, neg_ℤ, ◌==◌, List, [], ◌∷◌, length, take, Option, None, Some, Result, Ok, Err, IfOk, ℤ, pos, refl, ap, sym, ◌∙◌, if◌then◌else◌}
+use Rattle.std.proofs.Common.{◌≡◌, ℕ, Bool, true, false, ◌&&◌, ◌||◌, ◌+◌, ◌*◌, neg_ℤ, ◌==◌, List, [], ◌∷◌, length, take, Option, None, Some, Result, Ok, Err, IfOk, ℤ, pos, refl, ap, sym, subst, ◌∙◌, if◌then◌else◌}
 use Rattle.std.proofs.lemmas.Bool.{false≢true}
 use Rattle.std.specs.Int.{int_div_euclid, int_rem_euclid}
 use Rattle.std.specs.Int.RustNames.{int_lt}
@@ -652,17 +652,25 @@ read_like bytes text p is =
     ok_named (text_read bytes text) (named_parts bytes) p
     (end_keeps (front_read bytes text) (named_parts bytes) (keeps bytes Outside (record { rest = text; parsed = no_parts }) no_parts nothing_read)) is
 
-pub date_is_named : (bytes text : List ℕ) (p : Parsed) → text_read bytes text ≡ Ok p → names_date p ≡ names_date (named_parts bytes)
-date_is_named bytes text p is =
-    sym (date_of_shape p) ∙ ap (λ (t : Parsed). names_date t) (read_like bytes text p is).same ∙ date_of_shape (named_parts bytes)
+-- the same of the front of a text
+pub front_like : (bytes text rest : List ℕ) (p : Parsed) → front_read bytes text ≡ Ok (record { rest = rest; parsed = p }) → Like p (named_parts bytes)
+front_like bytes text rest p is =
+    subst (λ (o : Result Progress Stop). Gives o (named_parts bytes)) is
+    (keeps bytes Outside (record { rest = text; parsed = no_parts }) no_parts nothing_read)
 
-same_given : (o other : Option ℤ) → mark o ≡ mark other → is_present o ≡ is_present other
+pub date_of_like : (p q : Parsed) → Like p q → names_date p ≡ names_date q
+date_of_like p q e = sym (date_of_shape p) ∙ ap (λ (t : Parsed). names_date t) e.same ∙ date_of_shape q
+
+pub date_is_named : (bytes text : List ℕ) (p : Parsed) → text_read bytes text ≡ Ok p → names_date p ≡ names_date (named_parts bytes)
+date_is_named bytes text p is = date_of_like p (named_parts bytes) (read_like bytes text p is)
+
+pub same_given : (o other : Option ℤ) → mark o ≡ mark other → is_present o ≡ is_present other
 same_given o other e = sym (given_mark o) ∙ ap (λ (t : Option ℤ). is_present t) e ∙ given_mark other
 
-abbrev is_enough : Option ℤ → Option ℤ → Bool
+abbrev pub is_enough : Option ℤ → Option ℤ → Bool
 is_enough second fraction = if is_present second then true else if is_present fraction then false else true
 
-enough : (s n t m : Option ℤ) → mark s ≡ mark t → (is_present n ≡ true → is_present m ≡ true) → is_enough t m ≡ true → is_enough s n ≡ true
+pub enough : (s n t m : Option ℤ) → mark s ≡ mark t → (is_present n ≡ true → is_present m ≡ true) → is_enough t m ≡ true → is_enough s n ≡ true
 enough (Some v) n t m e f named = refl
 enough None None t m e f named = refl
 enough None (Some w) (Some v) m e f named = cc

@@ -8,6 +8,7 @@ pub mod Subseconds
 pub mod ZonedPieces
 pub mod Patterns
 pub mod Needs
+pub mod ErrorTexts
 pub mod Parts
 pub mod Progress
 pub mod NumberReads
@@ -22,6 +23,7 @@ pub mod PlainParts
 pub mod TimeParts
 pub mod ZonedParts
 pub mod NamedParts
+pub mod Fields
 pub mod Parses
 pub mod Separable
 pub mod Kept

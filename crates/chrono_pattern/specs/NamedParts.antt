@@ -1,8 +1,13 @@
--- Which parts the specifiers of a pattern read.
-use Rattle.std.specs.Prelude.{ℕ, List, [], ◌∷◌, pos, Some, None}
+-- Which parts the specifiers of a pattern read, and what its texts may name by them.
+use Rattle.std.specs.Prelude.{ℕ, Bool, true, false, List, [], ◌∷◌, pos, Some, None}
+use Rattle.chrono_pattern.specs.DateParts.{names_date}
+use Rattle.chrono_pattern.specs.Needs.{has_fraction}
 use Rattle.chrono_pattern.specs.NumberReads.{number_part}
 use Rattle.chrono_pattern.specs.Parts.{no_parts, with_part, with_stamp}
 use Rattle.chrono_pattern.specs.PatternSteps.{pattern_step}
+use Rattle.chrono_pattern.specs.TimeParts.{names_time}
+use Rattle.chrono_pattern.specs.ZonedParts.{names_moment, names_zoned}
+use Rattle.chrono_pattern.specs.declared.names.Names.{Names}
 use Rattle.chrono_pattern.specs.declared.parsed.Parsed.{Parsed}
 use Rattle.chrono_pattern.specs.declared.parsed.Part.{Part}
 use Rattle.chrono_pattern.specs.declared.parsed.Part.TheVariants.{MonthOfYear, DayOfWeek, HourDiv12, NanosecondOfSecond, OffsetFromUtc}
@@ -82,3 +87,21 @@ named_from s (c ∷ bytes) p = elim (pattern_step s c) [ None ↦ p | Some next 
 -- the parts that the specifiers of a pattern read, each as 0
 abbrev pub named_parts : List ℕ → Parsed
 named_parts bytes = named_from Outside bytes no_parts
+
+-- the parts with no fraction, unless each text gives one
+abbrev pub with_sure_fraction : Bool → Parsed → Parsed
+with_sure_fraction true p = p
+with_sure_fraction false p = record p { nanosecond = None }
+
+-- the parts that each text of the pattern gives, each as 0; a fraction behind a point may be left out
+abbrev pub sure_parts : List ℕ → Parsed
+sure_parts bytes = with_sure_fraction (has_fraction bytes) (named_parts bytes)
+
+-- what the texts of the pattern may name
+abbrev pub names_told : List ℕ → Names
+names_told bytes = record {
+  date = names_date (sure_parts bytes);
+  time = names_time (sure_parts bytes);
+  date_time = names_moment (sure_parts bytes);
+  zoned = names_zoned (sure_parts bytes);
+}

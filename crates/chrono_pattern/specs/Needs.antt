@@ -1,5 +1,5 @@
--- Which patterns write a part of the time of day, and which an offset from UTC.
-use Rattle.std.specs.Prelude.{ℕ, Bool, true, false, ◌||◌, List, [], ◌∷◌, Some, None}
+-- Which patterns write a part of a date, of the time of day or of the offset from UTC, and which give a fraction in each text.
+use Rattle.std.specs.Prelude.{ℕ, Bool, true, false, not, ◌||◌, List, [], ◌∷◌, Some, None}
 use Rattle.chrono_pattern.specs.PatternSteps.{pattern_step}
 use Rattle.chrono_pattern.specs.declared.item.NumberField.{NumberField}
 use Rattle.chrono_pattern.specs.declared.item.NumberField.TheVariants.{Hour, SpacedHour, HalfHour, SpacedHalfHour, Minute, Second, Nanosecond}
@@ -13,6 +13,8 @@ use Rattle.chrono_pattern.specs.declared.item.Item.{Item}
 use Rattle.chrono_pattern.specs.declared.item.Item.TheVariants.{Empty, Byte, Number, Word, Group, Subsecond, Zoned}
 use Rattle.chrono_pattern.specs.declared.item.State.{State}
 use Rattle.chrono_pattern.specs.declared.item.State.TheVariants.{Outside}
+use Rattle.chrono_pattern.specs.declared.needs.Sort.{Sort}
+use Rattle.chrono_pattern.specs.declared.needs.Sort.TheVariants.{OfDate, OfTime, OfOffset, OfFraction}
 
 -- the number is of the time of day
 abbrev pub number_needs_time : NumberField → Bool
@@ -56,14 +58,30 @@ item_needs_time (Group group) = group_needs_time group
 item_needs_time (Subsecond point count) = true
 item_needs_time (Zoned field) = zoned_needs_time field
 
--- some item of the bytes is
-unfoldable pub needs_time_from : State → List ℕ → Bool
-needs_time_from s [] = false
-needs_time_from s (c ∷ bytes) = elim (pattern_step s c) [ None ↦ false | Some next ↦ item_needs_time next.1 || needs_time_from next.0 bytes ]
+-- the number is of a date: each other one
+abbrev pub number_needs_date : NumberField → Bool
+number_needs_date field = not (number_needs_time field)
 
--- the pattern has a specifier of the time of day
-abbrev pub needs_time : List ℕ → Bool
-needs_time bytes = needs_time_from Outside bytes
+-- the word is
+abbrev pub word_needs_date : WordField → Bool
+word_needs_date word = not (word_needs_time word)
+
+-- the group is
+abbrev pub group_needs_date : GroupField → Bool
+group_needs_date HourMinute = false
+group_needs_date HourMinuteSecond = false
+group_needs_date HalfClock = false
+group_needs_date _ = true
+
+-- the item is; a piece of a date and a time of day is of both
+abbrev pub item_needs_date : Item → Bool
+item_needs_date Empty = false
+item_needs_date (Byte c) = false
+item_needs_date (Number field p) = number_needs_date field
+item_needs_date (Word word) = word_needs_date word
+item_needs_date (Group group) = group_needs_date group
+item_needs_date (Subsecond point count) = false
+item_needs_date (Zoned field) = zoned_needs_time field
 
 -- the piece is of an offset
 abbrev pub zoned_needs_offset : ZonedField → Bool
@@ -77,11 +95,41 @@ abbrev pub item_needs_offset : Item → Bool
 item_needs_offset (Zoned field) = zoned_needs_offset field
 item_needs_offset _ = false
 
+-- the number is a fraction of a second
+abbrev pub is_fraction : NumberField → Bool
+is_fraction Nanosecond = true
+is_fraction _ = false
+
+-- each text of the item gives a fraction of a second; one behind a point may be left out
+abbrev pub gives_fraction : Item → Bool
+gives_fraction (Number field p) = is_fraction field
+gives_fraction (Subsecond point count) = not point
+gives_fraction _ = false
+
+-- the item is of the sort
+abbrev pub is_item_of : Sort → Item → Bool
+is_item_of OfDate item = item_needs_date item
+is_item_of OfTime item = item_needs_time item
+is_item_of OfOffset item = item_needs_offset item
+is_item_of OfFraction item = gives_fraction item
+
 -- some item of the bytes is
-unfoldable pub needs_offset_from : State → List ℕ → Bool
-needs_offset_from s [] = false
-needs_offset_from s (c ∷ bytes) = elim (pattern_step s c) [ None ↦ false | Some next ↦ item_needs_offset next.1 || needs_offset_from next.0 bytes ]
+unfoldable pub has_item_of : Sort → State → List ℕ → Bool
+has_item_of sort s [] = false
+has_item_of sort s (c ∷ bytes) = elim (pattern_step s c) [ None ↦ false | Some next ↦ is_item_of sort next.1 || has_item_of sort next.0 bytes ]
+
+-- the pattern has a specifier of a date
+abbrev pub needs_date : List ℕ → Bool
+needs_date bytes = has_item_of OfDate Outside bytes
+
+-- the pattern has a specifier of the time of day
+abbrev pub needs_time : List ℕ → Bool
+needs_time bytes = has_item_of OfTime Outside bytes
 
 -- the pattern has a specifier of the offset from UTC
 abbrev pub needs_offset : List ℕ → Bool
-needs_offset bytes = needs_offset_from Outside bytes
+needs_offset bytes = has_item_of OfOffset Outside bytes
+
+-- each text of the pattern gives a fraction of a second
+abbrev pub has_fraction : List ℕ → Bool
+has_fraction bytes = has_item_of OfFraction Outside bytes

@@ -42,6 +42,12 @@ impl Parsed {
     /// parsed.to_date().ok() // Some(2024-02-29)
     /// let parsed = Pattern::new(b"%a %d.%m.%y").ok()?.read_parts(b"Fri 29.02.24").ok()?;
     /// parsed.to_date().err() // Some(Impossible)
+    /// Pattern::new(b"%Y-%j").ok()?.read_parts(b"2024-366").ok()?.to_date().ok() // Some(2024-12-31)
+    /// Pattern::new(b"%Y-%j").ok()?.read_parts(b"2023-366").ok()?.to_date().err() // Some(Impossible)
+    /// Pattern::new(b"%G-W%V-%u").ok()?.read_parts(b"2020-W53-5").ok()?.to_date().ok() // Some(2021-01-01)
+    /// Pattern::new(b"%G-W%V-%u").ok()?.read_parts(b"2021-W53-5").ok()?.to_date().err() // Some(Impossible)
+    /// Pattern::new(b"%d.%m.%y").ok()?.read_parts(b"01.01.69").ok()?.to_date().ok() // Some(2069-01-01)
+    /// Pattern::new(b"%d.%m.%y").ok()?.read_parts(b"01.01.70").ok()?.to_date().ok() // Some(1970-01-01)
     /// Parsed::new().to_date().err() // Some(NotEnough)
     /// ```
     pub fn to_date(&self) -> Result<NaiveDate, ReadFault>

@@ -1,5 +1,5 @@
 //! `DelayedFormat`: the text of a date-time by a pattern, written where it is printed.
-ghost use Rattle.std.specs.Prelude.{◌≡◌, ◌↔◌, ℕ, List, false, Some, IfSome, IsOk, IsSome};
+ghost use Rattle.std.specs.Prelude.{◌≡◌, ◌↔◌, ℕ, ℤ, List, false, Some, IfSome, IsOk, IsSome};
 ghost use Rattle.std.specs.Fmt.{WritesOnOk, WritesStyledOnOk};
 ghost use Rattle.std.specs.Str.{IsAscii, IsUtf8};
 ghost use Rattle.chrono_datetime.specs.Moment.{IsMoment, moment};
@@ -7,7 +7,7 @@ ghost use Rattle.chrono_datetime.specs.Time.{TimeOfDay};
 ghost use Rattle.chrono_instant.specs.Offsets.{IsOffset};
 ghost use Rattle.chrono_zoned.specs.Zoned.{local_at, offset_at};
 ghost use Rattle.chrono_pattern.specs.DelayedPieces.{IsAdded};
-ghost use Rattle.chrono_pattern.specs.Needs.{needs_offset, needs_time};
+ghost use Rattle.chrono_pattern.specs.Needs.{needs_date, needs_offset, needs_time};
 ghost use Rattle.chrono_pattern.specs.PatternItems.{IsAsciiItem};
 ghost use Rattle.chrono_pattern.specs.Patterns.{pattern_text, text_at_offset, text_of_item};
 
@@ -109,6 +109,26 @@ impl<'a> Pattern<'a> {
             return None;
         }
         self.delayed(NaiveDateTime::new(date, NaiveTime::MIN))
+    }
+
+    /// Returns the text of `time` as a value that writes it where it is printed: that of [`format_time`](Self::format_time). Returns `None`
+    /// if the pattern needs a date or an offset, or if its bytes are not UTF-8.
+    ///
+    /// ```
+    /// use chrono_datetime::NaiveTime;
+    /// let time = NaiveTime::from_hms_opt(21, 30, 0)?;
+    /// Pattern::new(b"%l:%M %P").ok()?.delayed_time(time)?.to_string(rt.alloc()).ok()? // " 9:30 pm"
+    /// Pattern::new(b"%l:%M %P, %a").ok()?.delayed_time(time).is_none() // true
+    /// ```
+    pub fn delayed_time(&self, time: NaiveTime) -> Option<DelayedFormat<'a>>
+        // The text is the same on each date.
+        ensures text { IfSome result (λ text. (n : ℤ) → text ≡ pattern_text self.now (moment n time)) }
+        ensures exists { IsSome result ↔ ((needs_date self.now ≡ false) × (needs_offset self.now ≡ false) × IsUtf8 self.now) }
+    {
+        if self.needs_date() {
+            return None;
+        }
+        self.delayed(NaiveDateTime::new(NaiveDate::default(), time))
     }
 }
 

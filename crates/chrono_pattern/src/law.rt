@@ -1,5 +1,5 @@
 //! Laws of patterns, each as the contract of a function.
-ghost use Rattle.std.specs.Prelude.{◌≡◌, ◌↔◌, ◌<◌, ◌+◌, ◌-◌, ◌*◌, ◌/◌, ◌%◌, ℕ, ℤ, Bool, List, [], ◌∷◌, false, true, Some, Ok, Err, codes, neg_ℤ, pos, ◌-ℤ◌, unsigned_abs};
+ghost use Rattle.std.specs.Prelude.{◌≡◌, ◌≢◌, ◌↔◌, ◌<◌, ◌+◌, ◌-◌, ◌*◌, ◌/◌, ◌%◌, ℕ, ℤ, Bool, List, [], ◌∷◌, ◌++◌, false, true, Some, Ok, Err, codes, neg_ℤ, pos, ◌-ℤ◌, unsigned_abs};
 ghost use Rattle.std.specs.List.{list_all};
 ghost use Rattle.std.specs.Str.{IsAscii, IsUtf8};
 ghost use Rattle.chrono_datetime.specs.Days.{IsDate, day_of, month_of, ordinal_of, year_of};
@@ -12,13 +12,15 @@ ghost use Rattle.chrono_datetime.specs.Weeks.{iso_week_of, iso_year_of, weekday_
 ghost use Rattle.chrono_datetime.specs.declared.Weekday.TheVariants.{Mon, Sun};
 ghost use Rattle.chrono_instant.specs.Instants.{epoch_second};
 ghost use Rattle.chrono_instant.specs.Offsets.{IsOffset};
-ghost use Rattle.chrono_pattern.specs.DateParts.{is_present, names_date};
-ghost use Rattle.chrono_pattern.specs.NamedParts.{named_parts};
+ghost use Rattle.chrono_pattern.specs.DateParts.{is_present, names_date, year_fits};
+ghost use Rattle.chrono_pattern.specs.Fields.{fields_given};
+ghost use Rattle.chrono_pattern.specs.NamedParts.{named_parts, sure_parts};
+ghost use Rattle.chrono_pattern.specs.Needs.{needs_date, needs_offset, needs_time};
 ghost use Rattle.chrono_text.specs.Numbers.{signed};
 ghost use Rattle.chrono_pattern.specs.OffsetTexts.{GivesOffset, offset_written};
 ghost use Rattle.chrono_pattern.specs.Progress.{is_of};
 ghost use Rattle.chrono_pattern.specs.declared.class.Class.TheVariants.{Gap};
-ghost use Rattle.chrono_pattern.specs.Parses.{IsDateBy, IsMomentBy, IsTimeBy, IsZonedBy};
+ghost use Rattle.chrono_pattern.specs.Parses.{IsDateBy, IsMomentBy, IsParseError, IsTimeBy, IsZonedBy};
 ghost use Rattle.chrono_pattern.specs.Parts.{no_parts};
 ghost use Rattle.chrono_pattern.specs.PatternItems.{pattern_items};
 ghost use Rattle.chrono_pattern.specs.Kept.{LosesNothing, given_parts, keeps_stamp, keeps_year, tells_date, tells_moment, tells_time, tells_zoned};
@@ -27,13 +29,15 @@ ghost use Rattle.chrono_pattern.specs.Separable.{is_separable};
 ghost use Rattle.chrono_pattern.specs.Reads.{front_read, text_read};
 ghost use Rattle.chrono_pattern.specs.TextPieces.{Reads, ReadsFront};
 ghost use Rattle.chrono_pattern.specs.YearWeeks.{week_from_monday, week_from_sunday};
-ghost use Rattle.chrono_pattern.specs.declared.error.ReadFault.TheVariants.{Impossible, Invalid, OutOfRange, TooLong, TooShort};
+ghost use Rattle.chrono_pattern.specs.declared.error.ReadFault.TheVariants.{Impossible, Invalid, NotEnough, OutOfRange, TooLong, TooShort};
 ghost use Rattle.chrono_pattern.specs.CutFractions.{as_written};
-ghost use Rattle.chrono_pattern.specs.TimeParts.{IsClockTime, names_second, names_time};
+ghost use Rattle.chrono_pattern.specs.TimeParts.{IsClockTime, names_second, names_time, second_fits};
 ghost use Rattle.chrono_pattern.specs.ZonedParts.{names_moment, names_zoned};
 ghost use Rattle.chrono_pattern.specs.Patterns.{IsPattern, pattern_error, pattern_text, text_at_offset};
+ghost use Rattle.chrono_pattern.specs.declared.error.PatternReadError.{PatternReadError};
 ghost use Rattle.chrono_pattern.specs.declared.error.PatternFault.TheVariants.{Cut, Unknown};
 ghost use Rattle.chrono_pattern.specs.declared.parsed.Parsed.{Parsed};
+ghost use Rattle.chrono_pattern.specs.declared.stop.Stop.{Stop};
 
 /// States known texts of times of day: midnight and noon on the clock of twelve hours, an hour of one digit with each padding, and a
 /// leap second with its fraction.
@@ -43,6 +47,8 @@ pub fn known_texts_of_times()
     ensures hour { (n : ℤ) → pattern_text (codes "%H %k %-H %_I") (moment n (time_at 3 0 0 0)) ≡ codes "03  3 3  3" }
     ensures leap { (n : ℤ) → pattern_text (codes "%T%.f %f") (moment n (time_at 23 59 59 1_500_000_000))
         ≡ codes "23:59:60.500 500000000" }
+    ensures leap_of_an_hour { (n : ℤ) → pattern_text (codes "%S %-S %_S") (moment n (time_at 8 59 59 1_999_999_999)) ≡ codes "60 60 60" }
+    ensures hour_before_one { (n : ℤ) → pattern_text (codes "%I %-I %l %p") (moment n (time_at 0 59 0 0)) ≡ codes "12 12 12 AM" }
     ensures digits { (n : ℤ) → pattern_text (codes "%R%.3f %6f%.f") (moment n (time_at 9 5 0 0)) ≡ codes "09:05.000 000000" }
 {}
 
@@ -117,7 +123,8 @@ pub fn known_errors()
 /// - a name in small letters, and a number behind blanks;
 /// - a year below 0, and a year of four digits with digits behind it;
 /// - midnight on the clock of twelve hours, and a leap second with its fraction;
-/// - Sunday by its number and by its name.
+/// - Sunday by its number and by its name;
+/// - the greatest numbers: second 60, day 366 of the year, ISO week 53, and week 0 of the year, which is the least.
 pub fn known_readings()
     ensures date { text_read (codes "%d %b %Y") (codes "9 feb  2024")
         ≡ Ok (record no_parts { day = Some (pos 9); month = Some (pos 2); year = Some (pos 2024) }) }
@@ -129,12 +136,20 @@ pub fn known_readings()
     ensures leap { text_read (codes "%S%.f") (codes "60.5")
         ≡ Ok (record no_parts { second = Some (pos 60); nanosecond = Some (pos 500_000_000) }) }
     ensures sunday { text_read (codes "%w %A") (codes "0 SUNDAY") ≡ Ok (record no_parts { weekday = Some (pos 7) }) }
+    ensures blanks { text_read (codes "%d %m") (codes "9" ++ (9 ∷ 10 ∷ 11 ∷ 12 ∷ 13 ∷ 32 ∷ codes "2"))
+        ≡ Ok (record no_parts { day = Some (pos 9); month = Some (pos 2) }) }
+    ensures sixty { text_read (codes "%S") (codes "60") ≡ Ok (record no_parts { second = Some (pos 60) }) }
+    ensures last_day { text_read (codes "%j") (codes "366") ≡ Ok (record no_parts { ordinal = Some (pos 366) }) }
+    ensures last_week { text_read (codes "%V") (codes "53") ≡ Ok (record no_parts { isoweek = Some (pos 53) }) }
+    ensures week_zero { text_read (codes "%U %W") (codes "00 0") ≡ Ok (record no_parts { week_from_sun = Some (pos 0); week_from_mon = Some (pos 0) }) }
 {}
 
 /// States where known texts are wrong, by the bytes that are left:
 ///
-/// - a second value of a field, and a month 13;
-/// - another byte than that of the pattern;
+/// - a second value of a field, also in a group;
+/// - numbers out of range: month 13, day 32, second 61, hour 24, minute 60, day 0 and 367 of the year, ISO week 54, and week 54 of the year;
+/// - hour 00 of the clock of twelve hours, and Sunday as 7 by `%w`, since neither is written so;
+/// - another byte than that of the pattern, another word, and no digit;
 /// - an end that comes too soon, and one that comes too late.
 pub fn known_reading_errors()
     ensures twice { text_read (codes "%d %d") (codes "1 2") ≡ Err (record { cause = Impossible; left = 1 }) }
@@ -142,6 +157,38 @@ pub fn known_reading_errors()
     ensures letter { text_read (codes "%d.") (codes "12-") ≡ Err (record { cause = Invalid; left = 1 }) }
     ensures short { text_read (codes "%b") (codes "ma") ≡ Err (record { cause = TooShort; left = 2 }) }
     ensures long { text_read (codes "%y") (codes "2024") ≡ Err (record { cause = TooLong; left = 2 }) }
+    ensures other_hour { text_read (codes "%R %H") (codes "09:30 10") ≡ Err (record { cause = Impossible; left = 2 }) }
+    ensures day { text_read (codes "%d.") (codes "32.") ≡ Err (record { cause = OutOfRange; left = 3 }) }
+    ensures second { text_read (codes "%S") (codes "61") ≡ Err (record { cause = OutOfRange; left = 2 }) }
+    ensures hour { text_read (codes "%H") (codes "24") ≡ Err (record { cause = OutOfRange; left = 2 }) }
+    ensures minute { text_read (codes "%R") (codes "09:60") ≡ Err (record { cause = OutOfRange; left = 2 }) }
+    ensures day_zero { text_read (codes "%j") (codes "000") ≡ Err (record { cause = OutOfRange; left = 3 }) }
+    ensures day_of_year { text_read (codes "%j") (codes "367") ≡ Err (record { cause = OutOfRange; left = 3 }) }
+    ensures iso_week { text_read (codes "W%V") (codes "W54") ≡ Err (record { cause = OutOfRange; left = 2 }) }
+    ensures week { text_read (codes "%U") (codes "54") ≡ Err (record { cause = OutOfRange; left = 2 }) }
+    ensures half_hour { text_read (codes "%I") (codes "00") ≡ Err (record { cause = OutOfRange; left = 2 }) }
+    ensures sunday { text_read (codes "%w") (codes "7") ≡ Err (record { cause = OutOfRange; left = 1 }) }
+    ensures slash { text_read (codes "%F") (codes "2024/02/29") ≡ Err (record { cause = Invalid; left = 6 }) }
+    ensures no_month { text_read (codes "%B") (codes "Foo") ≡ Err (record { cause = Invalid; left = 3 }) }
+    ensures no_half { text_read (codes "%p") (codes "xm") ≡ Err (record { cause = Invalid; left = 2 }) }
+    ensures no_weekday { text_read (codes "%a") (codes "Foo") ≡ Err (record { cause = Invalid; left = 3 }) }
+    ensures no_digit { text_read (codes "%H") (codes "x") ≡ Err (record { cause = Invalid; left = 1 }) }
+    ensures no_minute { text_read (codes "%R") (codes "09:") ≡ Err (record { cause = TooShort; left = 0 }) }
+    ensures second_behind { text_read (codes "%R") (codes "09:30:15") ≡ Err (record { cause = TooLong; left = 3 }) }
+{}
+
+/// States which values known parts fit:
+///
+/// - a year of the century alone is from 1970 to 2069, so 69 is 2069 and 70 is 1970. With its century it is any year;
+/// - a leap second is second 60, and no other second is.
+pub fn known_fitting_values()
+    ensures last_of_window { year_fits (record no_parts { year_mod_100 = Some (pos 69) }) (pos 2069) ≡ true }
+    ensures before_window { year_fits (record no_parts { year_mod_100 = Some (pos 69) }) (pos 1969) ≡ false }
+    ensures first_of_window { year_fits (record no_parts { year_mod_100 = Some (pos 70) }) (pos 1970) ≡ true }
+    ensures behind_window { year_fits (record no_parts { year_mod_100 = Some (pos 70) }) (pos 2070) ≡ false }
+    ensures century { year_fits (record no_parts { year_div_100 = Some (pos 18); year_mod_100 = Some (pos 70) }) (pos 1870) ≡ true }
+    ensures leap { second_fits (record no_parts { second = Some (pos 60) }) (time_at 8 59 59 1_000_000_000) ≡ true }
+    ensures no_leap { second_fits (record no_parts { second = Some (pos 60) }) (time_at 8 59 59 999_999_999) ≡ false }
 {}
 
 /// States known texts of offsets from UTC, of the seconds from 1970, and of a date-time with its offset:
@@ -171,6 +218,7 @@ pub fn known_readings_of_offsets()
     ensures blank { text_read (codes "%:z") (codes "-00 30") ≡ Ok (record no_parts { offset = Some (neg_ℤ (pos 1_800)) }) }
     ensures seconds { text_read (codes "%::z") (codes "-05:00:15") ≡ Ok (record no_parts { offset = Some (neg_ℤ (pos 18_015)) }) }
     ensures hours { text_read (codes "%:::z.") (codes "+09.") ≡ Ok (record no_parts { offset = Some (pos 32_400) }) }
+    ensures hours_alone { text_read (codes "%#z") (codes "+05") ≡ Ok (record no_parts { offset = Some (pos 18_000) }) }
     ensures utc { text_read (codes "%#z") (codes "Z") ≡ Ok (record no_parts { offset = Some (pos 0) }) }
     ensures zone { text_read (codes "%Z %M") (codes "Europe/Oslo 30") ≡ Ok (record no_parts { minute = Some (pos 30) }) }
     ensures before { text_read (codes "%s") (codes "-86400") ≡ Ok (record no_parts { timestamp = Some (neg_ℤ (pos 86_400)) }) }
@@ -218,6 +266,8 @@ pub fn known_reading_errors_of_offsets()
     ensures sixty { text_read (codes "%z") (codes "+0960") ≡ Err (record { cause = OutOfRange; left = 2 }) }
     ensures day { text_read (codes "%z") (codes "-2400") ≡ Err (record { cause = OutOfRange; left = 5 }) }
     ensures short { text_read (codes "%:z") (codes "+09:") ≡ Err (record { cause = TooShort; left = 0 }) }
+    ensures empty { text_read (codes "%z") [] ≡ Err (record { cause = TooShort; left = 0 }) }
+    ensures letter { text_read (codes "%z") (codes "+x9") ≡ Err (record { cause = Invalid; left = 2 }) }
     ensures sign { text_read (codes "%:::z") (codes "09") ≡ Err (record { cause = Invalid; left = 2 }) }
     ensures twice { text_read (codes "%z%z") (codes "+0930-0930") ≡ Err (record { cause = Impossible; left = 5 }) }
     ensures late { text_read (codes "%s") (codes "8210266876800") ≡ Err (record { cause = OutOfRange; left = 13 }) }
@@ -236,6 +286,122 @@ pub fn fields_tell_what_is_named()
         → names_moment parts ≡ names_moment (named_parts bytes) }
     ensures zoned { (bytes text : List ℕ) → (parts : Parsed) → names_second (named_parts bytes) ≡ true → text_read bytes text ≡ Ok parts
         → names_zoned parts ≡ names_zoned (named_parts bytes) }
+{}
+
+/// States which parts suffice for a date, each given as any number, and that fewer do not:
+///
+/// - a year with a month and a day, or with a day of the year; the place of the year in its century serves as the year, the century alone does not;
+/// - an ISO year with a week and a weekday; the place of the ISO year in its century does not serve;
+/// - a year with a week from Sunday or from Monday, and a weekday.
+pub fn known_names_of_dates()
+    ensures calendar { (v : ℤ) → names_date (record no_parts { year = Some v; month = Some v; day = Some v }) ≡ true }
+    ensures in_century { (v : ℤ) → names_date (record no_parts { year_mod_100 = Some v; month = Some v; day = Some v }) ≡ true }
+    ensures century_alone { (v : ℤ) → names_date (record no_parts { year_div_100 = Some v; month = Some v; day = Some v }) ≡ false }
+    ensures no_year { (v : ℤ) → names_date (record no_parts { month = Some v; day = Some v }) ≡ false }
+    ensures no_month { (v : ℤ) → names_date (record no_parts { year = Some v; day = Some v }) ≡ false }
+    ensures no_day { (v : ℤ) → names_date (record no_parts { year = Some v; month = Some v }) ≡ false }
+    ensures ordinal { (v : ℤ) → names_date (record no_parts { year = Some v; ordinal = Some v }) ≡ true }
+    ensures ordinal_in_century { (v : ℤ) → names_date (record no_parts { year_mod_100 = Some v; ordinal = Some v }) ≡ true }
+    ensures ordinal_alone { (v : ℤ) → names_date (record no_parts { ordinal = Some v }) ≡ false }
+    ensures iso { (v : ℤ) → names_date (record no_parts { isoyear = Some v; isoweek = Some v; weekday = Some v }) ≡ true }
+    ensures iso_in_century { (v : ℤ) → names_date (record no_parts { isoyear_mod_100 = Some v; isoweek = Some v; weekday = Some v }) ≡ false }
+    ensures iso_of_year { (v : ℤ) → names_date (record no_parts { year = Some v; isoweek = Some v; weekday = Some v }) ≡ false }
+    ensures no_iso_week { (v : ℤ) → names_date (record no_parts { isoyear = Some v; weekday = Some v }) ≡ false }
+    ensures no_iso_weekday { (v : ℤ) → names_date (record no_parts { isoyear = Some v; isoweek = Some v }) ≡ false }
+    ensures sunday_weeks { (v : ℤ) → names_date (record no_parts { year = Some v; week_from_sun = Some v; weekday = Some v }) ≡ true }
+    ensures monday_weeks { (v : ℤ) → names_date (record no_parts { year = Some v; week_from_mon = Some v; weekday = Some v }) ≡ true }
+    ensures no_weekday_from_sunday { (v : ℤ) → names_date (record no_parts { year = Some v; week_from_sun = Some v }) ≡ false }
+    ensures no_weekday_from_monday { (v : ℤ) → names_date (record no_parts { year = Some v; week_from_mon = Some v }) ≡ false }
+    ensures weeks_of_no_year { (v : ℤ) → names_date (record no_parts { week_from_sun = Some v; week_from_mon = Some v; weekday = Some v }) ≡ false }
+{}
+
+/// States which parts suffice for a time of day, for a date-time and for one with its offset, each given as any number, and that fewer do not:
+///
+/// - a half of the day, an hour of it and a minute; a fraction needs its second;
+/// - a date with a time of day, or the seconds from 1970 alone;
+/// - both with an offset, or the seconds from 1970 alone.
+pub fn known_names_of_times()
+    ensures minute { (v : ℤ) → names_time (record no_parts { hour_div_12 = Some v; hour_mod_12 = Some v; minute = Some v }) ≡ true }
+    ensures second { (v : ℤ) → names_time (record no_parts { hour_div_12 = Some v; hour_mod_12 = Some v; minute = Some v; second = Some v }) ≡ true }
+    ensures fraction { (v : ℤ) → names_time (record no_parts { hour_div_12 = Some v; hour_mod_12 = Some v; minute = Some v; second = Some v; nanosecond = Some v }) ≡ true }
+    ensures fraction_alone { (v : ℤ) → names_time (record no_parts { hour_div_12 = Some v; hour_mod_12 = Some v; minute = Some v; nanosecond = Some v }) ≡ false }
+    ensures no_half { (v : ℤ) → names_time (record no_parts { hour_mod_12 = Some v; minute = Some v }) ≡ false }
+    ensures no_hour { (v : ℤ) → names_time (record no_parts { hour_div_12 = Some v; minute = Some v }) ≡ false }
+    ensures no_minute { (v : ℤ) → names_time (record no_parts { hour_div_12 = Some v; hour_mod_12 = Some v }) ≡ false }
+    ensures date_time { (v : ℤ) → names_moment (record no_parts { year = Some v; month = Some v; day = Some v; hour_div_12 = Some v; hour_mod_12 = Some v; minute = Some v }) ≡ true }
+    ensures date_alone { (v : ℤ) → names_moment (record no_parts { year = Some v; month = Some v; day = Some v }) ≡ false }
+    ensures time_alone { (v : ℤ) → names_moment (record no_parts { hour_div_12 = Some v; hour_mod_12 = Some v; minute = Some v }) ≡ false }
+    ensures stamp { (v : ℤ) → names_moment (record no_parts { timestamp = Some v }) ≡ true }
+    ensures zoned { (v : ℤ) → names_zoned (record no_parts { year = Some v; month = Some v; day = Some v; hour_div_12 = Some v; hour_mod_12 = Some v; minute = Some v; offset = Some v }) ≡ true }
+    ensures no_offset { (v : ℤ) → names_zoned (record no_parts { year = Some v; month = Some v; day = Some v; hour_div_12 = Some v; hour_mod_12 = Some v; minute = Some v }) ≡ false }
+    ensures offset_alone { (v : ℤ) → names_zoned (record no_parts { offset = Some v }) ≡ false }
+    ensures stamp_in_utc { (v : ℤ) → names_zoned (record no_parts { timestamp = Some v }) ≡ true }
+{}
+
+/// States which specifiers are of a date, of the time of day, of the offset, or of none of them.
+pub fn known_needs()
+    ensures dates { list_all needs_date (codes "%Y" ∷ codes "%C" ∷ codes "%y" ∷ codes "%q" ∷ codes "%m" ∷ codes "%b" ∷ codes "%B" ∷ codes "%h" ∷ codes "%d" ∷ codes "%e" ∷ codes "%a" ∷ codes "%A" ∷ codes "%w" ∷ codes "%u" ∷ codes "%U" ∷ codes "%W" ∷ codes "%G" ∷ codes "%g" ∷ codes "%V" ∷ codes "%j" ∷ codes "%D" ∷ codes "%x" ∷ codes "%F" ∷ codes "%v" ∷ codes "%c" ∷ codes "%s" ∷ codes "%+" ∷ []) ≡ true }
+    ensures no_dates { needs_date (codes "%H%k%I%l%P%p%M%S%f%3f%.f%.3f%R%T%X%r%z%:z%::z%:::z%#z%Z") ≡ false }
+    ensures times { list_all needs_time (codes "%H" ∷ codes "%k" ∷ codes "%I" ∷ codes "%l" ∷ codes "%P" ∷ codes "%p" ∷ codes "%M" ∷ codes "%S" ∷ codes "%f" ∷ codes "%3f" ∷ codes "%.f" ∷ codes "%.3f" ∷ codes "%R" ∷ codes "%T" ∷ codes "%X" ∷ codes "%r" ∷ codes "%c" ∷ codes "%s" ∷ codes "%+" ∷ []) ≡ true }
+    ensures no_times { needs_time (codes "%Y%C%y%q%m%b%B%h%d%e%a%A%w%u%U%W%G%g%V%j%D%x%F%v%z%:z%::z%:::z%#z%Z") ≡ false }
+    ensures offsets { list_all needs_offset (codes "%z" ∷ codes "%:z" ∷ codes "%::z" ∷ codes "%:::z" ∷ codes "%#z" ∷ codes "%Z" ∷ codes "%+" ∷ []) ≡ true }
+    ensures no_offsets { needs_offset (codes "%Y%C%y%q%m%b%B%h%d%e%a%A%w%u%U%W%G%g%V%j%D%x%F%v%H%k%I%l%P%p%M%S%f%3f%.f%.3f%R%T%X%r%c%s") ≡ false }
+    ensures bytes { list_all needs_date (codes "%%" ∷ codes "%n%t." ∷ []) ≡ false }
+{}
+
+/// States what no text of a pattern names, by its specifiers alone. They tell `sure_parts`, the parts that each text gives:
+///
+/// - If those name no date, no text names one. Else each text does.
+/// - The same is so of a time of day, of a date-time and of one with its offset. But a text may give a fraction that it need not give, and no
+///   second before it. Such a text names no time of day.
+/// - `%R%.f` may name a time of day, since a text may leave the fraction out. `%R%f` names none.
+pub fn specifiers_tell_what_no_text_names()
+    ensures no_date { (bytes text : List ℕ) → (parts : Parsed) → names_date (sure_parts bytes) ≡ false → text_read bytes text ≡ Ok parts
+        → names_date parts ≡ false }
+    ensures no_time { (bytes text : List ℕ) → (parts : Parsed) → names_time (sure_parts bytes) ≡ false → text_read bytes text ≡ Ok parts
+        → names_time parts ≡ false }
+    ensures no_date_time { (bytes text : List ℕ) → (parts : Parsed) → names_moment (sure_parts bytes) ≡ false → text_read bytes text ≡ Ok parts
+        → names_moment parts ≡ false }
+    ensures no_zoned { (bytes text : List ℕ) → (parts : Parsed) → names_zoned (sure_parts bytes) ≡ false → text_read bytes text ≡ Ok parts
+        → names_zoned parts ≡ false }
+    ensures date { (bytes text : List ℕ) → (parts : Parsed) → text_read bytes text ≡ Ok parts → names_date parts ≡ names_date (sure_parts bytes) }
+    ensures time { (bytes text : List ℕ) → (parts : Parsed) → text_read bytes text ≡ Ok parts → names_second parts ≡ true
+        → names_time parts ≡ names_time (sure_parts bytes) }
+    ensures date_time { (bytes text : List ℕ) → (parts : Parsed) → text_read bytes text ≡ Ok parts → names_second parts ≡ true
+        → names_moment parts ≡ names_moment (sure_parts bytes) }
+    ensures zoned { (bytes text : List ℕ) → (parts : Parsed) → text_read bytes text ≡ Ok parts → names_second parts ≡ true
+        → names_zoned parts ≡ names_zoned (sure_parts bytes) }
+    ensures fraction_left_out { names_time (sure_parts (codes "%R%.f")) ≡ true }
+    ensures fraction_alone { names_time (sure_parts (codes "%R%f")) ≡ false }
+{}
+
+/// States that no place of a text is why fields do not suffice: a reader stops for other causes. So `NotEnough` is told by the parts alone.
+pub fn no_text_stops_for_missing_fields()
+    ensures whole { (bytes text : List ℕ) → (stop : Stop) → text_read bytes text ≡ Err stop → stop.cause ≢ NotEnough }
+    ensures front { (bytes text : List ℕ) → (stop : Stop) → front_read bytes text ≡ Err stop → stop.cause ≢ NotEnough }
+{}
+
+/// States that the error of a text is `NotEnough` exactly if the specifiers of the pattern name no such value:
+///
+/// - of a date in any case;
+/// - of a time of day, of a date-time and of one with its offset, if the pattern has no fraction or a second too.
+pub fn not_enough_is_told_by_the_specifiers()
+    ensures date { (bytes text : List ℕ) → (e : PatternReadError) → IsParseError names_date bytes text e
+        → (e.cause ≡ NotEnough) ↔ (names_date (sure_parts bytes) ≡ false) }
+    ensures time { (bytes text : List ℕ) → (e : PatternReadError) → names_second (named_parts bytes) ≡ true → IsParseError names_time bytes text e
+        → (e.cause ≡ NotEnough) ↔ (names_time (sure_parts bytes) ≡ false) }
+    ensures date_time { (bytes text : List ℕ) → (e : PatternReadError) → names_second (named_parts bytes) ≡ true
+        → IsParseError names_moment bytes text e → (e.cause ≡ NotEnough) ↔ (names_moment (sure_parts bytes) ≡ false) }
+    ensures zoned { (bytes text : List ℕ) → (e : PatternReadError) → names_second (named_parts bytes) ≡ true → IsParseError names_zoned bytes text e
+        → (e.cause ≡ NotEnough) ↔ (names_zoned (sure_parts bytes) ≡ false) }
+{}
+
+/// States that which fields are given tells what they name, whatever their values are. So the fields of a pattern tell what it names.
+pub fn fields_tell_the_names()
+    ensures date { (a b : Parsed) → fields_given a ≡ fields_given b → names_date a ≡ names_date b }
+    ensures time { (a b : Parsed) → fields_given a ≡ fields_given b → names_time a ≡ names_time b }
+    ensures date_time { (a b : Parsed) → fields_given a ≡ fields_given b → names_moment a ≡ names_moment b }
+    ensures zoned { (a b : Parsed) → fields_given a ≡ fields_given b → names_zoned a ≡ names_zoned b }
 {}
 
 /// States that a separable pattern reads back what it writes of a date-time that it keeps.

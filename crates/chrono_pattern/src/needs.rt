@@ -1,13 +1,27 @@
-//! Which patterns write a part of the time of day, and which an offset from UTC.
+//! Which patterns write a part of a date, of the time of day or of the offset from UTC, and which give a fraction in each text.
 ghost use Rattle.std.specs.Prelude.{◌≡◌};
-ghost use Rattle.chrono_pattern.specs.Needs.{item_needs_offset, item_needs_time, needs_offset, needs_time, number_needs_time, zoned_needs_offset, zoned_needs_time};
+ghost use Rattle.chrono_pattern.specs.Needs.{gives_fraction, has_item_of, is_item_of, item_needs_date, item_needs_offset, item_needs_time, number_needs_time, word_needs_time, zoned_needs_offset, zoned_needs_time};
+ghost use Rattle.chrono_pattern.specs.declared.item.State.TheVariants.{Outside};
 
 use crate::item::{GroupField, Item, NumberField, State, WordField, ZonedField};
 use crate::step::pattern_step;
 
-// Whether bytes have a specifier of the time of day.
-pub(crate) fn needs_time(bytes: &[u8]) -> bool
-    ensures { result ≡ needs_time bytes.now }
+// A sort of items.
+#[derive(Clone, Copy)]
+pub(crate) enum Sort {
+    // The item writes a part of a date.
+    OfDate,
+    // The item writes a part of the time of day.
+    OfTime,
+    // The item writes an offset from UTC.
+    OfOffset,
+    // Each text of the item gives a fraction of a second.
+    OfFraction,
+}
+
+// Whether bytes have an item of a sort.
+pub(crate) fn has_item_of(sort: Sort, bytes: &[u8]) -> bool
+    ensures { result ≡ has_item_of sort Outside bytes.now }
 {
     let mut state = State::Outside;
     let mut rest = bytes;
@@ -15,13 +29,43 @@ pub(crate) fn needs_time(bytes: &[u8]) -> bool
         let Some(next) = pattern_step(state, *byte) else {
             return false;
         };
-        if item_needs_time(next.1) {
+        if is_item_of(sort, next.1) {
             return true;
         }
         state = next.0;
         rest = behind;
     }
     false
+}
+
+// Whether an item is of a sort.
+fn is_item_of(sort: Sort, item: Item) -> bool
+    ensures { result ≡ is_item_of sort item }
+{
+    match sort {
+        Sort::OfDate => item_needs_date(item),
+        Sort::OfTime => item_needs_time(item),
+        Sort::OfOffset => item_needs_offset(item),
+        Sort::OfFraction => gives_fraction(item),
+    }
+}
+
+// Whether an item writes a part of a date.
+fn item_needs_date(item: Item) -> bool
+    ensures { result ≡ item_needs_date item }
+{
+    match item {
+        Item::Empty | Item::Byte(_) | Item::Subsecond(_, _) => false,
+        Item::Number(field, _) => !number_needs_time(field),
+        Item::Word(word) => !word_needs_time(word),
+        Item::Group(group) => {
+            !matches!(
+                group,
+                GroupField::HourMinute | GroupField::HourMinuteSecond | GroupField::HalfClock
+            )
+        }
+        Item::Zoned(field) => zoned_needs_time(field),
+    }
 }
 
 // Whether an item writes a part of the time of day.
@@ -31,7 +75,7 @@ fn item_needs_time(item: Item) -> bool
     match item {
         Item::Empty | Item::Byte(_) => false,
         Item::Number(field, _) => number_needs_time(field),
-        Item::Word(word) => matches!(word, WordField::Half | WordField::SmallHalf),
+        Item::Word(word) => word_needs_time(word),
         Item::Group(group) => {
             !matches!(
                 group,
@@ -43,11 +87,18 @@ fn item_needs_time(item: Item) -> bool
     }
 }
 
-// Whether a piece has a part of the time of day. The seconds from 1970 count those of the day.
+// Whether a piece has a part of the time of day, and then of the date too. The seconds from 1970 count those of the day.
 fn zoned_needs_time(field: ZonedField) -> bool
     ensures { result ≡ zoned_needs_time field }
 {
     matches!(field, ZonedField::Stamp | ZonedField::Iso8601)
+}
+
+// Whether a word is of the time of day.
+fn word_needs_time(word: WordField) -> bool
+    ensures { result ≡ word_needs_time word }
+{
+    matches!(word, WordField::Half | WordField::SmallHalf)
 }
 
 // Whether a number is of the time of day.
@@ -66,25 +117,6 @@ fn number_needs_time(field: NumberField) -> bool
     }
 }
 
-// Whether bytes have a specifier of the offset from UTC.
-pub(crate) fn needs_offset(bytes: &[u8]) -> bool
-    ensures { result ≡ needs_offset bytes.now }
-{
-    let mut state = State::Outside;
-    let mut rest = bytes;
-    while let Some((byte, behind)) = rest.split_first() {
-        let Some(next) = pattern_step(state, *byte) else {
-            return false;
-        };
-        if item_needs_offset(next.1) {
-            return true;
-        }
-        state = next.0;
-        rest = behind;
-    }
-    false
-}
-
 // Whether an item writes an offset.
 fn item_needs_offset(item: Item) -> bool
     ensures { result ≡ item_needs_offset item }
@@ -100,4 +132,15 @@ fn zoned_needs_offset(field: ZonedField) -> bool
     ensures { result ≡ zoned_needs_offset field }
 {
     !matches!(field, ZonedField::Stamp)
+}
+
+// Whether each text of an item gives a fraction of a second. One behind a point may be left out.
+fn gives_fraction(item: Item) -> bool
+    ensures { result ≡ gives_fraction item }
+{
+    match item {
+        Item::Number(field, _) => matches!(field, NumberField::Nanosecond),
+        Item::Subsecond(point, _) => !point,
+        _ => false,
+    }
 }

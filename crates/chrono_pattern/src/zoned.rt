@@ -1,18 +1,17 @@
 //! Writes date-times in a zone by patterns, and reads them.
-ghost use Rattle.std.specs.Prelude.{◌≡◌, ◌↔◌, ◌≤◌, ℕ, ℤ, List, Ok, IfErr, IfOk, IfSome, IsOk, IsSome, length};
+ghost use Rattle.std.specs.Prelude.{◌≡◌, ◌↔◌, ◌≤◌, ℕ, ℤ, List, false, Ok, Err, IfErr, IfOk, IfSome, IsOk, IsSome, length};
 ghost use Rattle.chrono_instant.specs.Offsets.{moment_ahead};
 ghost use Rattle.chrono_zoned.specs.Zoned.{Zoned, local_at, offset_at};
 ghost use Rattle.chrono_pattern.specs.DateParts.{is_present};
-ghost use Rattle.chrono_pattern.specs.NamedParts.{named_parts};
-ghost use Rattle.chrono_pattern.specs.Parses.{IsFrontParseError, IsParseError, IsZonedBy, IsZonedInFront};
+ghost use Rattle.chrono_pattern.specs.NamedParts.{named_parts, sure_parts};
+ghost use Rattle.chrono_pattern.specs.Parses.{IsFrontParseError, IsParseError, IsZonedBy, IsZonedInFront, not_named_error};
 ghost use Rattle.chrono_pattern.specs.Patterns.{text_at_offset};
 ghost use Rattle.chrono_pattern.specs.ZonedParts.{IsClockZoned, names_zoned};
 
-use crate::error::PatternReadError;
+use crate::error::{NOT_ENOUGH, PatternReadError};
 use crate::named_parts::named_parts;
 use crate::pattern::Pattern;
 use crate::writer::text_of;
-use crate::zoned_parts::names_zoned;
 use chrono_text::Text;
 use chrono_zoned::{DateTime, FixedOffset, TimeZone};
 
@@ -48,8 +47,8 @@ impl<'a> Pattern<'a> {
         named_parts(self.bytes).offset.is_some()
     }
 
-    /// Returns whether the specifiers of the pattern name a date-time with its offset, as [`Parsed::to_zoned`](crate::Parsed::to_zoned)
-    /// says.
+    /// Returns whether the specifiers of the pattern may name a date-time with its offset, as [`Parsed::to_zoned`](crate::Parsed::to_zoned)
+    /// says. If they do not, no text gives one.
     ///
     /// ```
     /// Pattern::new(b"%F %R %z").ok()?.names_zoned() // true
@@ -57,29 +56,35 @@ impl<'a> Pattern<'a> {
     /// Pattern::new(b"%F %R %Z").ok()?.names_zoned() // false
     /// ```
     pub fn names_zoned(&self) -> bool
-        ensures { result ≡ names_zoned (named_parts self.now) }
+        ensures { result ≡ names_zoned (sure_parts self.now) }
     {
-        names_zoned(named_parts(self.bytes))
+        self.names.zoned
     }
 
     /// Returns the date-time with its offset that `text` is of.
     ///
     /// # Errors
     ///
-    /// Returns [`PatternReadError`] as [`Pattern::read_parts`] does, and at the end of the text for the causes of
+    /// Returns `NotEnough` at byte 0 for each text if the specifiers name no such value ([`names_zoned`](Pattern::names_zoned)). Then no text is read.
+    ///
+    /// Else it returns [`PatternReadError`] as [`Pattern::read_parts`] does, and at the end of the text for the causes of
     /// [`Parsed::to_zoned`](crate::Parsed::to_zoned).
     ///
     /// ```
     /// Pattern::new(b"%F %R %z").ok()?.parse_zoned(b"2024-02-29 09:30 +0530").ok() // Some(2024-02-29T09:30:00+05:30)
     /// Pattern::new(b"%+").ok()?.parse_zoned(b"2024-02-29T09:30:00.5Z").ok() // Some(2024-02-29T09:30:00.500+00:00)
-    /// Pattern::new(b"%F %R").ok()?.parse_zoned(b"2024-02-29 09:30").err() // Some(PatternReadError { byte: 16, cause: NotEnough })
+    /// Pattern::new(b"%F %R").ok()?.parse_zoned(b"2024-02-29 09:30").err() // Some(PatternReadError { byte: 0, cause: NotEnough })
     /// ```
     pub fn parse_zoned(&self, text: &[u8]) -> Result<DateTime<FixedOffset>, PatternReadError>
         ensures zoned { IfOk result (λ d. IsZonedBy self.now text.now (moment_ahead d.utc d.zone) d.zone) }
         ensures clock { IfOk result (λ d. IsClockZoned d) }
         ensures every { (d : Zoned ℤ) → IsClockZoned d → IsZonedBy self.now text.now (moment_ahead d.utc d.zone) d.zone → result ≡ Ok d }
+        ensures not_enough { names_zoned (sure_parts self.now) ≡ false → result ≡ Err not_named_error }
         ensures error { IfErr result (IsParseError names_zoned self.now text.now) }
     {
+        if !self.names.zoned {
+            return Err(NOT_ENOUGH);
+        }
         match self.read_parts(text) {
             Ok(parts) => match parts.to_zoned() {
                 Ok(moment) => Ok(moment),
@@ -96,7 +101,9 @@ impl<'a> Pattern<'a> {
     ///
     /// # Errors
     ///
-    /// Returns [`PatternReadError`] as [`Pattern::read_front`] does, and at the end of the front for the causes of
+    /// Returns `NotEnough` at byte 0 for each text if the specifiers name no such value ([`names_zoned`](Pattern::names_zoned)). Then no text is read.
+    ///
+    /// Else it returns [`PatternReadError`] as [`Pattern::read_front`] does, and at the end of the front for the causes of
     /// [`Parsed::to_zoned`](crate::Parsed::to_zoned).
     ///
     /// ```
@@ -114,8 +121,12 @@ impl<'a> Pattern<'a> {
             → IsZonedInFront self.now text.now (moment_ahead d.utc d.zone) d.zone rest → IsOk result }
         ensures only { (d : Zoned ℤ) → (rest : List ℕ) → IsClockZoned d
             → IsZonedInFront self.now text.now (moment_ahead d.utc d.zone) d.zone rest → IfOk result (λ r. (r.0 ≡ d) × (r.1.now ≡ rest)) }
+        ensures not_enough { names_zoned (sure_parts self.now) ≡ false → result ≡ Err not_named_error }
         ensures error { IfErr result (IsFrontParseError names_zoned self.now text.now) }
     {
+        if !self.names.zoned {
+            return Err(NOT_ENOUGH);
+        }
         match self.read_front(text) {
             Ok((parts, rest)) => match parts.to_zoned() {
                 Ok(moment) => Ok((moment, rest)),

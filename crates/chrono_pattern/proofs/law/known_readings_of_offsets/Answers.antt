@@ -41,3 +41,7 @@ returns-clause-before c = refl
 pub returns-clause-all : goal.returns-clause-all
 unfolding read_from literal_read number_read number_put signed_read digits_read class_len put digits_of natural_of group_read subsecond_read places_read iso_read two_taken minutes_taken size_taken signed_offset_read utc_or_offset offset_read put_stamp stamp_digits signed_stamp opened_step unpadded_step date_number_at time_number_at word_at group_at
 returns-clause-all c = refl
+
+pub returns-clause-hours_alone : goal.returns-clause-hours_alone
+unfolding read_from literal_read number_read number_put signed_read digits_read class_len put digits_of natural_of group_read subsecond_read places_read iso_read two_taken minutes_taken size_taken signed_offset_read utc_or_offset offset_read put_stamp stamp_digits signed_stamp opened_step unpadded_step date_number_at time_number_at word_at group_at
+returns-clause-hours_alone c = refl

@@ -27,3 +27,11 @@ returns-clause-leap c n = refl
 pub returns-clause-digits : goal.returns-clause-digits
 unfolding text_from opened_step unpadded_step date_number_at time_number_at word_at group_at field_text word_text group_text subsecond_of digits
 returns-clause-digits c n = refl
+
+pub returns-clause-leap_of_an_hour : goal.returns-clause-leap_of_an_hour
+unfolding text_from opened_step unpadded_step date_number_at time_number_at word_at group_at field_text word_text group_text subsecond_of digits
+returns-clause-leap_of_an_hour c n = refl
+
+pub returns-clause-hour_before_one : goal.returns-clause-hour_before_one
+unfolding text_from opened_step unpadded_step date_number_at time_number_at word_at group_at field_text word_text group_text subsecond_of digits
+returns-clause-hour_before_one c n = refl
