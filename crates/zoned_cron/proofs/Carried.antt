@@ -1,5 +1,5 @@
 -- Sums of seconds that fit their type.
-use Rattle.std.proofs.Common.{◌≡◌, ◌≤◌, ℕ, ℤ, pos, ◌+ℤ◌, ◌-ℤ◌, ◌≤ℤ◌, ◌<ℤ◌, of_z, to_z, w64, arith}
+use Rattle.std.proofs.Common.{◌≡◌, ◌≤◌, ℕ, ℤ, pos, ◌+ℤ◌, ◌-ℤ◌, ◌≤ℤ◌, ◌<ℤ◌, of_z, to_z, w64, arith, refl}
 use Rattle.std.proofs.lemmas.Int.{ints}
 use Rattle.chrono_instant.specs.Instants.{IsEpochSecond}
 use Rattle.chrono_instant.specs.Offsets.{IsOffset}
@@ -21,17 +21,18 @@ days_behind x n date few = (omega (arith, ints, date.0, few), omega (arith, ints
 pub days_before : (x : ℤ) (n : ℕ) → IsEpochSecond x → n ≤ 600_000 → IsNearDates (x -ℤ pos n)
 days_before x n date few = (omega (arith, ints, date.0, few), omega (arith, ints, date.1, few))
 
+pub two_days_before : (x : ℤ) → IsEpochSecond x → IsNearDates (x -ℤ pos 172_800)
+two_days_before x date = days_before x 172_800 date (omega arith)
+
+-- a second of the calendar comes back as it
+pub date_carried : (x : ℤ) → IsEpochSecond x → to_z w64 (of_z w64 x) ≡ x
+date_carried x date = carried x x refl (date_near x date)
+
 pub shown_near : (x o : ℤ) → IsEpochSecond x → IsOffset o → IsNearDates (x +ℤ o)
 shown_near x o date close = let bounds = near o close in (omega (arith, ints, date.0, bounds.0), omega (arith, ints, date.1, bounds.1))
 
 pub showing_near : (x o : ℤ) → IsEpochSecond x → IsOffset o → IsNearDates (x -ℤ o)
 showing_near x o date close = let bounds = near o close in (omega (arith, ints, date.0, bounds.1), omega (arith, ints, date.1, bounds.0))
-
-pub showing_days_behind : (x o : ℤ) (n : ℕ) → IsEpochSecond x → IsOffset o → n ≤ 600_000 → IsNearDates ((x -ℤ o) +ℤ pos n)
-showing_days_behind x o n date close few = let bounds = near o close in (omega (arith, ints, date.0, bounds.1, few), omega (arith, ints, date.1, bounds.0, few))
-
-pub showing_days_before : (x o : ℤ) (n : ℕ) → IsEpochSecond x → IsOffset o → n ≤ 600_000 → IsNearDates ((x -ℤ o) -ℤ pos n)
-showing_days_before x o n date close few = let bounds = near o close in (omega (arith, ints, date.0, bounds.1, few), omega (arith, ints, date.1, bounds.0, few))
 
 pub walk_near : (gap x o : ℤ) → IsEpochSecond gap → (gap -ℤ pos 86_400) ≤ℤ x → x <ℤ (gap +ℤ pos 345_600) → IsOffset o → IsNearDates (x +ℤ o)
 walk_near gap x o date low high close = let bounds = near o close in (omega (arith, ints, date.0, low, bounds.0), omega (arith, ints, date.1, high, bounds.1))

@@ -4,6 +4,8 @@ mod Windows
 mod Carried
 mod Gaps
 mod Stretches
+mod FirstPlanned
+mod HeldInstants
 mod Settled
 mod Laws
 mod DayFirings

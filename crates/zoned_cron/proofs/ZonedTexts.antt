@@ -1,5 +1,5 @@
 -- What is left of a text behind the name of its zone.
-use Rattle.std.proofs.Common.{◌≡◌, ◌==◌, ◌+◌, arith, false, ℕ, List, drop, ap, sym, ◌∙◌}
+use Rattle.std.proofs.Common.{if◌then◌else◌, ◌≡◌, ◌==◌, ◌+◌, arith, false, ℕ, List, drop, ap, sym, ◌∙◌}
 use Rattle.std.proofs.lemmas.Bool.{false_from_ne_true}
 use Rattle.std.proofs.lemmas.Bool.Decides.{nat_tests}
 use Rattle.std.specs.List.{position_or_len}
@@ -19,3 +19,6 @@ part_is text named part mark len is none front blank back =
     ∙ ap (λ t. drop (position_or_len is_blank t) t) here
     ∙ ap (λ n. drop n named) (sym blank) ∙ sym back in
     rw test step
+
+pub part_whole : (text : List ℕ) (mark : ℕ) → mark ≡ mark_len text → mark ≡ 0 → schedule_part text ≡ text
+part_whole text mark is none = ap (λ (n : ℕ). drop (if n == 0 then 0 else n + position_or_len is_blank (drop n text)) text) (sym is ∙ none)

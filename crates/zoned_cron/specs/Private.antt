@@ -59,6 +59,10 @@ pub record IsHeld (ahead : ℤ → ℤ) (h : Held) : Type 0 where
   pub holds : HoldsUntil ahead h.from h.until
   pub near : (v : ℤ) → IsOffset (ahead v)
 
+-- u is a second of the calendar, or one within a day of its ends
+abbrev pub IsNearADate : ℤ → Type 0
+IsNearADate u = (neg_ℤ (pos 8_334_601_315_200) ≤ℤ u) × (u ≤ℤ pos 8_210_266_963_199)
+
 -- a stretch holds for two days before the second u, and for two days from then on
 pub record Surrounds (h : Held) (u : ℤ) : Type 0 where
   pub low : (h.from +ℤ pos 172_800) ≤ℤ u

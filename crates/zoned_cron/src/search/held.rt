@@ -1,7 +1,7 @@
 //! `Held`: a stretch of a zone's clock that a search keeps.
 ghost use Rattle.std.specs.Prelude.{◌≡◌, IsTrue};
 ghost use Rattle.chrono_instant.specs.Instants.{IsEpochSecond};
-ghost use Rattle.zoned_cron.specs.Private.{IsHeld, Surrounds};
+ghost use Rattle.zoned_cron.specs.Private.{IsHeld, IsNearADate, Surrounds};
 
 use crate::search::instants::DAY;
 use chrono_instant::FixedOffset;
@@ -42,7 +42,7 @@ impl Held {
     // Whether it begins two days before the second or earlier, and ends no sooner than two days behind it.
     #[inline]
     pub(crate) fn surrounds(&self, second: i64) -> bool
-        requires { IsEpochSecond second }
+        requires { IsNearADate second }
         ensures { IsTrue result → Surrounds self.now second }
     {
         self.from <= second - 2 * DAY && second + 2 * DAY <= self.until

@@ -5,7 +5,7 @@ ghost use Rattle.chrono_instant.specs.Instants.{IsEpochSecond, LiesIn, epoch_sec
 ghost use Rattle.chrono_zoned.specs.Offsets.{IsOffset};
 ghost use Rattle.chrono_zoned.specs.Zones.{AreAll, IsAmong, Shows};
 ghost use Rattle.zoned_cron.specs.Fires.{Fires, IsGap};
-ghost use Rattle.zoned_cron.specs.Private.{EndsGap, IfTwo, IsHeld, IsLastIn, IsSettledAt, TakesDated};
+ghost use Rattle.zoned_cron.specs.Private.{EndsGap, IfTwo, IsHeld, IsLastIn, IsNearADate, IsSettledAt, TakesDated};
 
 use crate::policy::{Fold, Gap};
 use crate::schedule::ZonedSchedule;
@@ -92,6 +92,7 @@ fn before(local: i64, offset: FixedOffset) -> i64
     requires { IsEpochSecond local }
     ensures value { result ≡ local -ℤ offset }
     ensures near { IsOffset offset }
+    ensures in_range { IsNearADate result }
 {
     local - i64::from(offset.local_minus_utc())
 }
@@ -136,7 +137,7 @@ pub(crate) fn settled_instant<Z: TimeZone>(
 {
     date_times_exist(planned);
     let found = before(planned.timestamp(), held.offset);
-    if held.from <= found - 2 * DAY && found + 2 * DAY <= held.until {
+    if held.surrounds(found) {
         DateTime::from_local_and_offset(planned, held.offset, zone)
     } else {
         None

@@ -1,6 +1,6 @@
 //! The first instant after a start at which a schedule fires.
 ghost use Rattle.std.specs.Prelude.{ℤ, ◌<ℤ◌, IfSome, Some};
-ghost use Rattle.chrono_instant.specs.Instants.{IsEpochSecond};
+ghost use Rattle.chrono_instant.specs.Instants.{IsEpochSecond, epoch_second};
 ghost use Rattle.zoned_cron.specs.Fires.{Fires};
 ghost use Rattle.zoned_cron.specs.FiringLists.{IsNextFiring};
 ghost use Rattle.zoned_cron.specs.Private.{IsAtLeast, IsHeld, IsInDates, IsNextIfSettled, IsPlanned};
@@ -120,26 +120,39 @@ impl<Z: TimeZone> ZonedSchedule<Z> {
         ensures planned { IfSome result (λ l. (local <ℤ l) × IsPlanned self.now.schedule.sets l) }
         ensures least { (l : ℤ) → local <ℤ l → IsPlanned self.now.schedule.sets l → IsAtLeast result l }
     {
-        if let Some(local) = NaiveDateTime::from_timestamp(local, 0) {
-            let Some(next) = self.schedule.next_after(local) else {
-                return None;
-            };
-            date_times_exist(next);
-            return Some(next.timestamp());
+        if let Some(shown) = NaiveDateTime::from_timestamp(local, 0) {
+            return self.planned_behind(shown);
         }
         if LAST_SECOND < local {
             return None;
         }
+        self.first_planned()
+    }
+
+    // The first planned local time after another, as a second.
+    fn planned_behind(&self, local: NaiveDateTime) -> Option<i64>
+        ensures planned { IfSome result (λ l. (epoch_second local <ℤ l) × IsPlanned self.now.schedule.sets l) }
+        ensures least { (l : ℤ) → epoch_second local <ℤ l → IsPlanned self.now.schedule.sets l → IsAtLeast result l }
+    {
+        date_times_exist(local);
+        let Some(next) = self.schedule.next_after(local) else {
+            return None;
+        };
+        date_times_exist(next);
+        Some(next.timestamp())
+    }
+
+    // The first planned local time of all, as a second.
+    fn first_planned(&self) -> Option<i64>
+        ensures planned { IfSome result (IsPlanned self.now.schedule.sets) }
+        ensures least { (l : ℤ) → IsPlanned self.now.schedule.sets l → IsAtLeast result l }
+    {
         let (first, _) = first_date_time();
         date_times_exist(first);
         if self.schedule.is_due(first) {
             return Some(first.timestamp());
         }
-        let Some(next) = self.schedule.next_after(first) else {
-            return None;
-        };
-        date_times_exist(next);
-        Some(next.timestamp())
+        self.planned_behind(first)
     }
 }
 

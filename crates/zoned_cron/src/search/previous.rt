@@ -11,7 +11,7 @@ use crate::search::held::Held;
 use crate::search::instants::{DAY, FIRST_SECOND, begun_by, last_in, settled_instant, shown_at};
 use chrono_datetime::NaiveDateTime;
 use chrono_datetime::law::{date_times_exist, last_date_time};
-use chrono_instant::{FromTimestamp, Timestamp};
+use chrono_instant::{FixedOffset, FromTimestamp, Timestamp};
 use chrono_zoned::{DateTime, TimeZone};
 
 impl<Z: TimeZone> ZonedSchedule<Z> {
@@ -78,25 +78,47 @@ impl<Z: TimeZone> ZonedSchedule<Z> {
         self.schedule.prev_before(last)
     }
 
-    // Whether a local time may fire after the best instant so far, and before the end. Where the clock keeps its offset from that instant until
-    // the end, none does that the clock has shown or skipped by then. Else none does that it had shown or skipped two days earlier.
+    // Whether a local time may fire after the best instant so far, and before the end.
     fn may_follow(&self, local: NaiveDateTime, best: Option<i64>, end: i64) -> bool
         requires { IfSome best IsEpochSecond }
         ensures { IsFalse result → IsSomeAnd best (λ c. (m : Moment) (u : ℤ) → FiresFor self.now.schedule.sets (Z.ahead self.now.zone) self.now.policy m u → epoch_second m ≤ℤ epoch_second local → u <ℤ end → u ≤ℤ c) }
     {
-        let Some(best) = best else {
-            return true;
-        };
-        let stretch = self.zone.stretch_from(best);
-        if end <= stretch.until {
-            let shown = best + i64::from(stretch.offset.local_minus_utc());
-            return shown < local.timestamp();
-        }
-        match shown_at(self.zone, best - 2 * DAY) {
-            Some(shown) => shown.timestamp() < local.timestamp(),
+        match best {
+            Some(best) => self.may_follow_instant(local, best, end),
             None => true,
         }
     }
+
+    // Whether it may fire after that instant. Where the clock keeps its offset from there until the end, none does that the clock has shown or
+    // skipped by then. Else none does that it had shown or skipped two days earlier.
+    fn may_follow_instant(&self, local: NaiveDateTime, best: i64, end: i64) -> bool
+        requires { IsEpochSecond best }
+        ensures { IsFalse result → (m : Moment) (u : ℤ) → FiresFor self.now.schedule.sets (Z.ahead self.now.zone) self.now.policy m u → epoch_second m ≤ℤ epoch_second local → u <ℤ end → u ≤ℤ best }
+    {
+        let stretch = self.zone.stretch_from(best);
+        if end <= stretch.until {
+            return is_behind(local, shown_by(best, stretch.offset));
+        }
+        match shown_at(self.zone, best - 2 * DAY) {
+            Some(shown) => is_behind(local, shown.timestamp()),
+            None => true,
+        }
+    }
+}
+
+// What a clock so far ahead of UTC shows at a second.
+fn shown_by(second: i64, offset: FixedOffset) -> i64
+    requires { IsEpochSecond second }
+    ensures { result ≡ second +ℤ offset }
+{
+    second + i64::from(offset.local_minus_utc())
+}
+
+// Whether a local time begins behind a local second.
+fn is_behind(local: NaiveDateTime, second: i64) -> bool
+    ensures { IsFalse result → epoch_second local ≤ℤ second }
+{
+    second < local.timestamp()
 }
 
 // A local second that the clock shows at no instant before the end, and neither any later one. It is that of the end, by the greater of two

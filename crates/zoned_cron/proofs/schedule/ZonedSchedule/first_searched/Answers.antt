@@ -1,11 +1,11 @@
-use Rattle.std.proofs.Common.{◌≡◌, of_z, to_z, w64, arith, ◌∙◌}
+use Rattle.std.proofs.Common.{◌≡◌, of_z, to_z, w64, ◌∙◌}
 use Rattle.std.proofs.lemmas.Int.{to_z-of_z}
-use Rattle.chrono_datetime.proofs.Signed.{casts}
 use Rattle.chrono_instant.specs.Instants.{epoch_second}
 use Rattle.chrono_zoned.proofs.OptionLemmas.{if_never}
 use Rattle.chrono_zoned.proofs.HeldSecondLemmas.{holds_there, later_there, none_after, none_between}
 use Rattle.zoned_cron.specs.Fires.{Fires, NotFiringAfter}
 use Rattle.zoned_cron.proofs.FiringLists.{next_if, next_none}
+use Rattle.zoned_cron.proofs.Carried.{date_carried}
 use Rattle.zoned_cron.proofs.Windows.{exists_there}
 use Rattle.zoned_cron.proofs.schedule.ZonedSchedule.first_searched.Goals as goal
 
@@ -28,7 +28,7 @@ returns g c =
     let at : to_z w64 (of_z w64 c.timestamp.result) ≡ epoch_second start = to_z-of_z w64 c.timestamp.result (record { sfits = c.timestamp.type_inv }) ∙ c.timestamp.ensures.value in
     let x = c.in_ok-first_after.field-0 in
     let ok = c.in_ok-first_after.ensures.fires in
-    let is : to_z w64 (of_z w64 x) ≡ x = omega (arith, casts, ok.1.instant.utc) in
+    let is : to_z w64 (of_z w64 x) ≡ x = date_carried x ok.1.instant.utc in
     next_if ahead z start c.timestamp_opt.result
     (if_never (NotFiringAfter s clock p start) c.timestamp_opt.result (c.timestamp_opt.ensures.exists.1 (exists_there s clock p (to_z w64 (of_z w64 x)) x is ok.1)))
     c.timestamp_opt.ensures.instant c.timestamp_opt.ensures.zone

@@ -1,11 +1,11 @@
-use Rattle.std.proofs.Common.{◌≡◌, of_z, to_z, w64, arith, subst, ◌∙◌}
+use Rattle.std.proofs.Common.{◌≡◌, of_z, to_z, w64, subst, ◌∙◌}
 use Rattle.std.proofs.lemmas.Int.{to_z-of_z}
 use Rattle.std.proofs.lemmas.Option.{IfSome_then}
 use Rattle.chrono_datetime.specs.Moment.{IsBefore, Moment}
-use Rattle.chrono_datetime.proofs.Signed.{casts}
 use Rattle.chrono_zoned.proofs.OptionLemmas.{if_any, if_never}
 use Rattle.chrono_zoned.proofs.HeldSecondLemmas.{IsFirstFrom, earlier_there, holds_there, none_before, none_between_back}
 use Rattle.zoned_cron.specs.Fires.{Fires, NotFiringBefore, NotFiringBetween}
+use Rattle.zoned_cron.proofs.Carried.{date_carried}
 use Rattle.zoned_cron.proofs.Windows.{exists_there}
 use Rattle.zoned_cron.proofs.schedule.ZonedSchedule.prev_before.Goals as goal
 
@@ -44,7 +44,7 @@ returns-clause-fires g c =
     let p = c.args.self.now.policy in
     let x = c.in_ok-last_before.field-0 in
     let ok = c.in_ok-last_before.ensures.fires in
-    let is : to_z w64 (of_z w64 x) ≡ x = omega (arith, casts, ok.1.instant.utc) in
+    let is : to_z w64 (of_z w64 x) ≡ x = date_carried x ok.1.instant.utc in
     IfSome_then c.timestamp_opt.result c.timestamp_opt.ensures.instant (λ d h. holds_there (Fires s ahead p) x d.utc h is ok.1)
 
 pub returns-clause-earlier : goal.returns-clause-earlier
@@ -59,7 +59,7 @@ returns-clause-earlier g c =
     let begun : IsFirstFrom end utc = record { whole = λ e. fits ∙ c.begun_by.ensures.whole e; within = λ e. fits ∙ c.begun_by.ensures.within e } in
     let x = c.in_ok-last_before.field-0 in
     let ok = c.in_ok-last_before.ensures.fires in
-    let is : to_z w64 (of_z w64 x) ≡ x = omega (arith, casts, ok.1.instant.utc) in
+    let is : to_z w64 (of_z w64 x) ≡ x = date_carried x ok.1.instant.utc in
     IfSome_then c.timestamp_opt.result c.timestamp_opt.ensures.instant (λ d h.
     subst (λ (m : Moment). IsBefore d.utc m) same (earlier_there utc d.utc x ok.0 h begun is c.begun_by.ensures.exists))
 
@@ -75,7 +75,7 @@ returns-clause-greatest g c =
     let begun : IsFirstFrom end utc = record { whole = λ e. fits ∙ c.begun_by.ensures.whole e; within = λ e. fits ∙ c.begun_by.ensures.within e } in
     let x = c.in_ok-last_before.field-0 in
     let ok = c.in_ok-last_before.ensures.fires in
-    let is : to_z w64 (of_z w64 x) ≡ x = omega (arith, casts, ok.1.instant.utc) in
+    let is : to_z w64 (of_z w64 x) ≡ x = date_carried x ok.1.instant.utc in
     IfSome_then c.timestamp_opt.result c.timestamp_opt.ensures.instant (λ d h.
     subst (λ (m : Moment). NotFiringBetween s ahead p d.utc m) same (none_between_back (Fires s ahead p) utc d.utc x c.in_ok-last_before.ensures.greatest h begun is c.begun_by.ensures.exists))
 
@@ -86,5 +86,5 @@ returns-clause-none g c =
     let p = c.args.self.now.policy in
     let x = c.in_ok-last_before.field-0 in
     let ok = c.in_ok-last_before.ensures.fires in
-    let is : to_z w64 (of_z w64 x) ≡ x = omega (arith, casts, ok.1.instant.utc) in
+    let is : to_z w64 (of_z w64 x) ≡ x = date_carried x ok.1.instant.utc in
     if_never (NotFiringBefore s ahead p c.args.start.utc) c.timestamp_opt.result (c.timestamp_opt.ensures.exists.1 (exists_there s ahead p (to_z w64 (of_z w64 x)) x is ok.1))
