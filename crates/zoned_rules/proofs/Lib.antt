@@ -11,6 +11,7 @@ mod Reached
 mod Numbered
 mod InstantLists
 mod PublicCalls
+mod SecondsAgain
 mod Laws
 mod GivenInstances
 mod GivenMembers

@@ -190,13 +190,12 @@ impl ClockUnit {
         ensures within { result ≤ 86_400 }
         ensures passed { (n : ℤ) (k : ℕ) → k < result → unit_number self n k <ℤ (unit_number self n second +ℤ units) }
     {
-        let begin = match self {
-            ClockUnit::Day => return DAY,
-            ClockUnit::Hour => (i64::from(second / HOUR) + units) * 3_600,
-            ClockUnit::Minute => (i64::from(second / MINUTE) + units) * 60,
-            ClockUnit::Second => i64::from(second) + units,
-        };
-        if begin < 86_400 { begin as u32 } else { DAY }
+        match self {
+            ClockUnit::Day => DAY,
+            ClockUnit::Hour => number_after(second / HOUR, units, 24) * HOUR,
+            ClockUnit::Minute => number_after(second / MINUTE, units, 1_440) * MINUTE,
+            ClockUnit::Second => number_after(second, units, DAY),
+        }
     }
 
     // The second of the day behind the unit that lies so many units before that of a second, or the day's beginning.
@@ -210,18 +209,39 @@ impl ClockUnit {
     {
         match self {
             ClockUnit::Day => 0,
-            ClockUnit::Hour => from_zero((i64::from(second / HOUR) + 1 - units) * 3_600),
-            ClockUnit::Minute => from_zero((i64::from(second / MINUTE) + 1 - units) * 60),
-            ClockUnit::Second => from_zero(i64::from(second) + 1 - units),
+            ClockUnit::Hour => number_behind(second / HOUR, units) * HOUR,
+            ClockUnit::Minute => number_behind(second / MINUTE, units) * MINUTE,
+            ClockUnit::Second => number_behind(second, units),
         }
     }
 }
 
-// A second of the day, or 0 if it lies before the day.
-fn from_zero(second: i64) -> u32
-    requires { second ≤ℤ pos 86_400 }
-    ensures not_before { second ≤ℤ pos result }
-    ensures least { 0 < result → pos result ≡ second }
+// The number that lies so many units after another one of a day, or the day's number of them.
+fn number_after(number: u32, units: i64, of_day: u32) -> u32
+    requires within { number < of_day }
+    requires day { of_day ≤ 86_400 }
+    requires some { pos 0 <ℤ units }
+    requires few { units ≤ℤ pos 5_000_000_000 }
+    ensures later { number < result }
+    ensures within { result ≤ of_day }
+    ensures passed { (k : ℕ) → k < result → pos k <ℤ (pos number +ℤ units) }
 {
-    if second > 0 { second as u32 } else { 0 }
+    let later = i64::from(number) + units;
+    if later < i64::from(of_day) {
+        later as u32
+    } else {
+        of_day
+    }
+}
+
+// The number behind the one that lies so many units before another one of a day, or 0.
+fn number_behind(number: u32, units: i64) -> u32
+    requires day { number < 86_400 }
+    requires some { pos 0 <ℤ units }
+    requires few { units ≤ℤ pos 5_000_000_000 }
+    ensures earlier { result ≤ number }
+    ensures passed { (k : ℕ) → result ≤ k → (pos number -ℤ units) <ℤ pos k }
+{
+    let behind = i64::from(number) + 1 - units;
+    if behind > 0 { behind as u32 } else { 0 }
 }

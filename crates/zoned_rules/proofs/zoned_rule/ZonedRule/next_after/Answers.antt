@@ -1,13 +1,12 @@
-use Rattle.std.proofs.Common.{◌≡◌, of_z, to_z, w64, arith, subst, ◌∙◌}
+use Rattle.std.proofs.Common.{◌≡◌, of_z, to_z, w64, subst, ◌∙◌}
 use Rattle.std.proofs.lemmas.Int.{to_z-of_z}
 use Rattle.std.proofs.lemmas.Option.{IfSome_then}
 use Rattle.chrono_datetime.specs.Moment.{IsBefore, Moment}
-use Rattle.chrono_datetime.proofs.Signed.{casts}
 use Rattle.chrono_instant.specs.Instants.{epoch_second}
 use Rattle.chrono_zoned.proofs.OptionLemmas.{if_any, if_never}
 use Rattle.chrono_zoned.proofs.HeldSecondLemmas.{holds_there, later_there, none_after, none_between}
 use Rattle.zoned_rules.specs.Recurs.{NoInstanceAfter, NoInstanceBetween, RecursWithin}
-use Rattle.zoned_rules.proofs.PublicCalls.{exists_there}
+use Rattle.zoned_rules.proofs.PublicCalls.{back_there, exists_there}
 use Rattle.zoned_rules.proofs.zoned_rule.ZonedRule.next_after.Goals as goal
 
 pub returns-in_err-next_second-clause-none : goal.returns-in_err-next_second-clause-none
@@ -27,17 +26,18 @@ returns-clause-instance g c =
     let bound = c.args.self.now.bound in
     let x = c.in_ok-next_second.field-0 in
     let ok = c.in_ok-next_second.ensures.recurs in
-    let is : to_z w64 (of_z w64 x) ≡ x = omega (arith, casts, ok.1.recurs.recurs.dates.utc) in
+    let is : to_z w64 (of_z w64 x) ≡ x = back_there ahead x ok.1.recurs.recurs.dates in
     IfSome_then c.timestamp_opt.result c.timestamp_opt.ensures.instant (λ d h. holds_there (RecursWithin r ahead bound) x d.utc h is ok.1)
 
 pub returns-clause-later : goal.returns-clause-later
 returns-clause-later g c =
+    let ahead = g.Z.TimeZone.ahead c.args.self.now.zone in
     let utc = c.naive_utc-utc.result in
     let same : utc ≡ c.args.start.utc = c.naive_utc-utc.ensures in
     let at : to_z w64 (of_z w64 c.timestamp.result) ≡ epoch_second utc = to_z-of_z w64 c.timestamp.result (record { sfits = c.timestamp.type_inv }) ∙ c.timestamp.ensures.value in
     let x = c.in_ok-next_second.field-0 in
     let ok = c.in_ok-next_second.ensures.recurs in
-    let is : to_z w64 (of_z w64 x) ≡ x = omega (arith, casts, ok.1.recurs.recurs.dates.utc) in
+    let is : to_z w64 (of_z w64 x) ≡ x = back_there ahead x ok.1.recurs.recurs.dates in
     IfSome_then c.timestamp_opt.result c.timestamp_opt.ensures.instant (λ d h.
     subst (λ (m : Moment). IsBefore m d.utc) same (later_there utc d.utc x ok.0 at h is c.date_times_exist.ensures))
 
@@ -51,7 +51,7 @@ returns-clause-least g c =
     let at : to_z w64 (of_z w64 c.timestamp.result) ≡ epoch_second utc = to_z-of_z w64 c.timestamp.result (record { sfits = c.timestamp.type_inv }) ∙ c.timestamp.ensures.value in
     let x = c.in_ok-next_second.field-0 in
     let ok = c.in_ok-next_second.ensures.recurs in
-    let is : to_z w64 (of_z w64 x) ≡ x = omega (arith, casts, ok.1.recurs.recurs.dates.utc) in
+    let is : to_z w64 (of_z w64 x) ≡ x = back_there ahead x ok.1.recurs.recurs.dates in
     IfSome_then c.timestamp_opt.result c.timestamp_opt.ensures.instant (λ d h.
     subst (λ (m : Moment). NoInstanceBetween r ahead bound m d.utc) same (none_between (RecursWithin r ahead bound) utc d.utc x c.in_ok-next_second.ensures.least at h is c.date_times_exist.ensures))
 
@@ -62,5 +62,5 @@ returns-clause-none g c =
     let bound = c.args.self.now.bound in
     let x = c.in_ok-next_second.field-0 in
     let ok = c.in_ok-next_second.ensures.recurs in
-    let is : to_z w64 (of_z w64 x) ≡ x = omega (arith, casts, ok.1.recurs.recurs.dates.utc) in
+    let is : to_z w64 (of_z w64 x) ≡ x = back_there ahead x ok.1.recurs.recurs.dates in
     if_never (NoInstanceAfter r ahead bound c.args.start.utc) c.timestamp_opt.result (c.timestamp_opt.ensures.exists.1 (exists_there ahead (to_z w64 (of_z w64 x)) x is ok.1.recurs.recurs.dates))
