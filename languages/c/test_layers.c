@@ -292,6 +292,8 @@ static void holidays(void)
     IS(calendar_holidays_of(CALENDAR_TARGET, 2024, 2023, WEEKEND, out, 20), 0);
     IS(calendar_holidays_of(CALENDAR_TARGET, 1999, 2300, WEEKEND, many, CALENDAR_MOST_HOLIDAYS + 1), CALENDAR_NONE);
     IS(calendar_holidays_of(3, 2024, 2024, WEEKEND, out, 20), CALENDAR_NONE);
+    IS(calendar_holidays_of(CALENDAR_TARGET, INT32_MAX, 2024, WEEKEND, out, 20), CALENDAR_NONE);
+    IS(calendar_holidays_of(CALENDAR_TARGET, 2024, INT32_MIN, WEEKEND, out, 20), CALENDAR_NONE);
     IS(calendar_holidays_of(CALENDAR_TARGET, INT32_MIN, 2024, WEEKEND, out, 20), CALENDAR_NONE);
     IS(calendar_holidays_of(CALENDAR_TARGET, 2024, INT32_MAX, WEEKEND, out, 20), CALENDAR_NONE);
     IS(calendar_easter(2024), 738976);
@@ -430,8 +432,8 @@ static void patterns(void)
     IS(fails_to_parse("%d.%m.%Y", "29-2", CALENDAR_TEXT_INVALID, 2), true);
     IS(fails_to_parse("%d.%m.%Y", "29.13", CALENDAR_TEXT_OUT_OF_RANGE, 3), true);
     IS(fails_to_parse("%d.%m.%Y", "29.", CALENDAR_TEXT_TOO_SHORT, 3), true);
-    IS(fails_to_parse("%d", "29x", CALENDAR_TEXT_TOO_LONG, 2), true);
-    IS(fails_to_parse("%d.%m.", "29.2.", CALENDAR_TEXT_NOT_ENOUGH, 5), true);
+    IS(fails_to_parse("%d.%m.%Y", "29.2.2024x", CALENDAR_TEXT_TOO_LONG, 9), true);
+    IS(fails_to_parse("%d.%m.", "29.2.", CALENDAR_TEXT_NOT_ENOUGH, 0), true);
     IS(fails_to_parse("%d.%", "29.2.", CALENDAR_PATTERN_CUT, 3), true);
 }
 

@@ -1,9 +1,10 @@
 -- A file holds one zone at most.
-use Rattle.std.proofs.Common.{◌≡◌, ◌∙◌, ◌≤◌, ◌<◌, ℕ, ℤ, Bool, List, length, take, get_or, Option, Result, Ok, Err, IfErr, sym, ap, subst, arith}
-use Rattle.std.proofs.lemmas.List.{get_or-take, length-take-le}
+use Rattle.std.proofs.Common.{◌≡◌, ◌∙◌, ◌≤◌, ℕ, ℤ, Bool, true, false, List, length, take, Option, Result, Ok, Err, IfErr, inl, inr, refl, sym, ap, subst, arith}
+use Rattle.std.proofs.lemmas.List.{get_or-take, length-append, length-take-le}
 use Rattle.zone_table.specs.Table.{no_row, row_at}
 use Rattle.zone_table.specs.declared.row.Row.{Row}
 use Rattle.zone_rule.specs.declared.rule.ZoneRule.{ZoneRule}
+use Rattle.zone_file.specs.Blocks.{IsBlock}
 use Rattle.zone_file.specs.Kinds.{IsFileRow, IsKind}
 use Rattle.zone_file.specs.Tables.{AreFileRows, IsRowsError}
 use Rattle.zone_file.specs.ZoneFiles.{IsZoneFile}
@@ -11,8 +12,8 @@ use Rattle.zone_file.specs.declared.rows.ZoneRowsError.{ZoneRowsError}
 use Rattle.zone_file.specs.declared.rows.ZoneRowsError.TheVariants.{NoRoom, NoRow}
 use Rattle.zone.specs.Parts.{IsZone, ZoneParts}
 use Rattle.zone_database.specs.OwnedZones.{IsFileWith, IsFooterOf, IsZoneOfFile}
-use Rattle.layers_c.specs.Zones.{IsZoneOfShortFile}
-use Rattle.layers_c.specs.ZoneFaults.{IsFileReason, IsPartsReason}
+use Rattle.layers_c.specs.Zones.{IsZoneOfShortFile, is_of_file}
+use Rattle.layers_c.specs.ZoneFaults.{IsFileReason, IsPartsReason, IsReason, IsTextReason, HasByteWithin}
 use Rattle.layers_c.specs.declared.zone_bytes.NoZone.{NoZone}
 use Rattle.layers_c.specs.declared.zone_bytes.NoZone.TheVariants.{File, FirstKind, Rows, Rule, Parts}
 use Rattle.layers_c.proofs.ZoneLemmas.{same_parts, same_rows}
@@ -21,6 +22,51 @@ use Rattle.layers_c.proofs.ZoneLemmas.{same_parts, same_rows}
 pub if_err : {T E : Type 0} (r : Result T E) (P Q : E → Type 0) → ((e : E) → P e → Q e) → IfErr r P → IfErr r Q
 if_err (Ok x) P Q then h = tt
 if_err (Err e) P Q then h = then e h
+
+-- a block lies within its bytes, and so does what stands behind it
+rest-within : (size : ℕ) (bytes header times places kinds names rest : List ℕ) → IsBlock size bytes header times places kinds names rest → length rest ≤ length bytes
+rest-within size bytes header times places kinds names rest is =
+    let whole = ap length is.written in
+    let body = ap length is.data_is.written in
+    omega (arith, length-append {A = ℕ}, whole, body)
+
+-- so does the footer
+footer-within : (bytes : List ℕ) (version : ℕ) (times places kinds names footer : List ℕ) → IsZoneFile bytes version times places kinds names footer → length footer ≤ length bytes
+footer-within bytes version times places kinds names footer file = elim file.parts [
+  | inl first ↦ let none = ap length first.1.no_footer in omega (arith, none)
+  | inr later ↦
+      let block = later.1.block.block in
+      let outer = rest-within 4 bytes file.header file.first_times file.first_places file.first_kinds file.first_names file.rest file.first in
+      let inner = rest-within 8 file.rest later.1.block.header times places kinds names later.1.behind block in
+      let ends = ap length later.1.ends in
+      omega (arith, length-append {A = ℕ}, outer, inner, ends)
+]
+
+-- the byte of a reason is none behind the bytes
+file_reason-within : (bytes : List ℕ) (why : NoZone) → IsFileReason bytes why → HasByteWithin (length bytes) why
+file_reason-within bytes (File error) is = is.1
+file_reason-within bytes FirstKind is = tt
+file_reason-within bytes (Rows _) is = tt
+file_reason-within bytes (Rule start error) is =
+    let footer = footer-within bytes is.version is.times is.places is.kinds is.names is.footer is.file in
+    let begins = is.is.begins in
+    let within = is.is.within in
+    omega (arith, footer, begins, within)
+file_reason-within bytes (Parts _) is = tt
+
+text_reason-within : (text : List ℕ) (why : NoZone) → IsTextReason text why → HasByteWithin (length text) why
+text_reason-within text (Rule start error) is = omega (arith, is.1.0, is.1.1)
+text_reason-within text (File _) is = absurd is
+text_reason-within text FirstKind is = absurd is
+text_reason-within text (Rows _) is = absurd is
+text_reason-within text (Parts _) is = absurd is
+
+pub reason-within : (bytes : List ℕ) (why : NoZone) → IsReason bytes why → HasByteWithin (length bytes) why
+reason-within bytes why is = by-cases (is_of_file bytes) refl
+  where
+    by-cases : (b : Bool) → is_of_file bytes ≡ b → HasByteWithin (length bytes) why
+    by-cases true of_file = file_reason-within bytes why (is.file of_file)
+    by-cases false no_file = text_reason-within bytes why (is.text no_file)
 
 -- what a zone has of the parts of a file
 pub record IsOfParts (version : ℕ) (times places kinds names footer : List ℕ) (zone : ZoneParts) : Type 0 where

@@ -1,7 +1,8 @@
 -- A day that was found, by the number that stands for it.
-use Rattle.std.proofs.Common.{◌≡◌, Option, Some, None, IfSome, IfNone, ℤ, sym, subst, ap, arith}
+use Rattle.std.proofs.Common.{◌≡◌, ◌∙◌, ◌↔◌, Option, Some, None, IfSome, IfNone, IsSome, ℤ, refl, sym, subst, ap, arith}
+use Rattle.std.proofs.lemmas.Bool.{false≢true}
 use Rattle.chrono_calendar.specs.Days.{IsDate, date_of_day}
-use Rattle.chrono_calendar.proofs.NamedDates.{date_of_day-None, date_of_day-number}
+use Rattle.chrono_calendar.proofs.NamedDates.{date_of_day-None, date_of_day-Some, date_of_day-number}
 use Rattle.chrono_calendar.proofs.Signed.{signed}
 use Rattle.numbers_c.specs.Answers.{none_number, or_none}
 
@@ -18,6 +19,14 @@ none-holds (Some n) Q r e dates h none = absurd (omega (arith, signed, dates.0, 
 -- the number that stands for none is none
 pub none-again : none_number ≡ or_none (date_of_day none_number)
 none-again = ap or_none (date_of_day-None none_number (λ h. absurd (omega (arith, signed, h.0))))
+
+-- the number that stands for a day stands for what it names
+pub named-again : (o : Option ℤ) (n : ℤ) → n ≡ or_none o → (IsDate n ↔ IsSome o) → date_of_day n ≡ o
+named-again (Some d) n e dates = date_of_day-Some n (dates.1 refl) ∙ ap Some e
+named-again None n e dates = sym (date_of_day-None n (λ h. false≢true (dates.0 h)))
+
+pub number-again : (o : Option ℤ) (n m : ℤ) → m ≡ n → n ≡ or_none o → (IsDate n ↔ IsSome o) → m ≡ or_none (date_of_day m)
+number-again o n m same e dates = same ∙ e ∙ sym (ap or_none (ap date_of_day same ∙ named-again o n e dates))
 
 -- a number that names a date is one
 pub named-is-date : (n m : ℤ) → date_of_day m ≡ Some n → IsDate m

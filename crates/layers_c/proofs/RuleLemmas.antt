@@ -1,15 +1,8 @@
--- A day that is found, as the number that stands for it.
-use Rattle.std.proofs.Common.{◌≡◌, ◌∙◌, ◌↔◌, Option, Some, None, IsSome, refl, ap, sym, ℕ, ℤ}
-use Rattle.std.proofs.lemmas.Bool.{false≢true}
-use Rattle.chrono_calendar.specs.Days.{IsDate, date_of_day}
-use Rattle.chrono_calendar.proofs.NamedDates.{date_of_day-None, date_of_day-Some}
+-- An instance that is found, as the number that stands for it.
+use Rattle.std.proofs.Common.{◌≡◌, Option, refl, ℕ, ℤ}
+use Rattle.chrono_calendar.specs.Days.{date_of_day}
 use Rattle.chrono_rules.specs.declared.rule.Rule.{Rule}
-use Rattle.numbers_c.specs.Answers.{or_none}
 use Rattle.layers_c.specs.Rules.{IsLastInstance, IsNextInstance, instances_up_to}
-
-pub named-again : (o : Option ℤ) (n : ℤ) → n ≡ or_none o → (IsDate n ↔ IsSome o) → date_of_day n ≡ o
-named-again (Some d) n e dates = date_of_day-Some n (dates.1 refl) ∙ ap Some e
-named-again None n e dates = sym (date_of_day-None n (λ h. false≢true (dates.0 h)))
 
 pub next-is : (r s : Rule) (start first day from n : ℤ) (o : Option ℤ) → s ≡ r → first ≡ start → from ≡ day → date_of_day n ≡ o → IsNextInstance s first from o
     → IsNextInstance r start day (date_of_day n)

@@ -1,5 +1,5 @@
 -- Bytes hold one zone at most.
-use Rattle.std.proofs.Common.{◌≡◌, ◌∙◌, ◌+◌, ◌-◌, ◌≤◌, ◌<◌, ℕ, ℤ, List, [], ◌∷◌, length, take, get_or, Option, Some, None, inl, inr, refl, sym, ap, arith}
+use Rattle.std.proofs.Common.{◌≡◌, ◌∙◌, ◌-◌, ◌≤◌, ◌<◌, ℕ, ℤ, List, [], ◌∷◌, length, take, get_or, Option, Some, None, inl, inr, refl, sym, ap, arith}
 use Rattle.std.proofs.lemmas.List.{ext_get_or, get_or-take, length-take-le}
 use Rattle.zone_table.specs.Table.{no_row}
 use Rattle.zone_table.specs.declared.row.Row.{Row}

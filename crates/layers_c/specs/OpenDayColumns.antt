@@ -14,13 +14,17 @@ open_entry c d = if is_date d && is_open c d then 1 else 0
 
 -- the date that d goes to by n open days, and for none the least `i32`
 pub record IsMovedEntry (c : Closed) (n d e : ℤ) : Type 0 where
+  pub number : e ≡ or_none (date_of_day e)
   pub moved : e ≢ none_number → IsMovedByOpenDays c d n e
   pub none : e ≡ none_number → IsDate d → (f : ℤ) → IsDate f → ¬ IsMovedByOpenDays c d n f
+  pub no_date : ¬ IsDate d → e ≡ none_number
 
 -- the date that d goes to by a roll, and for none the least `i32`
 pub record IsRolledEntry (c : Closed) (r : Roll) (d e : ℤ) : Type 0 where
+  pub number : e ≡ or_none (date_of_day e)
   pub rolled : e ≢ none_number → RollsTo c r d e
   pub none : e ≡ none_number → IsDate d → (f : ℤ) → IsDate f → ¬ RollsTo c r d f
+  pub no_date : ¬ IsDate d → e ≡ none_number
 
 -- the least `i64`, for no number of days
 abbrev pub least_days : ℤ

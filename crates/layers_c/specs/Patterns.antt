@@ -31,6 +31,11 @@ pattern_error_from_c a = option_map (λ cause. record { byte = a.byte; cause = c
 unfoldable pub read_error_from_c : CalendarFault → Option PatternReadError
 read_error_from_c a = option_map (λ cause. record { byte = a.byte; cause = cause }) (numbered read_faults (a.code - 2))
 
+-- a fault has no field, and goes on to the end of the pattern or of the text
+pub record GoesToEnd (text : List ℕ) (fault : CalendarFault) : Type 0 where
+  pub field : fault.field ≡ 0
+  pub end : fault.end ≡ length text
+
 -- the date at midnight, whose text a pattern without a time of day writes
 abbrev pub midnight_of : ℤ → Moment
 midnight_of date = moment date (time_at 0 0 0 0)

@@ -4,6 +4,7 @@ use Rattle.std.specs.Option.{option_map}
 use Rattle.chrono_datetime.specs.PassedOver.{NoneAfter, NoneBefore, PassedBetween}
 use Rattle.chrono_rules.specs.InstanceLists.{instances_from}
 use Rattle.chrono_rules.specs.Instances.{is_instance}
+use Rattle.chrono_rules.specs.RuleErrors.{rule_error_text}
 use Rattle.chrono_rules.specs.RuleTexts.{IsRuleText, rule_body}
 use Rattle.chrono_rules.specs.declared.rule.Frequency.TheVariants.{Daily, Weekly, Monthly, Yearly}
 use Rattle.chrono_rules.specs.declared.rule.Rule.{Rule}
@@ -57,3 +58,7 @@ rule_error_numbered code field byte =
 -- what is wrong, by the numbers of a fault
 unfoldable pub rule_error_from_c : CalendarFault → Option RuleError
 rule_error_from_c a = rule_error_numbered a.code a.field a.byte
+
+-- what a fault says, if there is such a fault
+abbrev pub rule_line_from_c : CalendarFault → Option (List ℕ)
+rule_line_from_c a = option_map rule_error_text (rule_error_from_c a)

@@ -5,6 +5,7 @@ use Rattle.std.specs.Option.{option_map}
 use Rattle.std.specs.Ordering.{is_le}
 use Rattle.chrono_datetime.specs.Moment.{Moment, IsBefore, moment_cmp}
 use Rattle.chrono_cron.specs.Due.{NotDueAfter, NotDueBefore, NotDueBetween, is_due}
+use Rattle.chrono_cron.specs.ErrorTexts.{schedule_error_text}
 use Rattle.chrono_cron.specs.DueMoments.{dues_after}
 use Rattle.chrono_cron.specs.declared.field_sets.FieldSets.{FieldSets}
 use Rattle.numbers_c.specs.DateTimes.{numbers_for_c}
@@ -88,3 +89,7 @@ error_numbered code field byte =
 -- what is wrong, by the numbers of a fault
 unfoldable pub schedule_error_from_c : CalendarFault → Option ScheduleError
 schedule_error_from_c a = error_numbered a.code a.field a.byte
+
+-- what a fault says, if there is such a fault
+abbrev pub schedule_line_from_c : CalendarFault → Option (List ℕ)
+schedule_line_from_c a = option_map schedule_error_text (schedule_error_from_c a)

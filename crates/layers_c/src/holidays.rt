@@ -1,5 +1,5 @@
 //! Holidays: those of calendars that are known by name, Easter, and a test of holidays.
-ghost use Rattle.std.specs.Prelude.{◌≡◌, ◌≢◌, ◌≤◌, ◌≤ℤ◌, ◌<◌, ℕ, List, true, false, None, Some, All, IfSome, IfNone, IfErr, IsSome, length, take, drop, pos, ◌^◌};
+ghost use Rattle.std.specs.Prelude.{◌≡◌, ◌≢◌, ◌≤◌, ◌≤ℤ◌, ◌<◌, ◌+◌, ℕ, List, true, false, None, Some, All, IfSome, IfNone, IfErr, IsSome, length, take, drop, pos, ◌^◌};
 ghost use Rattle.chrono_units.specs.Years.{IsYear};
 ghost use Rattle.chrono_units.specs.SetDigits.{set_at};
 ghost use Rattle.chrono_datetime.specs.Days.{IsDate};
@@ -43,8 +43,13 @@ pub extern "C" fn calendar_holidays_of(
     ensures kept { result ≡ none_number → out.new ≡ out.old }
     ensures counted { result ≢ none_number → pos 0 ≤ℤ result }
     ensures unknown { rules_numbered which ≡ None → result ≡ none_number }
+    ensures years { result ≢ none_number → IsYear first_year × IsYear last_year }
 {
-    if first_year < MIN_YEAR || last_year > MAX_YEAR {
+    if first_year < MIN_YEAR
+        || first_year > MAX_YEAR
+        || last_year < MIN_YEAR
+        || last_year > MAX_YEAR
+    {
         return NONE;
     }
     let most = most_within(out.len());
@@ -69,6 +74,8 @@ pub extern "C" fn calendar_holidays_check(
     ensures right { result ≡ true → IsCalendar weekend holidays.now }
     ensures every { IsCalendar weekend holidays.now → result ≡ true }
     ensures fault { result ≡ false → IsHolidayFault (set_at weekend) holidays.now fault.new.code fault.new.byte }
+    ensures field { result ≡ false → fault.new.field ≡ 0 }
+    ensures end { result ≡ false → fault.new.end ≡ fault.new.byte + 1 }
     ensures no_fault { result ≡ true → fault.new ≡ fault.old }
 {
     let mut room = [NaiveDate::MIN; MOST];
@@ -101,6 +108,8 @@ fn fault_at(code: u32, place: usize) -> CalendarFault
     requires { place < 2 ^ 63 }
     ensures code { result.code ≡ code }
     ensures place { result.byte ≡ place }
+    ensures field { result.field ≡ 0 }
+    ensures end { result.end ≡ place + 1 }
 {
     CalendarFault {
         code,

@@ -1,11 +1,11 @@
 //! Open days: which days are open, how many lie between two dates, and the `n`-th one.
 ghost use Rattle.std.specs.Prelude.{◌≡◌, ◌≢◌, ◌<◌, ◌≤◌, ℤ, false, true, None, Some, All, IfSome, IfNone, length};
 ghost use Rattle.chrono_units.specs.SetDigits.{set_at};
-ghost use Rattle.chrono_datetime.specs.Days.{IsDate};
+ghost use Rattle.chrono_datetime.specs.Days.{IsDate, date_of_day};
 ghost use Rattle.chrono_business.specs.OpenDays.{AreHolidays, IsMovedByOpenDays, closed, is_open, open_days_signed};
 ghost use Rattle.chrono_business.specs.Rolls.{RollsTo};
 ghost use Rattle.chrono_business.specs.declared.roll.Roll.{Roll};
-ghost use Rattle.numbers_c.specs.Answers.{none_number};
+ghost use Rattle.numbers_c.specs.Answers.{none_number, or_none};
 ghost use Rattle.layers_c.specs.OpenDays.{IsCalendar, closed_from_c, no_count, roll_numbered};
 
 use chrono_business::{Calendar, Roll};
@@ -37,6 +37,7 @@ pub extern "C" fn calendar_is_open_day(weekend: u8, holidays: &[i32], date: i32)
 /// Returns the date that is `n` open days after a date, or before it if `n` is negative.
 #[unsafe(no_mangle)]
 pub extern "C" fn calendar_add_open_days(weekend: u8, holidays: &[i32], date: i32, n: i64) -> i32
+    ensures number { result ≡ or_none (date_of_day result) }
     ensures moved { result ≢ none_number → IsMovedByOpenDays (closed_from_c weekend holidays.now) date n result }
     ensures none { result ≡ none_number → IsCalendar weekend holidays.now → IsDate date
         → (e : ℤ) → IsDate e → ¬ IsMovedByOpenDays (closed_from_c weekend holidays.now) date n e }
@@ -83,6 +84,7 @@ pub extern "C" fn calendar_open_days_between(
 /// Returns the date that a date moves to by a roll, from 0 to 6 in the order of `Roll`. An open date stays.
 #[unsafe(no_mangle)]
 pub extern "C" fn calendar_roll(weekend: u8, holidays: &[i32], date: i32, roll: u32) -> i32
+    ensures number { result ≡ or_none (date_of_day result) }
     ensures rolled { result ≢ none_number
         → IfSome (roll_numbered roll) (λ r. RollsTo (closed_from_c weekend holidays.now) r date result) }
     ensures none { (r : Roll) → result ≡ none_number → roll_numbered roll ≡ Some r → IsCalendar weekend holidays.now → IsDate date

@@ -1,7 +1,7 @@
 //! What is wrong with a pattern, or with a text that a pattern reads, as numbers.
 ghost use Rattle.std.specs.Prelude.{◌≡◌, ◌-◌, Some};
 ghost use Rattle.layers_c.specs.Faults.{numbered};
-ghost use Rattle.layers_c.specs.Patterns.{pattern_error_from_c, pattern_faults, read_error_from_c, read_faults};
+ghost use Rattle.layers_c.specs.Patterns.{GoesToEnd, pattern_error_from_c, pattern_faults, read_error_from_c, read_faults};
 
 use crate::faults::CalendarFault;
 use chrono_pattern::{PatternError, PatternFault, PatternReadError, ReadFault};
@@ -9,7 +9,8 @@ use chrono_pattern::{PatternError, PatternFault, PatternReadError, ReadFault};
 // The numbers of what is wrong with a pattern.
 #[tactic(auto, unfolding(crate::specs::Patterns::pattern_error_from_c))]
 pub(crate) fn pattern_fault(pattern: &[u8], error: PatternError) -> CalendarFault
-    ensures { pattern_error_from_c result ≡ Some error }
+    ensures error { pattern_error_from_c result ≡ Some error }
+    ensures end { GoesToEnd pattern.now result }
 {
     CalendarFault {
         code: pattern_fault_number(error.cause),
@@ -22,7 +23,8 @@ pub(crate) fn pattern_fault(pattern: &[u8], error: PatternError) -> CalendarFaul
 // The numbers of what is wrong with a text.
 #[tactic(auto, unfolding(crate::specs::Patterns::read_error_from_c))]
 pub(crate) fn read_fault(text: &[u8], error: PatternReadError) -> CalendarFault
-    ensures { read_error_from_c result ≡ Some error }
+    ensures error { read_error_from_c result ≡ Some error }
+    ensures end { GoesToEnd text.now result }
 {
     CalendarFault {
         code: read_fault_number(error.cause),

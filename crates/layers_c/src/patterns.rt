@@ -10,7 +10,7 @@ ghost use Rattle.chrono_pattern.specs.ZonedParts.{names_moment};
 ghost use Rattle.chrono_pattern.specs.declared.error.PatternReadError.{PatternReadError};
 ghost use Rattle.numbers_c.specs.Answers.{none_number};
 ghost use Rattle.numbers_c.specs.DateTimes.{moment_from_c, numbers_for_c, numbers_or_none};
-ghost use Rattle.layers_c.specs.Patterns.{FitsDate, FitsMoment, IsWritten, midnight_of, pattern_error_from_c, read_error_from_c};
+ghost use Rattle.layers_c.specs.Patterns.{FitsDate, FitsMoment, GoesToEnd, IsWritten, midnight_of, pattern_error_from_c, read_error_from_c};
 
 use crate::faults::CalendarFault;
 use crate::pattern_faults::{pattern_fault, read_fault};
@@ -28,6 +28,7 @@ pub extern "C" fn calendar_pattern_check(pattern: &[u8], fault: &mut CalendarFau
     ensures right { result ≡ true → IsPattern pattern.now }
     ensures every { IsPattern pattern.now → result ≡ true }
     ensures fault { result ≡ false → pattern_error_from_c fault.new ≡ pattern_error pattern.now }
+    ensures end { result ≡ false → GoesToEnd pattern.now fault.new }
     ensures no_fault { result ≡ true → fault.new ≡ fault.old }
 {
     match Pattern::new(pattern) {
@@ -45,6 +46,7 @@ pub extern "C" fn calendar_format_date(pattern: &[u8], date: i32, text: &mut [u8
     ensures written { result ≢ none_number → IsPattern pattern.now × IsDate date
         × IsWritten (pattern_text pattern.now (midnight_of date)) text.old text.new result }
     ensures every { IsDate date → FitsDate pattern.now date (length text.old) → result ≢ none_number }
+    ensures fits { result ≢ none_number → FitsDate pattern.now date (length text.old) }
     ensures kept { result ≡ none_number → text.new ≡ text.old }
 {
     let Ok(pattern) = Pattern::new(pattern) else {
@@ -69,6 +71,7 @@ pub extern "C" fn calendar_format_date_time(
     ensures written { result ≢ none_number → (m : Moment) × (moment_from_c moment ≡ Some m) × IsPattern pattern.now
         × IsWritten (pattern_text pattern.now m) text.old text.new result }
     ensures every { (m : Moment) → moment_from_c moment ≡ Some m → FitsMoment pattern.now m (length text.old) → result ≢ none_number }
+    ensures fits { (m : Moment) → moment_from_c moment ≡ Some m → result ≢ none_number → FitsMoment pattern.now m (length text.old) }
     ensures kept { result ≡ none_number → text.new ≡ text.old }
 {
     let Ok(pattern) = Pattern::new(pattern) else {
@@ -91,6 +94,8 @@ pub extern "C" fn calendar_parse_date(pattern: &[u8], text: &[u8], fault: &mut C
     ensures no_pattern { (IsPattern pattern.now → ⊥) → (result ≡ none_number) × (pattern_error_from_c fault.new ≡ pattern_error pattern.now) }
     ensures fault { result ≡ none_number → IsPattern pattern.now → (e : PatternReadError)
         × (read_error_from_c fault.new ≡ Some e) × IsParseError names_date pattern.now text.now e }
+    ensures pattern_end { (IsPattern pattern.now → ⊥) → GoesToEnd pattern.now fault.new }
+    ensures text_end { result ≡ none_number → IsPattern pattern.now → GoesToEnd text.now fault.new }
     ensures no_fault { result ≢ none_number → fault.new ≡ fault.old }
 {
     match Pattern::new(pattern) {
@@ -123,6 +128,8 @@ pub extern "C" fn calendar_parse_date_time(
         × (pattern_error_from_c fault.new ≡ pattern_error pattern.now) }
     ensures fault { result ≡ numbers_or_none None → IsPattern pattern.now → (e : PatternReadError)
         × (read_error_from_c fault.new ≡ Some e) × IsParseError names_moment pattern.now text.now e }
+    ensures pattern_end { (IsPattern pattern.now → ⊥) → GoesToEnd pattern.now fault.new }
+    ensures text_end { result ≡ numbers_or_none None → IsPattern pattern.now → GoesToEnd text.now fault.new }
     ensures no_fault { result ≢ numbers_or_none None → fault.new ≡ fault.old }
 {
     match Pattern::new(pattern) {

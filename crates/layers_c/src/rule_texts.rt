@@ -1,22 +1,18 @@
 //! The texts of recurrence rules.
-ghost use Rattle.std.specs.Prelude.{◌≡◌, ◌≢◌, ℕ, pos, true, false, Some, Err, length};
-ghost use Rattle.chrono_rules.specs.RuleErrors.{IsRuleRead, rule_error_text};
+ghost use Rattle.std.specs.Prelude.{◌≡◌, true, false, Some, Err, length};
+ghost use Rattle.chrono_rules.specs.RuleErrors.{IsRuleRead};
 ghost use Rattle.chrono_rules.specs.declared.rule.Rule.{Rule};
 ghost use Rattle.chrono_rules.specs.declared.text.rule_error.RuleError.{RuleError};
-ghost use Rattle.numbers_c.specs.Answers.{none_number};
-ghost use Rattle.numbers_c.specs.Texts.{overwritten};
+ghost use Rattle.numbers_c.specs.Answers.{count_or_none};
+ghost use Rattle.numbers_c.specs.Texts.{length_of, overwritten, text_within};
 ghost use Rattle.layers_c.specs.Faults.{IsPartEnd};
-ghost use Rattle.layers_c.specs.Rules.{WritesRule, rule_error_from_c};
+ghost use Rattle.layers_c.specs.Rules.{WritesRule, rule_error_from_c, rule_line_from_c};
 
 use crate::faults::CalendarFault;
 use crate::rule_faults::{error_of, fault_of};
-use arrayvec::ArrayString;
+use crate::rule_words::rule_line;
 use chrono_rules::read_rule;
 use numbers_c::{NONE, write_over};
-use std::fmt::Write;
-
-// No sentence of a fault is longer.
-const LONGEST: usize = 64;
 
 /// Returns whether a text is a recurrence rule of RFC 5545, such as `FREQ=MONTHLY;BYDAY=-1FR`. If it is none, fills in what is wrong.
 #[unsafe(no_mangle)]
@@ -39,16 +35,11 @@ pub extern "C" fn calendar_rule_check(text: &[u8], fault: &mut CalendarFault) ->
 /// Writes what a fault of a rule says over the first bytes, if they are enough, and returns how many it took.
 #[unsafe(no_mangle)]
 pub extern "C" fn calendar_rule_fault_text(fault: &CalendarFault, text: &mut [u8]) -> i32
-    ensures sentence { result ≢ none_number → (e : RuleError) × (rule_error_from_c fault.now ≡ Some e)
-        × (text.new ≡ overwritten (Some (rule_error_text e)) text.old) × (result ≡ pos (length (rule_error_text e))) }
-    ensures kept { result ≡ none_number → text.new ≡ text.old }
+    ensures length { result ≡ count_or_none (length_of (text_within (length text.old) (rule_line_from_c fault.now))) }
+    ensures bytes { text.new ≡ overwritten (text_within (length text.old) (rule_line_from_c fault.now)) text.old }
 {
-    let Some(error) = error_of(fault) else {
-        return NONE;
-    };
-    let mut sentence = ArrayString::<LONGEST>::new();
-    match write!(sentence, "{error}") {
-        Ok(()) => write_over(text, sentence.as_str().as_bytes()),
-        Err(_) => NONE,
+    match error_of(fault) {
+        Some(error) => write_over(text, rule_line(error).as_bytes()),
+        None => NONE,
     }
 }

@@ -1,26 +1,20 @@
 //! The texts of schedules.
-ghost use Rattle.std.specs.Prelude.{◌≡◌, ◌≢◌, ℕ, pos, true, false, Some, length};
-ghost use Rattle.chrono_cron.specs.ErrorTexts.{schedule_error_text};
+ghost use Rattle.std.specs.Prelude.{◌≡◌, true, false, Some, length};
 ghost use Rattle.chrono_cron.specs.ScheduleErrors.{schedule_error};
 ghost use Rattle.chrono_cron.specs.ScheduleTexts.{IsScheduleText};
 ghost use Rattle.chrono_cron.specs.declared.field_sets.FieldSets.{FieldSets};
-ghost use Rattle.chrono_cron.specs.declared.text.schedule_error.ScheduleError.{ScheduleError};
-ghost use Rattle.numbers_c.specs.Answers.{none_number};
-ghost use Rattle.numbers_c.specs.Texts.{overwritten};
+ghost use Rattle.numbers_c.specs.Answers.{count_or_none};
+ghost use Rattle.numbers_c.specs.Texts.{length_of, overwritten, text_within};
 ghost use Rattle.layers_c.specs.Faults.{IsPartEnd};
-ghost use Rattle.layers_c.specs.Schedules.{schedule_error_from_c, sets_from_c};
+ghost use Rattle.layers_c.specs.Schedules.{schedule_error_from_c, schedule_line_from_c, sets_from_c};
 
 use crate::faults::CalendarFault;
 use crate::schedule_faults::{error_of, fault_of};
 use crate::schedule_numbers::{CalendarSchedule, numbers_of};
-use arrayvec::ArrayString;
+use crate::schedule_words::schedule_line;
 use chrono_cron::law::read_schedules_are_writable;
 use chrono_cron::read_schedule;
 use numbers_c::{NONE, write_over};
-use std::fmt::Write;
-
-// No sentence of a fault is longer.
-const LONGEST: usize = 99;
 
 /// Reads a schedule as cron writes it, and returns whether the text is one. If it is none, fills in what is wrong.
 #[unsafe(no_mangle)]
@@ -52,16 +46,11 @@ pub extern "C" fn calendar_schedule_read(
 /// Writes what a fault of a schedule says over the first bytes, if they are enough, and returns how many it took.
 #[unsafe(no_mangle)]
 pub extern "C" fn calendar_schedule_fault_text(fault: &CalendarFault, text: &mut [u8]) -> i32
-    ensures sentence { result ≢ none_number → (e : ScheduleError) × (schedule_error_from_c fault.now ≡ Some e)
-        × (text.new ≡ overwritten (Some (schedule_error_text e)) text.old) × (result ≡ pos (length (schedule_error_text e))) }
-    ensures kept { result ≡ none_number → text.new ≡ text.old }
+    ensures length { result ≡ count_or_none (length_of (text_within (length text.old) (schedule_line_from_c fault.now))) }
+    ensures bytes { text.new ≡ overwritten (text_within (length text.old) (schedule_line_from_c fault.now)) text.old }
 {
-    let Some(error) = error_of(fault) else {
-        return NONE;
-    };
-    let mut sentence = ArrayString::<LONGEST>::new();
-    match write!(sentence, "{error}") {
-        Ok(()) => write_over(text, sentence.as_str().as_bytes()),
-        Err(_) => NONE,
+    match error_of(fault) {
+        Some(error) => write_over(text, schedule_line(error).as_bytes()),
+        None => NONE,
     }
 }

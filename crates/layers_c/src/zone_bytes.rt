@@ -4,7 +4,7 @@ ghost use Rattle.zone.specs.Parts.{IsZone, ZoneParts};
 ghost use Rattle.zone_rule.specs.declared.rule.ZoneRule.{ZoneRule};
 ghost use Rattle.zone_database.specs.OwnedZones.{IsFooterOf};
 ghost use Rattle.layers_c.specs.Zones.{HoldsZone, IsZoneOfRule, IsZoneOfShortFile, is_of_file};
-ghost use Rattle.layers_c.specs.ZoneFaults.{IsFileReason, IsPartsReason, IsReason, IsTextReason};
+ghost use Rattle.layers_c.specs.ZoneFaults.{IsFileReason, IsPartsReason, IsReason, IsTextReason, footer_start};
 
 use zone::{FixedOffset, Row, Zone, ZoneFault, ZoneRule};
 use zone_file::{ZoneFileError, ZoneRowsError};
@@ -132,6 +132,7 @@ fn rule_of_footer(footer: &[u8]) -> Result<Option<ZoneRule>, ZoneTextError>
     ensures read { IfOk result (λ rule. IsFooterOf footer.now rule) }
     ensures only { IfOk result (λ rule. (r : Option ZoneRule) → IsFooterOf footer.now r → rule ≡ r) }
     ensures none { IfErr result (λ _. (r : Option ZoneRule) → ¬ IsFooterOf footer.now r) }
+    ensures within { IfErr result (λ e. e.byte ≤ length footer.now) }
 {
     if footer.is_empty() {
         return Ok(None);
@@ -144,7 +145,7 @@ fn rule_of_footer(footer: &[u8]) -> Result<Option<ZoneRule>, ZoneTextError>
 
 // The byte of a file at which its footer begins, which a newline ends.
 fn place_of_footer(bytes: &[u8], footer: &[u8]) -> usize
-    ensures { result ≤ length bytes.now }
+    ensures { result ≡ footer_start bytes.now footer.now }
 {
     bytes.len().saturating_sub(footer.len().saturating_add(1))
 }

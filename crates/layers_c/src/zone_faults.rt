@@ -1,9 +1,11 @@
 //! What is wrong with bytes that hold no zone.
-ghost use Rattle.std.specs.Prelude.{◌≡◌, ◌≤◌, ◌-◌, Some, true, false, length};
+ghost use Rattle.std.specs.Prelude.{◌≡◌, ◌≤◌, ◌-◌, Some, None, IfSome, IfNone, true, false, length};
+ghost use Rattle.numbers_c.specs.Answers.{count_or_none};
+ghost use Rattle.numbers_c.specs.Texts.{length_of, overwritten, text_within};
 ghost use Rattle.zone.specs.Parts.{ZoneParts};
 ghost use Rattle.layers_c.specs.Zones.{HoldsZone, IsPartOf};
-ghost use Rattle.layers_c.specs.ZoneFaults.{IsNumberedReason, IsReason, file_faults, row_number, text_faults};
-ghost use Rattle.layers_c.specs.Faults.{numbered};
+ghost use Rattle.layers_c.specs.ZoneFaults.{IsNumberedReason, IsPlacedReason, IsReason, HasByteWithin, file_faults, row_number, text_faults, zone_fault_texts};
+ghost use Rattle.layers_c.specs.Faults.{IsPartEnd, numbered};
 ghost use Rattle.layers_c.specs.declared.zone_bytes.NoZone.{NoZone};
 
 use crate::faults::CalendarFault;
@@ -14,16 +16,14 @@ use zone::ZoneFault;
 use zone_file::{ZoneFileFault, ZoneRowsError};
 use zone_text::ZoneTextFault;
 
-// No sentence of a fault is longer.
-const LONGEST: usize = 64;
-
 /// Returns whether bytes hold a zone: those of a TZif file, or the text of a rule. If they hold none, fills in what is wrong.
 #[unsafe(no_mangle)]
 pub extern "C" fn calendar_zone_check(zone: &[u8], fault: &mut CalendarFault) -> bool
     ensures read { result ≡ true → (z : ZoneParts) × HoldsZone zone.now z }
     ensures every { (z : ZoneParts) → HoldsZone zone.now z → result ≡ true }
     ensures place { result ≡ false → IsPartOf fault.new.byte fault.new.end (length zone.now) }
-    ensures fault { result ≡ false → (why : NoZone) × IsReason zone.now why × IsNumberedReason fault.new.code fault.new.field why }
+    ensures fault { result ≡ false → (why : NoZone) × IsReason zone.now why × IsNumberedReason fault.new.code fault.new.field why
+        × IsPlacedReason zone.now fault.new.byte fault.new.end why }
     ensures no_fault { result ≡ true → fault.new ≡ fault.old }
 {
     let mut room = row_room();
@@ -38,29 +38,29 @@ pub extern "C" fn calendar_zone_check(zone: &[u8], fault: &mut CalendarFault) ->
 
 /// Writes what a fault of a zone says over the first bytes, if they are enough, and returns how many it took.
 #[unsafe(no_mangle)]
-pub extern "C" fn calendar_zone_fault_text(fault: &CalendarFault, text: &mut [u8]) -> i32 {
-    let sentence = sentence_of(fault.code).as_bytes();
-    if sentence.is_empty() || sentence.len() > LONGEST {
-        return NONE;
+pub extern "C" fn calendar_zone_fault_text(fault: &CalendarFault, text: &mut [u8]) -> i32
+    ensures length { result ≡ count_or_none (length_of (text_within (length text.old) (numbered zone_fault_texts fault.now.code))) }
+    ensures bytes { text.new ≡ overwritten (text_within (length text.old) (numbered zone_fault_texts fault.now.code)) text.old }
+{
+    match sentence_of(fault.code) {
+        Some(sentence) => write_over(text, sentence.as_bytes()),
+        None => NONE,
     }
-    write_over(text, sentence)
 }
 
 // The numbers of what is wrong with bytes.
 fn fault_of(bytes: &[u8], reason: NoZone) -> CalendarFault
+    requires { HasByteWithin (length bytes.now) reason }
     ensures place { IsPartOf result.byte result.end (length bytes.now) }
     ensures why { IsNumberedReason result.code result.field reason }
+    ensures placed { IsPlacedReason bytes.now result.byte result.end reason }
 {
     match reason {
         NoZone::File(error) => in_file(bytes, file_code(error.fault), 0, error.byte),
         NoZone::FirstKind => in_file(bytes, 7, 0, 0),
         NoZone::Rows(ZoneRowsError::NoRow(place)) => in_file(bytes, 8, row_number(place), 0),
         NoZone::Rows(ZoneRowsError::NoRoom(_)) => in_file(bytes, 9, 0, 0),
-        NoZone::Rule(start, error) => {
-            let byte = start.saturating_add(error.byte).min(bytes.len());
-            let end = part_end(bytes, byte);
-            numbers(text_code(error.fault), 0, byte, end)
-        }
+        NoZone::Rule(start, error) => in_rule(bytes, text_code(error.fault), start + error.byte),
         NoZone::Parts(ZoneFault::Unordered(place)) => in_file(bytes, 15, row_number(place), 0),
         NoZone::Parts(ZoneFault::NotJoined) => in_file(bytes, 16, 0, 0),
     }
@@ -68,11 +68,21 @@ fn fault_of(bytes: &[u8], reason: NoZone) -> CalendarFault
 
 // What is wrong from a byte of a file on.
 fn in_file(bytes: &[u8], code: u32, row: u32, byte: usize) -> CalendarFault
-    ensures place { IsPartOf result.byte result.end (length bytes.now) }
-    ensures code { result.code ≡ code }
-    ensures row { result.field ≡ row }
+    requires { byte ≤ length bytes.now }
+    ensures { result ≡ record { code = code; field = row; byte = byte; end = length bytes.now } }
 {
-    numbers(code, row, byte.min(bytes.len()), bytes.len())
+    numbers(code, row, byte, bytes.len())
+}
+
+// What is wrong with a part of a rule.
+fn in_rule(bytes: &[u8], code: u32, byte: usize) -> CalendarFault
+    requires { byte ≤ length bytes.now }
+    ensures code { result.code ≡ code }
+    ensures no_row { result.field ≡ 0 }
+    ensures byte { result.byte ≡ byte }
+    ensures end { IsPartEnd bytes.now result.byte result.end }
+{
+    numbers(code, 0, byte, part_end(bytes, byte))
 }
 
 // The numbers of a fault.
@@ -121,25 +131,29 @@ fn text_code(fault: ZoneTextFault) -> u32
     }
 }
 
-// What a fault says, or nothing if there is no such fault.
-fn sentence_of(code: u32) -> &'static str {
+// What a fault says, if there is such a fault.
+fn sentence_of(code: u32) -> Option<&'static str>
+    ensures said { IfSome result (λ s. numbered zone_fault_texts code ≡ Some s.now) }
+    ensures short { IfSome result (λ s. length s.now ≤ 64) }
+    ensures none { IfNone result (numbered zone_fault_texts code ≡ None) }
+{
     match code {
-        1 => "no header of a TZif file stands there",
-        2 => "an unknown version of TZif",
-        3 => "the file is cut off",
-        4 => "the counts of the header are wrong",
-        5 => "the file counts leap seconds",
-        6 => "the footer is wrong",
-        7 => "no local time is named to begin with",
-        8 => "a row names no local time",
-        9 => "more than 512 rows",
-        10 => "a name of three letters or more is missing",
-        11 => "an offset is missing",
-        12 => "the offset is a day or more",
-        13 => "the days of daylight time are missing",
-        14 => "no day stands there on which the clock is set",
-        15 => "a row does not follow the one before it",
-        16 => "the rule does not go on from the last row",
-        _ => "",
+        1 => Some("no header of a TZif file stands there"),
+        2 => Some("an unknown version of TZif"),
+        3 => Some("the file is cut off"),
+        4 => Some("the counts of the header are wrong"),
+        5 => Some("the file counts leap seconds"),
+        6 => Some("the footer is wrong"),
+        7 => Some("no local time is named to begin with"),
+        8 => Some("a row names no local time"),
+        9 => Some("more than 512 rows"),
+        10 => Some("a name of three letters or more is missing"),
+        11 => Some("an offset is missing"),
+        12 => Some("the offset is a day or more"),
+        13 => Some("the days of daylight time are missing"),
+        14 => Some("no day stands there on which the clock is set"),
+        15 => Some("a row does not follow the one before it"),
+        16 => Some("the rule does not go on from the last row"),
+        _ => None,
     }
 }

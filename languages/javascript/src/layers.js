@@ -341,8 +341,8 @@ function putZone(room, zone) {
   return [address(room, ZONE), BigInt(zone.length)];
 }
 
-/** Throws a TextError if bytes are no zone, where `text` is shown as what is wrong, and is itself wrong if they are its bytes. */
-export function checkZone(zone, text, isText) {
+/** Throws a TextError if bytes are no zone, where `text` is shown as what is wrong, and is itself wrong if they are its bytes. The message ends with a hint. */
+export function checkZone(zone, text, isText, hint = "") {
   const room = open();
   const { layers, view } = room;
   if (layers.calendar_zone_check(...putZone(room, zone), address(room, FAULT))) {
@@ -350,7 +350,7 @@ export function checkZone(zone, text, isText) {
   }
   const [start, end] = isText ? wrongPart(room, zone) : [8, 16].map((it) => Number(view.getBigUint64(FAULT + it, true)));
   const length = layers.calendar_zone_fault_text(address(room, FAULT), address(room, TEXT), BigInt(LONGEST));
-  throw new TextError(text, start, end, textAt(room, TEXT, length));
+  throw new TextError(text, start, end, textAt(room, TEXT, length), hint);
 }
 
 /** How many seconds the clock of a zone is ahead of UTC at a second since 1970, a BigInt. */

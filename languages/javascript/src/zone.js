@@ -6,6 +6,10 @@ import { checkZone, LONGEST_ZONE, nextInZone, previousInZone, zoneHoldsUntil, zo
 /** What a name of a zone is, so that a text of an instant can end with it. */
 const NAME = /^[A-Za-z0-9_+-]+(?:\/[A-Za-z0-9_+-]+)*$/;
 
+/** A text that looks like the name of a zone and like no rule, and what is told of it: names are not looked up. */
+const LIKE_A_NAME = /^[A-Za-z_]+(?:\/[A-Za-z0-9_+-]+)*$/;
+const HINT = "; for the zone of a name, read its file: new Zone(readFileSync(`/usr/share/zoneinfo/${name}`), name)";
+
 /** The last second of 64 bits. */
 const NEVER = 2n ** 63n - 1n;
 
@@ -57,7 +61,7 @@ export class Zone {
     if (this.#bytes.length > LONGEST_ZONE) {
       throw new RangeError(`${shown}: longer than ${LONGEST_ZONE.toLocaleString("en")} bytes`);
     }
-    checkZone(this.#bytes, shown, this.#rule !== undefined);
+    checkZone(this.#bytes, shown, this.#rule !== undefined, LIKE_A_NAME.test(this.#rule ?? "") ? HINT : "");
   }
 
   /** The zone of a text, or of a zone. */

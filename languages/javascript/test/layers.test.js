@@ -395,7 +395,7 @@ test("parse_date", () => {
   ]) {
     assert.throws(() => pattern.parseDate(text), { ...wrongFrom(start, text.length, reason), text, message: `${JSON.stringify(text)}: ${reason}` });
   }
-  assert.throws(() => new Pattern("%d.%m.").parseDate("29.2."), wrongFrom(5, 5, "too few fields for a day or a time"));
+  assert.throws(() => new Pattern("%d.%m.").parseDate("29.2."), wrongFrom(0, 5, "too few fields for a day or a time"));
   // (a place is one of the string, and never within a character: the first bytes of both letters are the same)
   assert.throws(() => new Pattern("\u{1f600}\u00e9%F").parseDate("\u{1f600}\u00e82024-02-29"), wrongFrom(2, 13, "not of the pattern"));
   assert.throws(() => pattern.parseDate("1".repeat(57_345)), wrongFrom(57_344, 57_345, "longer than 57,344 bytes"));
@@ -406,7 +406,7 @@ test("parse_date_time", () => {
   assert.equal(`${new Pattern("%FT%T%.f").parseDateTime("2024-02-29T23:59:60.5")}`, "2024-02-29T23:59:60.5");
   assert.equal(`${new Pattern("%s").parseDateTime("0")}`, "1970-01-01T00:00:00");
   assert.throws(() => new Pattern("%F %R").parseDateTime("2024-03-01 25:00"), wrongFrom(11, 16, "a number that is out of range"));
-  assert.throws(() => new Pattern("%F").parseDateTime("2024-03-01"), wrongFrom(10, 10, "too few fields for a day or a time"));
+  assert.throws(() => new Pattern("%F").parseDateTime("2024-03-01"), wrongFrom(0, 10, "too few fields for a day or a time"));
 });
 
 /** Central Europe by its rule. */
@@ -448,6 +448,9 @@ test("zone_fault_text", () => {
     [new TextEncoder().encode("XXX24"), "the offset is a day or more"],
   ]) {
     assert.throws(() => new Zone(given), (wrong) => wrong.reason === reason);
+  }
+  for (const [given, isHinted] of [["Europe/Berlin", true], ["UTC", true], ["Etc/GMT+1", true], ["EST5EDT", false], ["XXX24", false], ["Here there", false]]) {
+    assert.throws(() => new Zone(given), (wrong) => wrong.message.includes("readFileSync(`/usr/share/zoneinfo/${name}`)") === isHinted);
   }
 });
 

@@ -151,6 +151,30 @@ def as_time_zone(moment: Any, tz: Any) -> Any:
     return moment if zone is moment.tzinfo else from_utc(utc, zone)
 
 
+# ---- schedules in other zones
+
+
+def _own_zone(zone: Any) -> Zone:
+    """The Zone that stands for a ZoneInfo, by its key, or for a fixed offset of whole seconds."""
+    if isinstance(zone, datetime.timezone) and not zone.utcoffset(None).microseconds:
+        behind = -zone.utcoffset(None) // datetime.timedelta(seconds=1)
+        minutes, second = divmod(abs(behind), 60)
+        return Zone.from_rule(f"UTC{'-' * (behind < 0)}{minutes // 60}:{minutes % 60:02}:{second:02}")
+    if isinstance(zone, zoneinfo.ZoneInfo) and zone.key is not None:
+        return Zone(zone.key)
+    raise ValueError(f"a schedule goes by a Zone, a ZoneInfo with a key or a fixed offset, not by {zone!r}: make a Zone, or one by Zone.from_tzif")
+
+
+def schedule_by_other_zone(schedule: Any, method: str, moment: Any, until: Any, zone: Any) -> Any:
+    """What a method of a schedule answers for a date-time in a zone that is no Zone; its date-times are in that zone."""
+    start = moment if isinstance(moment, DateTime) else DateTime.from_datetime(moment)
+    start = start.astimezone(_own_zone(zone))
+    if method == "iterate":
+        return (it.astimezone(zone) for it in schedule.iterate(start, until))
+    found = getattr(schedule, method)(start)
+    return found.astimezone(zone) if isinstance(found, DateTime) else found
+
+
 # ---- files of zones
 
 _KEY = re.compile(r"[A-Za-z0-9_+-]+(?:/[A-Za-z0-9_+-]+)*")

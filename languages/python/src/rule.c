@@ -46,6 +46,23 @@ static PyObject *refuse_rule(PyObject *text, const calendar_fault *fault)
     return refuse_bytes(text, said, calendar_rule_fault_text(fault, said, ROOM), fault->byte, fault->end);
 }
 
+/* Reads a date-time without a time zone. Of one with a zone it says what to do. */
+static bool take_local(PyObject *it, calendar_date_time *moment)
+{
+    Zoning zoning;
+    bool is_one;
+    if (!read_moment(it, moment, &zoning, &is_one)) {
+        return false;
+    }
+    bool has_zone = is_one && zoning.zone;
+    Py_XDECREF(zoning.zone);
+    if (has_zone) {
+        PyErr_SetString(PyExc_ValueError, "a rule goes by a clock without a time zone: give it dt.replace(tzinfo=None), and each instance its zone");
+        return false;
+    }
+    return is_one || refuse_type("a DateTime or a datetime.datetime", it);
+}
+
 /* Reads the start: a date, or a date-time without a time zone. */
 static bool read_start(PyObject *it, Rule *rule)
 {
@@ -55,7 +72,7 @@ static bool read_start(PyObject *it, Rule *rule)
     if (!rule->is_timed) {
         return take_date(it, &rule->start);
     }
-    if (!take_moment(it, &moment)) {
+    if (!take_local(it, &moment)) {
         return false;
     }
     rule->start = calendar_date_time_date(moment);
@@ -127,7 +144,7 @@ static bool read_place(const Rule *of, PyObject *it, Place *place)
     if (!of->is_timed) {
         return take_date(it, &place->day);
     }
-    if (!take_moment(it, &moment)) {
+    if (!take_local(it, &moment)) {
         return false;
     }
     uint32_t second = (uint32_t)calendar_date_time_second_of_day(moment);
@@ -476,8 +493,8 @@ PyDoc_STRVAR(documentation,
 ">>> fridays = Rule('FREQ=MONTHLY;BYDAY=-1FR', Date(2024, 1, 1))\n"
 ">>> fridays[0], fridays[1:3], Date(2024, 2, 23) in fridays\n"
 "(Date(2024, 1, 26), [Date(2024, 2, 23), Date(2024, 3, 29)], True)\n\n"
-"From a Date on, the instances are Dates. From a DateTime on, they are DateTimes with its time of day. The start is an instance only\n"
-"if it fits the rule. A rule without COUNT and UNTIL goes on to the end of the calendar.\n\n"
+"From a Date on, the instances are Dates. From a DateTime on, which has no time zone, they are DateTimes with its time of day. The\n"
+"start is an instance only if it fits the rule. A rule without COUNT and UNTIL goes on to the end of the calendar.\n\n"
 "FREQ is DAILY, WEEKLY, MONTHLY or YEARLY. BYHOUR, BYMINUTE, BYSECOND and an UNTIL with a time of day are not read. A text that is no\n"
 "rule raises TextError, a ValueError with start and end. Rules of one text and one start are equal.");
 

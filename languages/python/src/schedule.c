@@ -97,7 +97,8 @@ static PyObject *zoned_or_none(PyObject *zone, calendar_date_time utc)
     return date_time_by_zone(date_time_type, zone, utc);
 }
 
-/* Reads a date-time without a time zone, or one in a Zone as that of UTC; the zone, of which there is a new reference, or null. */
+/* Reads a date-time without a time zone, one in a Zone as that of UTC, or one in another zone as its clock shows it; the zone, of which
+ * there is a new reference, or null. */
 static bool take_start(PyObject *it, calendar_date_time *start, PyObject **zone)
 {
     Zoning zoning;
@@ -110,21 +111,24 @@ static bool take_start(PyObject *it, calendar_date_time *start, PyObject **zone)
         refuse_type("a DateTime or a datetime.datetime", it);
         return false;
     }
-    if (!zoning.zone) {
-        return true;
-    }
-    if (!is_zone(zoning.zone)) {
-        PyErr_Format(PyExc_ValueError, "the time zone of the date-time is no Zone of proved_calendar, but %R", zoning.zone);
-        Py_DECREF(zoning.zone);
-        return false;
-    }
-    *start = utc_by_zone(zoning.zone, *start, zoning.fold);
     *zone = zoning.zone;
+    if (zoning.zone && is_zone(zoning.zone)) {
+        *start = utc_by_zone(zoning.zone, *start, zoning.fold);
+    }
     return true;
 }
 
+/* What a method answers for a date-time in a zone that is no Zone. Takes the reference to the zone. */
+static PyObject *by_other_zone(PyObject *self, const char *method, PyObject *it, PyObject *until, PyObject *zone)
+{
+    PyObject *found = by_python(ZONED, "schedule_by_other_zone", "(OsOOO)", self, method, it, until, zone);
+    Py_DECREF(zone);
+    return found;
+}
+
 /* A moment of a schedule, that which a function finds from a start on; in a Zone another function finds it. */
-static PyObject *found_from(PyObject *self, PyObject *it, calendar_date_time (*find)(const calendar_schedule *, calendar_date_time),
+static PyObject *found_from(PyObject *self, PyObject *it, const char *method,
+                            calendar_date_time (*find)(const calendar_schedule *, calendar_date_time),
                             calendar_date_time (*find_in_zone)(const calendar_schedule *, const uint8_t *, size_t, calendar_date_time))
 {
     calendar_date_time start;
@@ -136,6 +140,9 @@ static PyObject *found_from(PyObject *self, PyObject *it, calendar_date_time (*f
     if (!zone) {
         return moment_or_none(find(fields_of(self), start));
     }
+    if (!is_zone(zone)) {
+        return by_other_zone(self, method, it, Py_None, zone);
+    }
     const uint8_t *bytes = bytes_of_zone(zone, &length);
     PyObject *found = zoned_or_none(zone, find_in_zone(fields_of(self), bytes, length, start));
     Py_DECREF(zone);
@@ -144,18 +151,43 @@ static PyObject *found_from(PyObject *self, PyObject *it, calendar_date_time (*f
 
 static PyObject *next_after(PyObject *self, PyObject *it)
 {
-    return found_from(self, it, calendar_schedule_next, calendar_zone_schedule_next);
+    return found_from(self, it, "next_after", calendar_schedule_next, calendar_zone_schedule_next);
 }
 
 static PyObject *prev_before(PyObject *self, PyObject *it)
 {
-    return found_from(self, it, calendar_schedule_prev, calendar_zone_schedule_prev);
+    return found_from(self, it, "prev_before", calendar_schedule_prev, calendar_zone_schedule_prev);
+}
+
+/* Whether a schedule fires in a zone at a moment of UTC: it does so at whole seconds alone. */
+static bool is_due_in_zone(PyObject *self, PyObject *zone, calendar_date_time utc)
+{
+    size_t length;
+    const uint8_t *bytes = bytes_of_zone(zone, &length);
+    if (utc.nanos != 0) {
+        return false;
+    }
+    calendar_date_time before = {.seconds = utc.seconds - 1, .nanos = 0};
+    calendar_date_time next = calendar_zone_schedule_next(fields_of(self), bytes, length, before);
+    return next.nanos == 0 && next.seconds == utc.seconds;
 }
 
 static PyObject *is_due(PyObject *self, PyObject *it)
 {
     calendar_date_time moment;
-    return take_moment(it, &moment) ? PyBool_FromLong(calendar_schedule_is_due(fields_of(self), moment)) : NULL;
+    PyObject *zone;
+    if (!take_start(it, &moment, &zone)) {
+        return NULL;
+    }
+    if (!zone) {
+        return PyBool_FromLong(calendar_schedule_is_due(fields_of(self), moment));
+    }
+    if (!is_zone(zone)) {
+        return by_other_zone(self, "is_due", it, Py_None, zone);
+    }
+    bool is_one = is_due_in_zone(self, zone, moment);
+    Py_DECREF(zone);
+    return PyBool_FromLong(is_one);
 }
 
 /* ---- all moments, one after another */
@@ -168,6 +200,9 @@ static PyObject *iterate(PyObject *self, PyObject *const *arguments, Py_ssize_t 
         return NULL;
     }
     bool has_end = parts[1] && parts[1] != Py_None;
+    if (zone && !is_zone(zone)) {
+        return by_other_zone(self, "iterate", parts[0], has_end ? parts[1] : Py_None, zone);
+    }
     bool is_read = !has_end || (zone ? take_instant(parts[1], &until) : take_moment(parts[1], &until));
     Moments *moments = is_read ? PyObject_New(Moments, iterator_type) : NULL;
     if (moments) {
@@ -298,7 +333,8 @@ static PyMethodDef methods[] = {
      "In a Zone it is the last at which cron fires."},
     {"is_due", is_due, METH_O,
      "is_due($self, moment, /)\n--\n\n"
-     "Returns whether the schedule is due at a moment. It is due at the beginning of a minute, and never within one."},
+     "Returns whether the schedule is due at a moment. It is due at the beginning of a minute, and never within one.\n"
+     "In a Zone it says whether cron fires then."},
     {"iterate", METHOD(iterate), METH_FASTCALL | METH_KEYWORDS,
      "iterate($self, /, start, until=None)\n--\n\n"
      "Returns an iterator over the DateTimes after start at which the schedule is due, in order, and none after until.\n"
@@ -318,7 +354,7 @@ PyDoc_STRVAR(documentation,
 "enough, unless one field begins with '*'.\n\n"
 "From a start without a time zone it goes by a clock that is never set. From one in a Zone it fires as cron does: a time that the\n"
 "clock skips fires as the gap ends, and one that it shows twice fires once. But a schedule of every minute or hour goes by what\n"
-"the clock shows.\n\n"
+"the clock shows. A ZoneInfo serves as the Zone of its key, and a datetime.timezone as a zone of its offset.\n\n"
 ">>> nightly = Schedule('30 2 * * *').iterate(DateTime(2024, 3, 30, tzinfo=Zone('Europe/Berlin')))\n"
 ">>> print(next(nightly), next(nightly))\n2024-03-30T02:30:00+01:00 2024-03-31T03:00:00+02:00\n\n"
 "A text that is no schedule raises TextError, a ValueError with start and end.\n\n"

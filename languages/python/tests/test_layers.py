@@ -85,9 +85,8 @@ class Schedules(unittest.TestCase):
         self.assertEqual(daily.prev_before(theirs), datetime.datetime(2024, 2, 28))
         self.assertFalse(daily.is_due(theirs))
         self.assertEqual([it.day for it in daily.iterate(theirs, datetime.datetime(2024, 3, 1))], [29, 1])
-        aware = theirs.replace(tzinfo=datetime.timezone.utc)
+        self.assertRaises(ValueError, daily.iterate, theirs, theirs.replace(tzinfo=datetime.timezone.utc))
         for call in (daily.next_after, daily.prev_before, daily.is_due, daily.iterate, lambda it: daily.iterate(theirs, it)):
-            self.assertRaises(ValueError, call, aware)
             for wrong in (Date(2024, 2, 28), datetime.date(2024, 2, 28), "2024-02-28", 1, None):
                 if call is not daily.iterate or wrong is not None:
                     self.assertTrue(wrong is None or self.assertRaises(TypeError, call, wrong) is None)
@@ -256,8 +255,9 @@ class Rules(unittest.TestCase):
             Rule("FREQ=DAILY;COUNT=x", JANUARY)
         self.assertIn("x", caught.exception.text[caught.exception.start:caught.exception.end])
         aware = DateTime(2024, 1, 1, tzinfo=datetime.timezone.utc)
-        self.assertRaises(ValueError, Rule, "FREQ=DAILY", aware)
-        self.assertRaises(ValueError, TIMED.after, aware)
+        self.assertRaisesRegex(ValueError, r"replace\(tzinfo=None\)", Rule, "FREQ=DAILY", aware)
+        self.assertRaisesRegex(ValueError, r"replace\(tzinfo=None\)", TIMED.after, aware)
+        self.assertRaisesRegex(ValueError, r"replace\(tzinfo=None\)", TIMED.before, aware.to_datetime())
         for call in (
             lambda: Rule("FREQ=DAILY"), lambda: Rule(1, JANUARY), lambda: Rule("FREQ=DAILY", "2024-01-01"), lambda: FRIDAYS.after(1),
             lambda: FRIDAYS.after(DateTime(2024, 1, 1)), lambda: TIMED.after(JANUARY), lambda: FRIDAYS.before(), lambda: FRIDAYS.between(JANUARY),
@@ -491,7 +491,7 @@ class Patterns(unittest.TestCase):
             ("29-2", 2, "not of the pattern"), ("29.13", 3, "a number that is out of range"), ("29.2.2023", 9, "no such day or time"),
         ):
             self.wrong(pattern.parse_date, text, start, len(text), said)
-        self.wrong(Pattern("%d.%m.").parse_date, "29.2.", 5, 5, "too few fields for a day or a time")
+        self.wrong(Pattern("%d.%m.").parse_date, "29.2.", 0, 5, "too few fields for a day or a time")
         self.wrong(moment.parse_date_time, "2024-03-01 25:00", 11, 16, "a number that is out of range")
         # (places are characters, and not bytes)
         self.wrong(Pattern("\U0001f600\u00e9%F").parse_date, "\U0001f600\u00e82024-02-29", 1, 12, "not of the pattern")

@@ -3,6 +3,7 @@
 conversions, comparisons, hashes, differences, texts and timestamps."""
 import copy
 import datetime
+import itertools
 import os
 import pickle
 import random
@@ -208,10 +209,37 @@ class OwnZones(Cases):
         self.assertEqual((len(many), many[-1]), (241, winter + Duration(days=9, hours=23, minutes=30)))
         self.assertEqual(len({it.timestamp() for it in many}), 241)
         self.assertEqual((Schedule("0 0 30 2 *").next_after(start), Schedule("0 0 30 2 *").prev_before(start), [*Schedule("0 0 30 2 *").iterate(start)]), (None, None, []))
-        self.assertRaises(ValueError, nightly.next_after, DateTime(2024, 3, 30, tzinfo=BERLIN))
-        self.assertRaises(ValueError, nightly.is_due, start)
+        for hour, minute, day, is_due in [(3, 0, 31, True), (2, 30, 31, False), (2, 30, 30, True), (2, 0, 31, True), (3, 1, 31, False)]:
+            self.assertIs(nightly.is_due(DateTime(2024, 3, day, hour, minute, tzinfo=berlin)), is_due)
+        self.assertEqual([it.is_due(first.replace(fold=fold)) for it in (nightly, hourly) for fold in (0, 1)], [True, False, True, True])
+        self.assertIs(nightly.is_due(first.replace(nanosecond=1)), False)
         for wrong in (lambda: nightly.iterate(start, DateTime(2024, 4, 1)), lambda: nightly.iterate(start, 7), lambda: nightly.next_after(7)):
             self.assertRaises(TypeError, wrong)
+
+    def test_schedules_in_other_zones(self):
+        """A ZoneInfo serves as the Zone of its key, and a fixed offset as a zone of its own."""
+        nightly, hourly, own = Schedule("30 2 * * *"), Schedule("30 * * * *"), Zone("Europe/Berlin")
+        shown = lambda it: (it.isoformat(), it.fold) if isinstance(it, DateTime) else it  # noqa: E731
+        for year, month, day in [(2024, 3, 30), (2024, 10, 26), (1990, 7, 1)]:
+            for start in (DateTime(year, month, day, 12, tzinfo=BERLIN), datetime.datetime(year, month, day, 12, tzinfo=BERLIN)):
+                wanted = DateTime(year, month, day, 12, tzinfo=own)
+                for it in (nightly, hourly):
+                    for method in ("next_after", "prev_before", "is_due"):
+                        self.assertEqual(shown(getattr(it, method)(start)), shown(getattr(it, method)(wanted)))
+                    ours, theirs = ([*map(shown, itertools.islice(it.iterate(at), 50))] for at in (start, wanted))
+                    self.assertEqual(ours, theirs)
+                    self.assertIs(it.next_after(start).tzinfo, BERLIN)
+                self.assertEqual(len([*nightly.iterate(start, start + timedelta(days=3))]), 3)
+        self.assertIs(nightly.is_due(DateTime(2024, 3, 31, 3, tzinfo=BERLIN)), True)
+        self.assertIsNone(Schedule("0 0 30 2 *").next_after(DateTime(2024, 1, 1, tzinfo=BERLIN)))
+        for zone in (timezone.utc, timezone(timedelta(hours=5, minutes=30)), timezone(-timedelta(hours=23, minutes=59, seconds=58))):
+            found = nightly.next_after(DateTime(2024, 3, 30, 12, tzinfo=zone))
+            self.assertEqual((found.replace(tzinfo=None), found.tzinfo), (DateTime(2024, 3, 31, 2, 30), zone))
+        with open(os.path.join(zoneinfo.TZPATH[0], "Europe/Berlin"), "rb") as it:
+            nameless = zoneinfo.ZoneInfo.from_file(it)
+        for zone in (Summer(), nameless, FIXED[2]):
+            for method in (nightly.next_after, nightly.prev_before, nightly.is_due, nightly.iterate):
+                self.assertRaisesRegex(ValueError, "from_tzif", method, DateTime(2024, 3, 30, tzinfo=zone))
 
 
 class Zones(Cases):

@@ -346,12 +346,12 @@ const NO_DATES: [(&str, &str, usize, &str); 6] = [
     ("%d.%m.%Y", "29.13", 3, "a number that is out of range"),
     ("%d.%m.%Y", "29.", 3, "the text ends too early"),
     (
-        "%d",
-        "29x",
-        2,
+        "%d.%m.%Y",
+        "29.2.2024x",
+        9,
         "the text goes on after the end of the pattern",
     ),
-    ("%d.%m.", "29.2.", 5, "too few parts for a date or time"),
+    ("%d.%m.", "29.2.", 0, "too few parts for a date or time"),
 ];
 
 #[test]
@@ -395,7 +395,7 @@ fn parse_date_time() {
         assert_eq!(pattern(by).parse_date_time(of), Ok(moment(wanted)), "{by}");
     }
     for (by, of, start, sentence) in [
-        ("%F", "2024-02-29", 10, "too few parts for a date or time"),
+        ("%F", "2024-02-29", 0, "too few parts for a date or time"),
         (
             "%F %R",
             "2023-02-29 13:00",

@@ -3,7 +3,7 @@ use Rattle.std.proofs.lemmas.Int.{to_z-of_z}
 use Rattle.chrono_calendar.proofs.NamedDates.{date_of_day-number, none-date_of_day}
 use Rattle.chrono_calendar.specs.Days.{IsDate}
 use Rattle.chrono_business.specs.OpenDays.{IsMovedByOpenDays}
-use Rattle.layers_c.proofs.FoundNumbers.{found-holds, none-holds}
+use Rattle.layers_c.proofs.FoundNumbers.{found-holds, named-is-date, none-again, none-holds, number-again}
 use Rattle.layers_c.proofs.open_day_columns.moved_of.Goals as goal
 
 pub returns-in-Some : goal.returns-in-Some
@@ -14,13 +14,17 @@ returns-in-Some c =
     let moved = rw (← day, to_z-of_z w64 c.args.n c.ranges.n) at c.add_open_days.ensures.moved in
     let unmoved = rw (← day, to_z-of_z w64 c.args.n c.ranges.n) at c.add_open_days.ensures.none in
     record {
+      number = number-again c.add_open_days.result c.number_or_none.result _ number c.number_or_none.ensures.number c.number_or_none.ensures.exists;
       moved = found-holds c.add_open_days.result (IsMovedByOpenDays c.args.calendar.now c.args.number c.args.n) _ (number ∙ c.number_or_none.ensures.number) moved;
       none = λ none _. none-holds c.add_open_days.result ((e : ℤ) → IsDate e → IsMovedByOpenDays c.args.calendar.now c.args.number c.args.n e → ⊥) _
           (number ∙ c.number_or_none.ensures.number) c.add_open_days.ensures.exists unmoved none;
+      no_date = λ none. absurd (none (named-is-date c.in-Some.date c.args.number (sym (rw (to_z-of_z w32 c.args.number c.ranges.number) at c.in-Some.ensures.date))));
     }
 
 pub returns-in-None : goal.returns-in-None
 returns-in-None c = record {
+  number = none-again;
   moved = λ some. absurd (some refl);
   none = λ _ date. absurd (none-date_of_day c.args.number (rw (to_z-of_z w32 c.args.number c.ranges.number) at c.in-None.ensures.date) date);
+  no_date = λ _. refl;
 }

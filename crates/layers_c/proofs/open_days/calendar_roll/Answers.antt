@@ -6,7 +6,7 @@ use Rattle.chrono_text.proofs.AnswerLemmas.{the_one}
 use Rattle.chrono_business.specs.Rolls.{RollsTo}
 use Rattle.chrono_business.specs.declared.roll.Roll.{Roll}
 use Rattle.layers_c.specs.OpenDays.{closed_from_c}
-use Rattle.layers_c.proofs.FoundNumbers.{found-holds, named-is-date, none-holds}
+use Rattle.layers_c.proofs.FoundNumbers.{found-holds, named-is-date, none-again, none-holds, number-again}
 use Rattle.layers_c.proofs.open_days.calendar_roll.Goals as goal
 
 pub returns-in-Some-date_of-clause-rolled : goal.returns-in-Some-date_of-clause-rolled
@@ -38,3 +38,17 @@ pub returns-in-Some-date_of-clause-no_date : goal.returns-in-Some-date_of-clause
 returns-in-Some-date_of-clause-no_date c =
     let date = named-is-date c.in-Some-date_of.date c.args.date (sym (rw (to_z-of_z w32 c.args.date c.ranges.date) at c.in-Some-date_of.ensures.date)) in
     λ none. absurd (none date)
+
+pub returns-in-Some-date_of-clause-number : goal.returns-in-Some-date_of-clause-number
+returns-in-Some-date_of-clause-number c =
+    let fits : FitsSigned w32 c.number_or_none.result = search rules in
+    number-again c.roll.result c.number_or_none.result _ (to_z-of_z w32 c.number_or_none.result fits) c.number_or_none.ensures.number c.number_or_none.ensures.exists
+
+pub returns-in-None-clause-number : goal.returns-in-None-clause-number
+returns-in-None-clause-number c = none-again
+
+pub returns-in_default-clause-number : goal.returns-in_default-clause-number
+returns-in_default-clause-number c = none-again
+
+pub returns-in_default-roll_of-clause-number : goal.returns-in_default-roll_of-clause-number
+returns-in_default-roll_of-clause-number c = none-again

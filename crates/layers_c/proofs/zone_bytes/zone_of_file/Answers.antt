@@ -1,11 +1,8 @@
-use Rattle.std.proofs.Common.{◌∙◌, ℕ, ℤ, Bool, List, sym, subst, arith}
-use Rattle.std.specs.Prelude.{Option}
-use Rattle.zone_file.specs.Kinds.{IsKind}
+use Rattle.std.proofs.Common.{◌∙◌, sym, subst, arith}
 use Rattle.zone_file.specs.Tables.{IsRowsError}
-use Rattle.zone_rule.specs.declared.rule.ZoneRule.{ZoneRule}
-use Rattle.zone_database.specs.OwnedZones.{IsFooterOf}
 use Rattle.std.proofs.lemmas.Result.{IfOk-weaker}
 use Rattle.zone.specs.Parts.{IsZone}
+use Rattle.layers_c.specs.ZoneFaults.{AreNoRows, HasFirstKind, IsFooterReason}
 use Rattle.layers_c.proofs.FileLemmas.{faulty_parts, file_with, held_zone, if_err, no_rows, of_file, of_parts, only_parts}
 use Rattle.layers_c.proofs.zone_bytes.zone_of_file.Goals as goal
 
@@ -68,29 +65,41 @@ returns-in-Err-read_rows-clause-none c =
     c.in-Err-read_rows.ensures.error
 
 pub returns-in-Err-clause-why : goal.returns-in-Err-clause-why
-returns-in-Err-clause-why c = λ version times places kinds names footer file. c.in-Err.ensures.every version times places kinds names footer file
+returns-in-Err-clause-why c = (λ version times places kinds names footer file. c.in-Err.ensures.every version times places kinds names footer file, c.in-Err.ensures.error)
 
 pub returns-in_default-clause-why : goal.returns-in_default-clause-why
 returns-in_default-clause-why c =
     let f = c.in-Ok.file in
     file_with c.args.bytes.now f.version f.times.now f.places.now f.kinds.now f.names.now f.footer.now
-    (λ version times places kinds names footer. (first : ℤ) (is_dst : Bool) (name : List ℕ) → IsKind kinds names 0 first is_dst name → ⊥)
-    c.in-Ok.ensures.read (λ first is_dst name kind. c.in_default.ensures.every first is_dst name kind)
+    (λ version times places kinds names footer. HasFirstKind kinds names → ⊥)
+    c.in-Ok.ensures.read (λ has. c.in_default.ensures.every has.offset has.is_dst has.name has.kind)
 
 pub returns-in-Err-rule_of_footer-clause-why : goal.returns-in-Err-rule_of_footer-clause-why
 returns-in-Err-rule_of_footer-clause-why c =
     let f = c.in-Ok.file in
+    let k = c.in-Some.kind in
     file_with c.args.bytes.now f.version f.times.now f.places.now f.kinds.now f.names.now f.footer.now
-    (λ version times places kinds names footer. (rule : Option ZoneRule) → IsFooterOf footer rule → ⊥)
-    c.in-Ok.ensures.read c.in-Err-rule_of_footer.ensures.none
+    (λ version times places kinds names footer. IsFooterReason c.args.bytes.now kinds names footer c.place_of_footer.result c.in-Err-rule_of_footer.error.byte)
+    c.in-Ok.ensures.read
+    (record {
+      kind = record { offset = k.offset; is_dst = k.is_dst; name = k.name.now; kind = c.in-Some.ensures.read };
+      none = λ has. c.in-Err-rule_of_footer.ensures.none has.rule has.written;
+      begins = c.place_of_footer.ensures;
+      within = c.in-Err-rule_of_footer.ensures.within;
+    })
 
 pub returns-in-Err-read_rows-clause-why : goal.returns-in-Err-read_rows-clause-why
 returns-in-Err-read_rows-clause-why c =
     let f = c.in-Ok.file in
+    let k = c.in-Some.kind in
     file_with c.args.bytes.now f.version f.times.now f.places.now f.kinds.now f.names.now f.footer.now
-    (λ version times places kinds names footer. IsRowsError version times places kinds 512 c.in-Err-read_rows.error)
+    (λ version times places kinds names footer. AreNoRows version times places kinds names footer c.in-Err-read_rows.error)
     c.in-Ok.ensures.read
-    (subst (λ n. IsRowsError f.version f.times.now f.places.now f.kinds.now n c.in-Err-read_rows.error) c.requires c.in-Err-read_rows.ensures.error)
+    (record {
+      kind = record { offset = k.offset; is_dst = k.is_dst; name = k.name.now; kind = c.in-Some.ensures.read };
+      rule = record { rule = c.in-Ok-rule_of_footer.rule; written = c.in-Ok-rule_of_footer.ensures.read };
+      error_is = subst (λ n. IsRowsError f.version f.times.now f.places.now f.kinds.now n c.in-Err-read_rows.error) c.requires c.in-Err-read_rows.ensures.error;
+    })
 
 pub returns-in-Ok-read_rows-clause-why : goal.returns-in-Ok-read_rows-clause-why
 returns-in-Ok-read_rows-clause-why c =

@@ -1,3 +1,4 @@
+use Rattle.std.proofs.Common.{refl}
 use Rattle.std.proofs.lemmas.Result.{IfOk-weaker}
 use Rattle.layers_c.proofs.FileLemmas.{if_err}
 use Rattle.layers_c.proofs.ZoneLemmas.{only_zone, text_reason}
@@ -17,4 +18,4 @@ returns-in-Ok-clause-why c =
     if_err c.zone_of_parts.result _ _ (text_reason c.args.text.now c.in-Ok.read.rule.standard c.args.rows.now c.in-Ok.read.rule c.requires) c.zone_of_parts.ensures.why
 
 pub returns-in-Err-clause-why : goal.returns-in-Err-clause-why
-returns-in-Err-clause-why c = λ rule written. c.in-Err.ensures.every written.standard written.daylight rule written.written
+returns-in-Err-clause-why c = (λ rule written. c.in-Err.ensures.every written.standard written.daylight rule written.written, (refl, c.in-Err.ensures.error))
