@@ -97,21 +97,17 @@ fn put_case(out: &mut Buffer, command: &str, word: &str, values: &'static [&'sta
 // What bash offers where a command has an operand or an option.
 fn put_words(out: &mut Buffer, command: &CommandRow) {
     out.put(OFFER);
+    let (mut gap, mut files) = ("", "");
     for operand in command.operands {
         if operand.keyword.is_empty() {
             put_each(out, operand.values, WORD);
         }
+        if operand.name == "FILE" {
+            (gap, files) = ("; ", FILES);
+        }
     }
     put_names(out, command.options);
-    out.put(OFFERED);
-    if command
-        .operands
-        .iter()
-        .any(|operand| operand.name == "FILE")
-    {
-        put!(out, "; ", FILES);
-    }
-    out.put(CASE);
+    put!(out, OFFERED, gap, files, CASE);
 }
 
 // The names of options, as bash offers them.

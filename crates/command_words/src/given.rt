@@ -44,7 +44,12 @@ impl<'a> Arguments<'a> {
 
     /// Returns the operand at a place, counted from 0.
     pub fn operand(&self, place: usize) -> Option<Word<'a>> {
-        self.operands.get(place).copied()
+        let words = self.operands.as_slice();
+        if place < words.len() {
+            Some(words[place])
+        } else {
+            None
+        }
     }
 
     /// Returns the place in the command's row of the first operand that has to be there and is not.

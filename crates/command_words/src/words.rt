@@ -1,7 +1,7 @@
 //! Reading the words of a command line: operands, and options with their values in any order.
 ghost use Rattle.std.specs.Prelude.{◌≡◌, ◌||◌, [], map, Ok, Err, IfOk, MatchResult};
 ghost use Rattle.std.specs.Option.{option_map};
-ghost use Rattle.command_words.specs.Arguments.{IsStep, attached, free, got, is_given, mode_of, name_in, named, pair, read, seen, step, step_of_option, value_in, valued};
+ghost use Rattle.command_words.specs.Arguments.{IsStep, attached, free, got, is_given, may_be, mode_of, name_in, named, pair, read, seen, step, step_of_option, value_in, valued};
 
 use crate::given::first_value;
 use crate::table::Opt;
@@ -169,12 +169,19 @@ fn put_option<'a>(
 fn put_value<'a>(found: &mut Arguments<'a>, option: Opt, value: Word<'a>) -> Step<'a>
     ensures { IfOk result (λ r. IsStep (valued option (got found.old.operands.items found.old.options.items) (seen value.entry)) r (got found.new.operands.items found.new.options.items)) }
 {
-    if option.any || option.values.contains(&value.text) {
+    if may_be(&option, value.text) {
         found.options.push(GivenOption { option, value })?;
         return Ok(Ok(Mode::Free));
     }
     let why = Why::Choice(option.values);
     Ok(Err(Wrong { word: value, why }))
+}
+
+// Whether an option may have a value.
+fn may_be(option: &Opt, text: &str) -> bool
+    ensures { result ≡ may_be option.now text.now }
+{
+    option.any || option.values.contains(&text)
 }
 
 // Whether an option with that name is given.

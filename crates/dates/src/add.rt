@@ -24,10 +24,8 @@ pub(crate) fn command() -> CommandRow {
 // What moves days and date-times.
 #[derive(Drop)]
 struct Add<'a> {
-    form: AnswerForm<'a>,
-    instants: Instants<'a>,
-    holidays: Holidays,
     moves: Moves<'a>,
+    holidays: Holidays,
 }
 
 // Moves, in turn, and the words that write them; the first that writes months by `m`; and whether one is a time.
@@ -39,85 +37,92 @@ struct Moves<'a> {
     is_timed: bool,
 }
 
-// The day or the date-time, or that of each line, moved; the exit status.
-pub(crate) fn answer(rt: &HostRuntime, asked: &Asked<'_>, none: &mut Reply) -> Answered {
-    let instants = value!(instants_by(rt, asked));
-    let (first, words) = parted(asked.words.operands.as_slice());
-    if let Some(word) = first {
-        *none = instants.form.none_of_text(word.text.as_bytes());
+// The day or the date-time, or that of each line, moved.
+pub(crate) fn answer(asked: &mut Asked<'_>) {
+    asked.take_zone();
+    let first = asked.word(0);
+    let is_moved = read_move(first.text.as_bytes()).is_none();
+    let mut start = None;
+    if is_moved && first.text != "-" && first.place > 0 {
+        asked.none = asked.reading.none_of_text(first.text.as_bytes());
+        start = Some(asked.start(first));
     }
-    let start = given!(first, word, instants.start_of(word));
+    let moves = asked.moves(if is_moved { 1 } else { 0 }, start);
     let mut add = Add {
-        form: asked.form,
-        instants,
-        moves: value!(moves_of(rt, start, words)),
-        holidays: value!(holidays_of(rt, asked)),
+        moves,
+        holidays: asked.holidays(),
     };
     match start {
-        Some(start) => answered(add.answer_start(rt, ALONE, start)),
-        None => take_lines(rt, INPUT, rt.reader(), &mut add),
+        Some(start) => add.answer_start(asked, start),
+        None => take_input(asked, &mut add),
     }
 }
 
-// The word that is moved, and those of the moves. Each line of the input is moved where the first is `-` or writes a move.
-fn parted<'b, 'a>(words: &'b [Word<'a>]) -> (Option<Word<'a>>, &'b [Word<'a>]) {
-    match words {
-        [first, rest @ ..] if first.text == "-" => (None, rest),
-        [first, rest @ ..] if read_move(first.text.as_bytes()).is_none() => (Some(*first), rest),
-        _ => (None, words),
-    }
-}
-
-// The moves that words write. No time moves a day, and no `m`, which was meant for minutes, stands beside a time of day.
-fn moves_of<'a>(
-    rt: &HostRuntime,
-    start: Option<Start>,
-    words: &[Word<'a>],
-) -> Result<Moves<'a>, Fault> {
-    let (of_day, of_moment) = match start {
-        Some(start) => (start.is_day(), !start.is_day()),
-        None => (false, false),
-    };
-    let mut moves = Moves {
-        list: Vec::new(rt.alloc()),
-        texts: Vec::new(rt.alloc()),
-        short: None,
-        is_timed: false,
-    };
-    for word in words {
-        if let Some(fault) = moves.put_word(*word, of_day) {
-            return Err(fault);
+impl<'a> Asked<'a> {
+    // The moves that the operands write from a place on. No time moves a day, and no `m`, which was meant for minutes, stands beside a
+    // time of day.
+    fn moves(&mut self, from: usize, start: Option<Start>) -> Moves<'a> {
+        let (of_day, of_moment) = match start {
+            Some(start) => (start.is_day(), !start.is_day()),
+            None => (false, false),
+        };
+        let mut moves = Moves {
+            list: Vec::new(self.rt.alloc()),
+            texts: Vec::new(self.rt.alloc()),
+            short: None,
+            is_timed: false,
+        };
+        let count = self.words.operands.len();
+        for place in from..count {
+            self.put_moves(&mut moves, self.word(place), of_day);
         }
+        if from >= count {
+            self.missing_operand(1);
+        }
+        match moves.short {
+            Some(word) if moves.is_timed || of_moment => self.wrong_months(word),
+            _ => {}
+        }
+        moves
     }
-    match moves.short {
-        _ if words.is_empty() => Err(Fault::NoOperand(1)),
-        Some(word) if moves.is_timed || of_moment => { Err(Fault::Word(word.place, Cause::Months)) }
-        _ => Ok(moves),
-    }
-}
 
-impl<'a> Moves<'a> {
-    // Puts the moves that a word writes behind the others; what is wrong with it, if something is.
-    fn put_word(&mut self, word: Word<'a>, of_day: bool) -> Option<Fault> {
+    // Puts the moves that a word writes behind others.
+    fn put_moves(&mut self, moves: &mut Moves<'a>, word: Word<'a>, of_day: bool) {
         let mut place: usize = 0;
         for _ in word.text.as_bytes() {
             let Some((by, next)) = move_at(word.text.as_bytes(), place) else {
-                return Some(wanted(word, Wanted::Span));
+                return self.wrong(
+                    word,
+                    "expected a span as 3d, -2w, 1mo, 4y, 5b, 36h, 90min, 15s or PT1.5S",
+                );
             };
             if of_day && matches!(by, Move::Time(_)) {
-                return Some(wanted(word, Wanted::DaySpan));
+                return self.wrong(
+                    word,
+                    "expected a span of days, or a date-time before it as 2024-02-29T00:00",
+                );
             }
-            if let Err(error) = self.put(word, by) {
-                return Some(Fault::Failed(error));
-            }
+            let put = moves.put(word, by);
+            self.done(put);
             place = next;
             if place >= word.text.len() {
                 break;
             }
         }
-        None
     }
 
+    // Ends since a word writes months where it was meant for minutes.
+    fn wrong_months(&mut self, word: Word<'_>) {
+        let mut said = self.blame(word);
+        put!(said, ": ", MONTHS, word.text, "in");
+        self.refuse(&said);
+    }
+}
+
+// What is said of a word that writes months by `m` beside a time of day, in front of its text.
+const MONTHS: &str = "months; minutes are ";
+
+impl<'a> Moves<'a> {
     // Puts a move behind the others.
     fn put(&mut self, word: Word<'a>, by: Move) -> io::Result<()> {
         match by {
@@ -136,47 +141,49 @@ fn put_move<A: Allocator>(moves: &mut Vec<Move, A>, by: Move) -> io::Result<()> 
 }
 
 impl<'a> Add<'a> {
-    // What is moved, by each move in turn, or `none` where one leads nowhere; the exit status.
-    fn answer_start(&mut self, rt: &HostRuntime, number: u64, start: Start) -> io::Result<u8> {
-        let form = self.instants.form;
+    // What is moved, by each move in turn, or `none` where one leads nowhere.
+    fn answer_start(&mut self, asked: &mut Asked<'_>, start: Start) {
         let mut last = start;
         let mut step: usize = 0;
         for by in self.moves.list.as_slice() {
-            let why = match moved_by(&self.instants, last, *by, &mut self.holidays)? {
+            let why = match moved_by(asked, &last, *by, &mut self.holidays) {
                 Moved::To(reached) => {
                     last = reached;
                     step = step.saturating_add(1);
                     continue;
                 }
-                Moved::Past => Cause::Past,
-                Moved::NotOnce => Cause::NotOnce,
+                Moved::Past => PAST,
+                Moved::NotOnce => NOT_ONCE,
             };
             let text = self.moves.texts.as_slice().get(step).copied().unwrap_or("");
-            return print_nowhere(rt, self.form, form.none_of(last), number, &last, text, why);
+            asked.none = asked.reading.none_of(&last);
+            return asked.print_nowhere(&last, text, why);
         }
-        print_reply(rt, self.form, form.reply(last))
-    }
-
-    // What a date-time of a line comes to, which no `m` moves; the exit status.
-    fn answer_moment(&mut self, rt: &HostRuntime, number: u64, start: Start) -> io::Result<u8> {
-        let Some(Word { text, .. }) = self.moves.short else {
-            return self.answer_start(rt, number, start);
-        };
-        let none = self.instants.form.no_moment();
-        print_nowhere(rt, self.form, none, number, &start, text, Cause::Months)
+        asked.print_start(&last);
     }
 }
 
 impl<'a> EachLine for Add<'a> {
-    fn take_line(&mut self, rt: &HostRuntime, number: u64, line: &[u8]) -> io::Result<u8> {
-        let form = self.instants.form;
-        match self.instants.read(line) {
+    // Moves what a line names; no `m` moves a date-time.
+    fn take_line(&mut self, asked: &mut Asked<'_>, line: &[u8]) {
+        match asked.read(line) {
             Some(Start::Day(_)) | None if self.moves.is_timed => {
-                print_reply(rt, self.form, form.no_moment())
+                let none = asked.reading.no_moment();
+                asked.print(none);
             }
-            Some(start @ Start::Day(_)) => self.answer_start(rt, number, start),
-            Some(start) => self.answer_moment(rt, number, start),
-            None => print_reply(rt, self.form, form.none_of_text(line)),
+            None => {
+                let none = asked.reading.none_of_text(line);
+                asked.print(none);
+            }
+            Some(start) => match self.moves.short {
+                Some(word) if !start.is_day() => {
+                    let mut why = Buffer::new(asked.rt.alloc());
+                    put!(why, MONTHS, word.text, "in");
+                    asked.none = asked.reading.no_moment();
+                    asked.print_nowhere(&start, word.text, why.text().unwrap_or(MONTHS));
+                }
+                _ => self.answer_start(asked, start),
+            },
         }
     }
 }
@@ -190,34 +197,27 @@ enum Moved {
 }
 
 // What lies a move away. A move of days keeps the time of day.
-fn moved_by(
-    instants: &Instants<'_>,
-    start: Start,
-    by: Move,
-    holidays: &mut Holidays,
-) -> io::Result<Moved> {
+fn moved_by(asked: &mut Asked<'_>, start: &Start, by: Move, holidays: &mut Holidays) -> Moved {
     let date = start.local().date();
     match by {
-        Move::Calendar(span) | Move::ShortMonths(span) => {
-            Ok(moved_to(instants, start, moved(date, span)))
-        }
+        Move::Calendar(span) | Move::ShortMonths(span) => moved_to(asked, start, moved(date, span)),
         Move::OpenDays(count) => {
-            let reached = open_days_later(date, count, holidays)?;
-            Ok(moved_to(instants, start, reached))
+            let reached = open_days_later(asked, date, count, holidays);
+            moved_to(asked, start, reached)
         }
-        Move::Time(time) => match instants.later(start, time) {
-            Some(reached) => Ok(Moved::To(reached)),
-            None => Ok(Moved::Past),
+        Move::Time(time) => match asked.later(*start, time) {
+            Some(reached) => Moved::To(reached),
+            None => Moved::Past,
         },
     }
 }
 
 // The day that is reached at the time of day of the start.
-fn moved_to(instants: &Instants<'_>, start: Start, reached: Option<NaiveDate>) -> Moved {
+fn moved_to(asked: &Asked<'_>, start: &Start, reached: Option<NaiveDate>) -> Moved {
     let Some(date) = reached else {
         return Moved::Past;
     };
-    match instants.on(start, date) {
+    match asked.on(*start, date) {
         Some(there) => Moved::To(there),
         None => Moved::NotOnce,
     }
@@ -225,10 +225,17 @@ fn moved_to(instants: &Instants<'_>, start: Start, reached: Option<NaiveDate>) -
 
 // The day so many open days from another.
 fn open_days_later(
+    asked: &mut Asked<'_>,
     date: NaiveDate,
     count: i64,
     holidays: &mut Holidays,
-) -> io::Result<Option<NaiveDate>> {
+) -> Option<NaiveDate> {
     let years = years_of_open_days(date, count, holidays.listed.len());
-    Ok(holidays.calendar(years)?.add_open_days(date, count))
+    match holidays.calendar(years) {
+        Ok(calendar) => calendar.add_open_days(date, count),
+        Err(error) => {
+            asked.fail(error);
+            None
+        }
+    }
 }

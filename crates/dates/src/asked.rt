@@ -1,34 +1,67 @@
-//! What a command is asked, and its answer printed.
+//! What a command is asked, and its answers printed.
 
 use crate::prelude::*;
-use dates_answer::ReplyLine;
+use dates_answer::{ReplyLine, TextLine};
 
-/// The exit status of a command, or why it has no answer.
-pub(crate) type Answered = Result<u8, Fault>;
+/// The exit status of an answer.
+pub(crate) const ANSWERED: u8 = 0;
 
-/// In which form answers are written.
-#[derive(Clone, Copy)]
-pub(crate) struct AnswerForm<'a> {
-    /// As texts or as JSON.
-    pub form: OutputForm,
-    /// The pattern of days and date-times, if one is given.
-    pub pattern: Option<&'a Pattern<'a>>,
-}
+/// The exit status of a question that has no answer.
+pub(crate) const NONE: u8 = 1;
 
-/// What a command is asked.
+/// The exit status after a wrong command, or after a read or a write that failed.
+pub(crate) const WRONG: u8 = 2;
+
+/// What a command is asked, and how it ends. Once something is wrong, nothing more is printed, and each value that is read is some
+/// value.
 #[derive(Drop)]
 pub(crate) struct Asked<'a> {
+    /// What runs the program.
+    pub rt: &'a HostRuntime,
     /// The command.
     pub command: CommandRow,
-    /// In which form the answer is written.
-    pub form: AnswerForm<'a>,
-    /// How days and instants are read.
-    pub reading: InstantForm<'a>,
     /// The operands and the options.
     pub words: Arguments<'a>,
+    /// Whether answers are texts or JSON.
+    pub form: OutputForm,
+    /// The pattern by which days and date-times are printed, if one is given.
+    pub format: Option<Pattern<'a>>,
+    /// How days and instants are read.
+    pub reading: Reading<'a>,
+    /// The zone by whose clock date-times are read and moved, if one is named.
+    pub zone: Option<OwnedZone>,
+    /// What is printed where there is no answer.
+    pub none: Reply,
+    /// The number of the line that is answered, from 1 on; 0 where a word is.
+    pub line: u64,
+    /// The exit status, by what was printed last.
+    pub status: u8,
+    /// Whether something is wrong.
+    pub is_over: bool,
 }
 
+/// No word.
+pub(crate) const NO_WORD: Word<'static> = Word { place: 0, text: "" };
+
 impl<'a> Asked<'a> {
+    // A command that is asked nothing so far.
+    pub(crate) fn new(rt: &'a HostRuntime, command: CommandRow) -> Asked<'a> {
+        let (operands, options) = (Vec::new(rt.alloc()), Vec::new(rt.alloc()));
+        Asked {
+            rt,
+            command,
+            words: Arguments { operands, options },
+            form: OutputForm::Text,
+            format: None,
+            reading: Reading::plain(),
+            zone: None,
+            none: Reply::Nothing(Key::Date),
+            line: 0,
+            status: ANSWERED,
+            is_over: false,
+        }
+    }
+
     // The operand at a place, counted from 0, which the command's row requires.
     pub(crate) fn word(&self, place: usize) -> Word<'a> {
         self.words.operand(place).unwrap_or(NO_WORD)
@@ -44,52 +77,118 @@ impl<'a> Asked<'a> {
         self.words.value(self.command.options, name)
     }
 
-    // The first operand, unless it is `-` or left out, which stand for the lines of the input.
-    pub(crate) fn word_or_lines(&self) -> Option<Word<'a>> {
-        match self.words.operand(0) {
+    // The operand at a place, unless it is `-` or left out, which stand for the lines of the input.
+    pub(crate) fn word_or_lines(&self, place: usize) -> Option<Word<'a>> {
+        match self.words.operand(place) {
             Some(word) if word.text != "-" => Some(word),
             _ => None,
         }
     }
 
-    // Prints the line of a reply; the exit status.
-    pub(crate) fn print(&self, rt: &HostRuntime, reply: Reply) -> Answered {
-        answered(print_reply(rt, self.form, reply))
-    }
-
-    // The status of answers so far, or, where there is none, that of the line that says so.
-    pub(crate) fn finish(&self, rt: &HostRuntime, status: u8, none: Reply) -> Answered {
-        if status == NONE {
-            return self.print(rt, none);
+    // Prints a reply: a day, a date-time or an instant by the pattern, if one is given.
+    pub(crate) fn print(&mut self, reply: Reply) {
+        let form = self.form;
+        let status = match reply {
+            Reply::Nothing(_) | Reply::NoParts | Reply::NoWeek(_) | Reply::NoClock => NONE,
+            _ => ANSWERED,
+        };
+        if let Reply::Week(first, last) = reply
+            && self.format.is_some()
+        {
+            return self.print_week_by_pattern(first, last);
         }
-        Ok(status)
+        match dated(&reply) {
+            Some(start) if self.format.is_some() => self.print_by_pattern(&start),
+            _ => self.print_line(&ReplyLine { form, reply }, status),
+        }
     }
-}
 
-const NO_WORD: Word<'static> = Word { place: 0, text: "" };
-
-// The exit status of what was printed, or that it could not be.
-pub(crate) fn answered(printed: io::Result<u8>) -> Answered {
-    match printed {
-        Ok(status) => Ok(status),
-        Err(error) => Err(Fault::Failed(error)),
+    // Prints a day, a date-time or an instant.
+    pub(crate) fn print_start(&mut self, start: &Start) {
+        let reply = self.reading.reply(*start);
+        self.print(reply);
     }
-}
 
-// Prints the line of a reply; the exit status.
-pub(crate) fn print_reply(rt: &HostRuntime, form: AnswerForm<'_>, reply: Reply) -> io::Result<u8> {
-    match form.pattern {
-        Some(pattern) => print_by(rt, form.form, pattern, reply),
-        None => print_line(rt, form.form, reply),
+    // Prints a day, a date-time or an instant by the pattern, or that it lacks what the pattern asks for.
+    fn print_by_pattern(&mut self, start: &Start) {
+        let key = start.key();
+        match self.text_by_pattern(start) {
+            Ok(Some(text)) => self.print_text(key, text.as_str()),
+            Ok(None) => self.say_lacking(start, Reply::Nothing(key)),
+            Err(error) => self.fail(error),
+        }
     }
-}
 
-// Prints the line of a reply without a pattern; the exit status.
-pub(crate) fn print_line(rt: &HostRuntime, form: OutputForm, reply: Reply) -> io::Result<u8> {
-    let status = match reply {
-        Reply::Nothing(_) | Reply::NoParts | Reply::NoWeek(_) | Reply::NoClock => NONE,
-        _ => ANSWERED,
-    };
-    println!(rt; "{}", ReplyLine { form, reply })?;
-    Ok(status)
+    // Prints that there is no answer, and that a day or a date-time lacks what the pattern asks for.
+    pub(crate) fn say_lacking(&mut self, start: &Start, reply: Reply) {
+        let form = self.form;
+        self.print_line(&ReplyLine { form, reply }, NONE);
+        let mut said = Buffer::new(self.rt.alloc());
+        said.show(start);
+        said.put(": the pattern asks for a time of day or an offset, which it has not");
+        self.say(&said);
+    }
+
+    // The text by the pattern, if there is what the pattern asks for.
+    pub(crate) fn text_by_pattern(&self, start: &Start) -> io::Result<Option<String>> {
+        let Some(pattern) = &self.format else {
+            return Ok(None);
+        };
+        match delayed(pattern, start) {
+            Some(delayed) => Ok(Some(delayed.to_string(self.rt.alloc())?)),
+            None => Ok(None),
+        }
+    }
+
+    // Prints a text, in an object under a key.
+    pub(crate) fn print_text(&mut self, key: Key, text: &str) {
+        let form = self.form;
+        self.print_line(&TextLine { form, key, text }, ANSWERED);
+    }
+
+    // Prints a line, which has that exit status.
+    pub(crate) fn print_line<T: fmt::Display>(&mut self, line: &T, status: u8) {
+        if self.is_over {
+            return;
+        }
+        let printed = println!(self.rt; "{line}");
+        self.done(printed);
+        self.end_by(status);
+    }
+
+    // Sets the exit status, unless something is wrong.
+    pub(crate) fn end_by(&mut self, status: u8) {
+        if !self.is_over {
+            self.status = status;
+        }
+    }
+
+    // Prints a page.
+    pub(crate) fn print_page(&mut self, page: &Buffer) {
+        match page.text() {
+            Ok(text) => self.done(print!(self.rt; "{text}")),
+            Err(error) => self.fail(io::Error::from(error)),
+        }
+    }
+
+    // Prints that there is no answer where no line was printed before.
+    pub(crate) fn print_none_if_alone(&mut self) {
+        if self.status == NONE {
+            self.print(self.none);
+        }
+    }
+
+    // Prints that there is no answer, since a move by that word leads from there nowhere, and why.
+    pub(crate) fn print_nowhere(&mut self, from: &Start, by: &str, why: &str) {
+        self.print(self.none);
+        let mut said = Buffer::new(self.rt.alloc());
+        if self.line > 0 {
+            said.put("line ");
+            said.show(&self.line);
+            said.put(": ");
+        }
+        said.show(from);
+        put!(said, gap_before(by), by, ": ", why);
+        self.say(&said);
+    }
 }

@@ -1,6 +1,5 @@
 //! A month or a year as a sheet.
 
-use crate::now::day_shown;
 use crate::prelude::*;
 use chrono_business::Calendar;
 use chrono_datetime::Month;
@@ -31,30 +30,15 @@ pub(crate) fn command() -> CommandRow {
     )
 }
 
-// The month or the year as sheets with closed days marked; `none` where the calendar has no such year. The exit status.
-pub(crate) fn answer(rt: &HostRuntime, asked: &Asked<'_>, _none: &mut Reply) -> Answered {
-    let time = value!(time_of(rt, asked));
-    let first = time.first;
-    let start = value!(weekday_of(asked.option("--first")));
-    let mut holidays = value!(holidays_of(rt, asked));
-    let calendar = holidays.calendar(years_of(first, first))?;
-    match asked.form.form {
-        OutputForm::Text if time.is_year => print_year(rt, first, start, &calendar)?,
-        OutputForm::Text => {
-            let (month, marked) = (time.first, time.marked);
-            print_month(
-                rt,
-                MonthSheet {
-                    month,
-                    start,
-                    marked,
-                },
-                &calendar,
-            )?
-        }
-        OutputForm::Json => print_days(rt, first, days_of(first, time.is_year), &calendar)?,
+// The month or the year as sheets with closed days marked; `none` where the calendar has no such year.
+pub(crate) fn answer(asked: &mut Asked<'_>) {
+    let time = asked.time();
+    let start = asked.weekday(asked.option("--first"));
+    let mut holidays = asked.holidays();
+    if !asked.is_over {
+        let printed = print_time(asked.rt, asked.form, time, start, &mut holidays);
+        asked.done(printed);
     }
-    Ok(ANSWERED)
 }
 
 // What is shown: the month or the year that begins on a day, and which day is marked.
@@ -65,35 +49,65 @@ struct Time {
     marked: Option<NaiveDate>,
 }
 
-// The month or the year that the word names, or that of its day, or of today.
-fn time_of(rt: &HostRuntime, asked: &Asked<'_>) -> Result<Time, Fault> {
-    let Some(word) = asked.words.operand(0) else {
-        return Ok(time_about(value!(day_shown(rt, asked))));
-    };
-    let (is_year, marked) = (false, None);
-    match read_month(word.text.as_bytes()) {
-        Ok(first) => Ok(Time {
-            first,
-            is_year,
-            marked,
-        }),
-        Err(_) if read_year(word.text.as_bytes()).is_some() => {
-            let first = value!(start_of_year(word));
-            Ok(Time {
-                first,
-                is_year: true,
+// Prints a month or a year whose weeks begin on a weekday.
+fn print_time(
+    rt: &HostRuntime,
+    form: OutputForm,
+    time: Time,
+    start: Weekday,
+    holidays: &mut Holidays,
+) -> io::Result<()> {
+    let (month, marked) = (time.first, time.marked);
+    let calendar = holidays.calendar(years_of(month, month))?;
+    match form {
+        OutputForm::Text if time.is_year => print_year(rt, month, start, &calendar),
+        OutputForm::Text => print_month(
+            rt,
+            MonthSheet {
+                month,
+                start,
                 marked,
-            })
-        }
-        Err(error) if error.cause != ReadCause::NotThisForm => {
-            Err(unread(word, Unreadable::Form(error), Wanted::Month))
-        }
-        Err(_) => match value!(start_as(asked.reading, word, Wanted::Month)) {
-            Start::Day(date) => Ok(time_about(date)),
-            _ => Err(wanted(word, Wanted::Month)),
-        },
+            },
+            &calendar,
+        ),
+        OutputForm::Json => print_days(rt, month, days_of(month, time.is_year), &calendar),
     }
 }
+
+impl Asked<'_> {
+    // The month or the year that the word names, or that of its day, or of today.
+    fn time(&mut self) -> Time {
+        let Some(word) = self.words.operand(0) else {
+            return time_about(self.day_shown());
+        };
+        let (is_year, marked) = (false, None);
+        match read_month(word.text.as_bytes()) {
+            Ok(first) => Time {
+                first,
+                is_year,
+                marked,
+            },
+            Err(_) if read_year(word.text.as_bytes()).is_some() => {
+                let first = self.start_of_year(word);
+                Time {
+                    first,
+                    is_year: true,
+                    marked,
+                }
+            }
+            Err(error) if error.cause != ReadCause::NotThisForm => {
+                self.unread(word, Unreadable::Form(error), MONTH_EXPECTED);
+                time_about(NaiveDate::MIN)
+            }
+            Err(_) => {
+                let start = self.start_as(word, MONTH_EXPECTED);
+                time_about(self.day_at(word, start, MONTH_EXPECTED))
+            }
+        }
+    }
+}
+
+const MONTH_EXPECTED: &str = "expected a month as 2024-02, a year as 2024 or a day as 2024-02-29";
 
 // The month of a day that is marked.
 fn time_about(date: NaiveDate) -> Time {
@@ -146,7 +160,7 @@ fn month_of(first: NaiveDate, months: i64, start: Weekday) -> MonthSheet {
 // The weeks of months, side by side.
 fn print_rows(rt: &HostRuntime, sheets: &[MonthSheet], calendar: &Calendar) -> io::Result<()> {
     for row in 0..6 {
-        if !sheets.iter().any(|sheet| sheet.has_days(row)) {
+        if !has_days(sheets, row) {
             continue;
         }
         let mut gap = "";
@@ -157,6 +171,16 @@ fn print_rows(rt: &HostRuntime, sheets: &[MonthSheet], calendar: &Calendar) -> i
         println!(rt; "")?;
     }
     Ok(())
+}
+
+// Whether a month has a day in a row.
+fn has_days(sheets: &[MonthSheet], row: u32) -> bool {
+    for sheet in sheets {
+        if sheet.has_days(row) {
+            return true;
+        }
+    }
+    false
 }
 
 // So many days from one on, each with its week, its weekday and whether it is open.
@@ -184,7 +208,10 @@ fn days_of(first: NaiveDate, is_year: bool) -> u32 {
 
 // The name of a sheet's month.
 fn name_of(sheet: &MonthSheet) -> &'static str {
-    Month::from_u32(sheet.month.month()).map_or("", |month| month.name())
+    match Month::from_u32(sheet.month.month()) {
+        Some(month) => month.name(),
+        None => "",
+    }
 }
 
 // The weekdays above the columns of a sheet whose weeks begin on one, 25 columns wide.

@@ -17,44 +17,39 @@ pub(crate) fn command() -> CommandRow {
 
 // Lines of which those that are no days are printed.
 #[derive(Clone, Copy)]
-struct CheckedLines<'a> {
-    form: AnswerForm<'a>,
-    reading: InstantForm<'a>,
+struct CheckedLines {}
+
+// Each line of the file, or of the input, that is no day.
+pub(crate) fn answer(asked: &mut Asked<'_>) {
+    take_file(asked, &mut CheckedLines {});
 }
 
-// Each line of the file, or of the input, that is no day; the exit status.
-pub(crate) fn answer(rt: &HostRuntime, asked: &Asked<'_>, _none: &mut Reply) -> Answered {
-    let (form, reading) = (asked.form, asked.reading);
-    let mut lines = CheckedLines { form, reading };
-    match asked.word_or_lines() {
-        Some(word) => {
-            let file = value!(open_file(rt, word));
-            take_lines(rt, word, file, &mut lines)
+impl EachLine for CheckedLines {
+    // Prints the line's number, and why it is no day.
+    fn take_line(&mut self, asked: &mut Asked<'_>, line: &[u8]) {
+        if let Err(why) = asked.reading.day_of_line(line) {
+            let printed = print_wrong(asked, line, why);
+            asked.done(printed);
         }
-        None => take_lines(rt, INPUT, rt.reader(), &mut lines),
     }
 }
 
-impl EachLine for CheckedLines<'_> {
-    // The line's number, and why it is no day; the exit status.
-    fn take_line(&mut self, rt: &HostRuntime, number: u64, line: &[u8]) -> io::Result<u8> {
-        let Err(why) = day_of_line(self.reading, line) else {
-            return Ok(ANSWERED);
-        };
-        let form = self.form.form;
-        let text = String::from_utf8_lossy(rt.alloc(), line)?;
-        let mut reason = Buffer::new(rt.alloc());
-        put_reason(&mut reason, why);
-        let (text, reason) = (text.as_str(), reason.text()?);
-        println!(rt;
-            "{}",
-            WrongLine {
-                form,
-                number,
-                text,
-                reason
-            }
-        )?;
-        Ok(NONE)
-    }
+// Prints that a line is no day.
+fn print_wrong(asked: &mut Asked<'_>, line: &[u8], why: Reason) -> io::Result<()> {
+    let (form, number) = (asked.form, asked.line);
+    let text = String::from_utf8_lossy(asked.rt.alloc(), line)?;
+    let mut reason = Buffer::new(asked.rt.alloc());
+    put_reason(&mut reason, why);
+    let (text, reason) = (text.as_str(), reason.text()?);
+    println!(asked.rt;
+        "{}",
+        WrongLine {
+            form,
+            number,
+            text,
+            reason
+        }
+    )?;
+    asked.end_by(NONE);
+    Ok(())
 }

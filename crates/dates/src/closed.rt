@@ -4,17 +4,24 @@ use crate::prelude::*;
 use chrono_business::{HolidayRule, england_and_wales, target, us_federal};
 use chrono_datetime::WeekdaySet;
 
-// The weekend that a word names: `none`, or at most two weekdays.
-pub(crate) fn weekend_of(word: Word<'_>) -> Result<WeekdaySet, Fault> {
-    match weekdays_named(word.text) {
-        Some(days) if days.len() <= 2 => Ok(days),
-        _ => Err(wanted(word, Wanted::Weekend)),
+impl Asked<'_> {
+    // The weekend that a word names: `none`, or at most two weekdays.
+    pub(crate) fn weekend(&mut self, word: Word<'_>) -> WeekdaySet {
+        match weekdays_named(word.text) {
+            Some(days) if days.len() <= 2 => return days,
+            _ => self.wrong(word, "expected none, or at most two weekdays as fri,sat"),
+        }
+        WeekdaySet::EMPTY
     }
-}
 
-// The weekdays that a word names.
-pub(crate) fn weekdays_of(word: Word<'_>) -> Result<WeekdaySet, Fault> {
-    weekdays_named(word.text).ok_or(wanted(word, Wanted::Weekdays))
+    // The weekdays that a word names.
+    pub(crate) fn weekdays(&mut self, word: Word<'_>) -> WeekdaySet {
+        let days = weekdays_named(word.text);
+        if days.is_none() {
+            self.wrong(word, "expected weekdays as fri,sat");
+        }
+        days.unwrap_or(WeekdaySet::EMPTY)
+    }
 }
 
 // The weekdays that a text names: `none`, or some with commas between them.
@@ -30,11 +37,11 @@ fn weekdays_named(text: &str) -> Option<WeekdaySet> {
 }
 
 // Puts the rules of the calendar with that name into a list; none where it is empty.
-pub(crate) fn put_rules(name: &str, rules: &mut Vec<HolidayRule>) -> Result<(), AllocError> {
+pub(crate) fn put_rules(name: &str, rules: &mut Vec<HolidayRule>) -> io::Result<()> {
     match name {
-        "us-federal" => rules.extend_from_slice(&us_federal()),
-        "target" => rules.extend_from_slice(&target()),
-        "england" => rules.extend_from_slice(&england_and_wales()),
+        "us-federal" => Ok(rules.extend_from_slice(&us_federal())?),
+        "target" => Ok(rules.extend_from_slice(&target())?),
+        "england" => Ok(rules.extend_from_slice(&england_and_wales())?),
         _ => Ok(()),
     }
 }

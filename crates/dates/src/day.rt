@@ -1,7 +1,6 @@
 //! A day by all its names, and what the program says of itself.
 
 use crate::each::{Asks, answer_each};
-use crate::now::day_shown;
 use crate::prelude::*;
 use command_words::{Program, Shell, put_completion, put_man_page, put_reference};
 use std::fs;
@@ -33,23 +32,21 @@ pub(crate) fn command() -> CommandRow {
     )
 }
 
-// The day by all its names, or that of each line, or a page of the program; the exit status.
-pub(crate) fn answer(rt: &HostRuntime, asked: &Asked<'_>, none: &mut Reply) -> Answered {
-    if asked.words.has("--version") {
-        return asked.print(rt, Reply::Version);
-    }
+// The day by all its names, or that of each line, or a page of the program.
+pub(crate) fn answer(asked: &mut Asked<'_>) {
     let words = &asked.words;
+    if words.has("--version") {
+        return asked.print(Reply::Version);
+    }
     if words.has("--man") || words.has("--reference") || words.has("--completion") {
-        return answered(print_page(rt, asked));
+        return print_page(asked);
     }
-    let reading = asked.reading;
-    match asked.word_or_lines() {
-        Some(word) => asked.print(rt, Reply::Names(value!(first_of(reading, word)))),
-        None if asked.words.operand(0).is_none() && is_alone(rt) => {
-            asked.print(rt, Reply::Names(value!(day_shown(rt, asked))))
-        }
-        None => answer_each(rt, asked, *none, None, Asks::Names),
-    }
+    let date = match asked.word_or_lines(0) {
+        Some(word) => Some(asked.day_or_command(word)),
+        None if asked.words.operands.is_empty() && is_alone(asked.rt) => Some(asked.day_shown()),
+        None => None,
+    };
+    answer_each(asked, date, Asks::Names);
 }
 
 // Whether nothing is piped into the program: its standard input is a terminal, or nothing.
@@ -60,21 +57,12 @@ fn is_alone(rt: &HostRuntime) -> bool {
     }
 }
 
-// The day that a word names, which else may have been meant for a command.
-pub(crate) fn first_of(form: InstantForm<'_>, word: Word<'_>) -> Result<NaiveDate, Fault> {
-    match day_of(form, word) {
-        Err(Fault::Word(place, Cause::Wanted(_))) => Err(Fault::Word(place, Cause::NoCommand)),
-        other => other,
-    }
-}
-
-// Prints the page that an option asks for; the exit status.
-fn print_page(rt: &HostRuntime, asked: &Asked<'_>) -> io::Result<u8> {
+// Prints the page that an option asks for.
+fn print_page(asked: &mut Asked<'_>) {
     let rows = commands();
-    let mut page = Buffer::new(rt.alloc());
+    let mut page = Buffer::new(asked.rt.alloc());
     put_page(&mut page, asked, &program(&rows));
-    print!(rt; "{}", page.text()?)?;
-    Ok(ANSWERED)
+    asked.print_page(&page);
 }
 
 // Puts the page that an option asks for behind a text, if one does.

@@ -42,78 +42,72 @@ enum Measure {
     Parts,
 }
 
-// From where to where; `None` is each line of the input.
-type Ends = (Option<Start>, Option<Start>);
-
-// From where to where, in what, and by which holidays.
+// From where to where, where `None` is each line of the input; in what; and by which holidays.
 #[derive(Drop)]
-struct Diff<'a> {
-    form: AnswerForm<'a>,
-    instants: Instants<'a>,
-    none: Reply,
-    ends: Ends,
+struct Diff {
+    from: Option<Start>,
+    to: Option<Start>,
     measure: Measure,
     holidays: Holidays,
 }
 
-// How far it is from one day to another, or to that of each line; the exit status.
-pub(crate) fn answer(rt: &HostRuntime, asked: &Asked<'_>, none: &mut Reply) -> Answered {
-    let instants = value!(instants_by(rt, asked));
-    let (ends, measure) = value!(read(&instants, asked, none));
-    let mut diff = Diff {
-        form: asked.form,
-        instants,
-        none: *none,
-        ends,
-        measure,
-        holidays: value!(holidays_of(rt, asked)),
+// How far it is from one day to another, or to that of each line.
+pub(crate) fn answer(asked: &mut Asked<'_>) {
+    asked.take_zone();
+    let in_at = place_of_in(&asked.words);
+    let measure = asked.measure(in_at);
+    let has_time = in_at > 0 && asked.word(0).text.as_bytes().contains(&b'T');
+    asked.none = none_of(measure, has_time);
+    let (from, to) = asked.ends(in_at);
+    let is_timed = match from.or(to) {
+        Some(start) => !start.is_day(),
+        None => false,
     };
-    match ends {
-        (Some(from), Some(to)) => answered(diff.answer_ends(rt, from, to)),
-        _ => take_lines(rt, INPUT, rt.reader(), &mut diff),
+    asked.none = none_of(measure, is_timed);
+    if is_timed && !matches!(measure, Measure::Plain | Measure::Time(_, _)) {
+        let unit = asked.word(in_at.saturating_add(1));
+        asked.wrong(unit, "expected h, min or s between date-times");
     }
-}
-
-// Reads from where to where, and in what.
-fn read(
-    instants: &Instants<'_>,
-    asked: &Asked<'_>,
-    none: &mut Reply,
-) -> Result<(Ends, Measure), Fault> {
-    let (words, unit) = cut(asked.words.operands.as_slice());
-    let measure = value!(measure_of(unit));
-    let has_time = match words {
-        [first, ..] => first.text.as_bytes().contains(&b'T'),
-        [] => false,
-    };
-    *none = none_of(measure, has_time);
-    let ends = value!(ends_of(instants, words));
-    let is_timed = ends.0.or(ends.1).map_or(false, |start| !start.is_day());
-    *none = none_of(measure, is_timed);
-    match (measure, unit) {
-        (Measure::Whole(_) | Measure::Parts | Measure::OpenDays, [_, word]) if is_timed => {
-            return Err(wanted(*word, Wanted::TimeUnit));
+    match closing_option(&asked.words) {
+        Some(word) if !matches!(measure, Measure::OpenDays) => {
+            asked.wrong(word, "expected no such option without 'in b'")
         }
         _ => {}
     }
-    value!(check_options(&asked.words, measure));
-    Ok((ends, measure))
-}
-
-// The words of the days, and those from `in` on.
-fn cut<'b, 'a>(words: &'b [Word<'a>]) -> (&'b [Word<'a>], &'b [Word<'a>]) {
-    let place = words.iter().position(|word| word.text == "in");
-    words.split_at(place.unwrap_or(words.len()))
-}
-
-// The measure that the words from `in` on name.
-fn measure_of(words: &[Word<'_>]) -> Result<Measure, Fault> {
-    match words {
-        [] => Ok(Measure::Plain),
-        [_] => Err(Fault::NoOperand(2)),
-        [_, unit] => measure_named(unit.text).ok_or(wanted(*unit, Wanted::Unit)),
-        [_, _, other, ..] => Err(wanted(*other, Wanted::NoMore)),
+    let holidays = asked.holidays();
+    let mut diff = Diff {
+        from,
+        to,
+        measure,
+        holidays,
+    };
+    match (from, to) {
+        (Some(from), Some(to)) => diff.answer_ends(asked, from, to),
+        _ => take_input(asked, &mut diff),
     }
+}
+
+// The place of the operand `in`; how many operands there are where it is left out.
+fn place_of_in(words: &Arguments<'_>) -> usize {
+    let mut place: usize = 0;
+    for word in words.operands.as_slice() {
+        if word.text == "in" {
+            break;
+        }
+        place = place.saturating_add(1);
+    }
+    place
+}
+
+// The first option that closes days.
+fn closing_option<'a>(words: &Arguments<'a>) -> Option<Word<'a>> {
+    for given in words.options.as_slice() {
+        let name = given.option.name;
+        if name == "--weekend" || name == "--calendar" || name == "--holidays" {
+            return Some(given.value);
+        }
+    }
+    None
 }
 
 // The measure of that name.
@@ -128,68 +122,76 @@ fn measure_named(name: &str) -> Option<Measure> {
     }
 }
 
-// Reads two days or two date-times, of which `-` or none at the end stands for the lines of the input.
-fn ends_of(instants: &Instants<'_>, words: &[Word<'_>]) -> Result<Ends, Fault> {
-    match words {
-        [] => Err(Fault::NoOperand(0)),
-        [first] if first.text == "-" => Err(Fault::NoOperand(1)),
-        [first] => Ok((Some(value!(instants.start_of(*first))), None)),
-        [first, second] if first.text == "-" => {
-            Ok((None, Some(value!(instants.start_of(*second)))))
+impl Asked<'_> {
+    // The measure that the operands from `in` on name, of which that is the place.
+    fn measure(&mut self, in_at: usize) -> Measure {
+        let unit = self.words.operand(in_at.saturating_add(1));
+        let more = self.words.operand(in_at.saturating_add(2));
+        let measure = measure_named(unit.unwrap_or(NO_WORD).text);
+        match (unit, more) {
+            (_, Some(other)) => self.wrong(other, NO_MORE),
+            (Some(unit), None) if measure.is_none() => self.wrong_choice(unit, UNITS),
+            (None, None) if self.words.operand(in_at).is_some() => self.missing_operand(2),
+            _ => {}
         }
-        [first, second] => {
-            let from = value!(instants.start_of(*first));
-            if second.text == "-" {
-                return Ok((Some(from), None));
+        measure.unwrap_or(Measure::Plain)
+    }
+
+    // Reads two days or two date-times in front of `in`, of which `-` or none at the end stands for the lines of the input.
+    fn ends(&mut self, in_at: usize) -> (Option<Start>, Option<Start>) {
+        let (first, second) = (self.word(0), self.word(1));
+        match in_at {
+            0 => self.missing_operand(0),
+            1 if first.text == "-" => self.missing_operand(1),
+            2 if first.text == "-" => return (None, Some(self.start(second))),
+            1 | 2 => {
+                let from = self.start(first);
+                let has_second = in_at == 2 && second.text != "-";
+                return (
+                    Some(from),
+                    if has_second {
+                        Some(like(self, &from, second))
+                    } else {
+                        None
+                    },
+                );
             }
-            Ok((Some(from), Some(value!(like(instants, from, *second)))))
+            _ => self.third_word(first, second),
         }
-        [first, second, third, ..] => Err(third_word(instants, *first, *second, *third)),
+        (None, None)
+    }
+
+    // Ends where a third word stands in front of `in`.
+    fn third_word(&mut self, first: Word<'_>, second: Word<'_>) {
+        let third = self.word(2);
+        let from = self.start(first);
+        if !begins_as_day(second) {
+            self.wrong(second, IN_EXPECTED);
+        }
+        self.wrong(third, if from.is_day() { IN_EXPECTED } else { NO_MORE });
     }
 }
 
-// What is wrong where a third word stands in front of `in`.
-fn third_word(
-    instants: &Instants<'_>,
-    first: Word<'_>,
-    second: Word<'_>,
-    third: Word<'_>,
-) -> Fault {
-    match instants.start_of(first) {
-        Err(fault) => fault,
-        Ok(_) if !begins_as_day(second) => wanted(second, Wanted::In),
-        Ok(Start::Day(_)) => wanted(third, Wanted::In),
-        Ok(_) => wanted(third, Wanted::NoMore),
-    }
-}
+const IN_EXPECTED: &str = "expected in and a unit, as 'in w'";
 
 // The day, the date-time or the instant that a word names, of the kind of the first.
-pub(crate) fn like(instants: &Instants<'_>, first: Start, word: Word<'_>) -> Result<Start, Fault> {
-    let what = match first {
-        Start::Day(_) => Wanted::Day,
-        Start::DateTime(_) => Wanted::Moment,
-        Start::Stamp(_) => Wanted::Stamp,
-    };
-    let second = value!(instants.once(word, value!(start_as(instants.form, word, what))));
-    if first.is_like(&second) {
-        Ok(second)
-    } else if first.is_day() || second.is_day() {
-        Err(wanted(word, Wanted::OneKind))
-    } else {
-        Err(wanted(word, Wanted::OffsetsAlike))
+pub(crate) fn like(asked: &mut Asked<'_>, first: &Start, word: Word<'_>) -> Start {
+    let second = asked.start_as(
+        word,
+        match first {
+            Start::Day(_) => DAY_EXPECTED,
+            Start::DateTime(_) => MOMENT_EXPECTED,
+            Start::Stamp(_) => "expected a date-time with its offset as 2024-02-29T04:30+01:00",
+        },
+    );
+    let second = asked.once(word, second);
+    if first.is_day() != second.is_day() {
+        asked.wrong(word, "expected two days or two date-times, not one of each");
     }
-}
-
-// Only open days take options.
-fn check_options(words: &Arguments<'_>, measure: Measure) -> Result<(), Fault> {
-    for given in words.options.as_slice() {
-        let name = given.option.name;
-        let closes = name == "--weekend" || name == "--calendar" || name == "--holidays";
-        if closes && !matches!(measure, Measure::OpenDays) {
-            return Err(wanted(given.value, Wanted::OpenDays));
-        }
+    if first.has_offset() != second.has_offset() {
+        asked.wrong(word, "expected an offset of both date-times, or of none");
     }
-    Ok(())
+    second
 }
 
 // That there is no answer in such a measure, of days or of date-times.
@@ -214,43 +216,36 @@ fn key_of(unit: Unit) -> Key {
     }
 }
 
-impl Diff<'_> {
-    // How far it is from one day or date-time to another of its kind; the exit status.
-    fn answer_ends(&mut self, rt: &HostRuntime, from: Start, to: Start) -> io::Result<u8> {
+impl Diff {
+    // How far it is from one day or date-time to another of its kind.
+    fn answer_ends(&mut self, asked: &mut Asked<'_>, from: Start, to: Start) {
         let apart = from.until(&to);
-        let answer = match self.measure {
-            _ if !from.is_like(&to) => self.none,
+        let (first, last) = (from.local().date(), to.local().date());
+        let reply = match self.measure {
+            _ if !from.is_like(&to) => asked.none,
             Measure::Time(key, seconds) => {
                 Reply::Number(key, apart.num_seconds().checked_div(seconds).unwrap_or(0))
             }
             _ if !from.is_day() => Reply::Duration(apart),
-            _ => self.days_between(from.local().date(), to.local().date())?,
+            Measure::Plain => Reply::Number(Key::Days, distance(first, last, Unit::Days)),
+            Measure::Whole(unit) => Reply::Number(key_of(unit), distance(first, last, unit)),
+            Measure::Parts => Reply::Parts(parts_between(first, last)),
+            Measure::OpenDays => match self.holidays.calendar(years_of(first, last)) {
+                Ok(calendar) => Reply::Number(Key::OpenDays, calendar.open_days(first, last)),
+                Err(error) => return asked.fail(error),
+            },
         };
-        print_reply(rt, self.form, answer)
-    }
-
-    // How far it is from one day to another.
-    fn days_between(&mut self, from: NaiveDate, to: NaiveDate) -> io::Result<Reply> {
-        match self.measure {
-            Measure::Whole(unit) => Ok(Reply::Number(key_of(unit), distance(from, to, unit))),
-            Measure::Plain | Measure::Time(_, _) => {
-                Ok(Reply::Number(Key::Days, distance(from, to, Unit::Days)))
-            }
-            Measure::Parts => Ok(Reply::Parts(parts_between(from, to))),
-            Measure::OpenDays => {
-                let calendar = self.holidays.calendar(years_of(from, to))?;
-                Ok(Reply::Number(Key::OpenDays, calendar.open_days(from, to)))
-            }
-        }
+        asked.print(reply);
     }
 }
 
-impl EachLine for Diff<'_> {
-    fn take_line(&mut self, rt: &HostRuntime, _number: u64, line: &[u8]) -> io::Result<u8> {
-        match (self.ends, self.instants.read(line)) {
-            ((Some(from), _), Some(to)) => self.answer_ends(rt, from, to),
-            ((None, Some(to)), Some(from)) => self.answer_ends(rt, from, to),
-            _ => print_reply(rt, self.form, self.none),
+impl EachLine for Diff {
+    fn take_line(&mut self, asked: &mut Asked<'_>, line: &[u8]) {
+        match (self.from, self.to, asked.read(line)) {
+            (Some(from), _, Some(to)) | (None, Some(to), Some(from)) => {
+                self.answer_ends(asked, from, to)
+            }
+            _ => asked.print(asked.none),
         }
     }
 }

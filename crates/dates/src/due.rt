@@ -52,45 +52,40 @@ pub(crate) fn prev() -> CommandRow {
     }
 }
 
-// The moments at which the schedule is due, on or back, a line each; `none` where there are fewer. The exit status.
-pub(crate) fn answer(rt: &HostRuntime, asked: &Asked<'_>, none: &mut Reply) -> Answered {
-    let form = asked.reading;
-    *none = match form {
-        InstantForm::Seconds(_) => form.no_moment(),
-        _ if asked.words.has("--zone") => Reply::NoClock,
-        _ => form.no_moment(),
+// The moments at which the schedule is due, on or back, a line each; `none` where there are fewer.
+pub(crate) fn answer(asked: &mut Asked<'_>) {
+    asked.none = match asked.reading.is_unix {
+        false if asked.words.has("--zone") => Reply::NoClock,
+        _ => asked.reading.no_moment(),
     };
-    let schedule = value!(schedule_of(asked.word(0)));
+    let schedule = asked.schedule(asked.word(0));
     let word = asked.option("--from");
-    let from = value!(moment_of(form, word));
-    let count = value!(amount_of(asked.option("--count")));
-    let instants = value!(instants_by(rt, asked));
-    let from = value!(instants.once(word, from));
+    let from = asked.moment(word);
+    let count = asked.amount_if("--count").unwrap_or(1);
+    asked.take_zone();
+    let mut last = asked.once(word, from);
+    let (Some(schedule), zone) = (schedule, asked.zone.take()) else {
+        return;
+    };
     let goes_back = asked.command.name == PREV;
-    let (form, mut last) = (asked.form, from);
     for _ in 0..count {
-        match due_beside(instants.zone.as_ref(), &schedule, last, goes_back) {
-            Some(due) => {
-                print_due(rt, form, &instants, &due)?;
-                last = due;
-            }
-            None => return asked.print(rt, *none),
+        let Some(due) = due_beside(zone.as_ref(), &schedule, last, goes_back) else {
+            return asked.print(asked.none);
+        };
+        print_due(asked, zone.as_ref(), &due);
+        if asked.is_over {
+            return;
         }
+        last = due;
     }
-    Ok(ANSWERED)
+    asked.end_by(ANSWERED);
 }
 
 // Prints when a schedule is due: an instant as the zone's clock shows it, if there is a zone and no seconds are asked for.
-fn print_due(
-    rt: &HostRuntime,
-    form: AnswerForm<'_>,
-    instants: &Instants<'_>,
-    due: &Start,
-) -> io::Result<u8> {
-    match (instants.form, &instants.zone, *due) {
-        (InstantForm::Seconds(_), _, _) => print_reply(rt, form, instants.form.reply(*due)),
-        (_, Some(zone), Start::Stamp(stamp)) => print_in(rt, form, zone, stamp),
-        (reading, _, _) => print_reply(rt, form, reading.reply(*due)),
+fn print_due(asked: &mut Asked<'_>, zone: Option<&OwnedZone>, due: &Start) {
+    match (zone, *due) {
+        (Some(zone), Start::Stamp(stamp)) if !asked.reading.is_unix => asked.print_in(zone, stamp),
+        _ => asked.print_start(due),
     }
 }
 
@@ -130,8 +125,15 @@ fn fired_beside(
     Some(due?.fixed_offset())
 }
 
-// The schedule that a word writes.
-pub(crate) fn schedule_of(word: Word<'_>) -> Result<Schedule, Fault> {
-    let text = word.text.as_bytes();
-    Ok(value!(read_schedule(text), error => Fault::Word(word.place, Cause::Schedule(error))))
+impl Asked<'_> {
+    // The schedule that a word writes.
+    pub(crate) fn schedule(&mut self, word: Word<'_>) -> Option<Schedule> {
+        match read_schedule(word.text.as_bytes()) {
+            Ok(schedule) => Some(schedule),
+            Err(error) => {
+                self.wrong_by(word, &error, "; expected a schedule as '30 4 1,15 * 5'");
+                None
+            }
+        }
+    }
 }

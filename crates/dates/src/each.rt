@@ -1,9 +1,10 @@
-//! What is answered of a day alone: its names, its weekday, its week, an end of its month, or a weekday behind it.
+//! What is answered of a day alone: its names, its weekday, its week, an end of its month, a weekday behind it, or whether it is open.
 
 use crate::prelude::*;
+use chrono_business::Roll;
 
 /// What is asked of a day.
-#[derive(Clone, Copy)]
+#[derive(Drop)]
 pub(crate) enum Asks {
     /// All its names.
     Names,
@@ -15,67 +16,62 @@ pub(crate) enum Asks {
     End(u32, bool),
     /// The first day from it on that is of this weekday.
     Round(Weekday),
+    /// Whether it is open.
+    Open(Holidays),
+    /// Where it goes by a convention.
+    Roll(Holidays, Roll),
 }
 
-// What is answered of each day.
-#[derive(Clone, Copy)]
-struct EachDay<'a> {
-    form: AnswerForm<'a>,
-    reading: InstantForm<'a>,
-    none: Reply,
-    asks: Asks,
-}
-
-// What is asked of the day that a word names, or of that of each line; the exit status.
-pub(crate) fn answer_each(
-    rt: &HostRuntime,
-    asked: &Asked<'_>,
-    none: Reply,
-    word: Option<Word<'_>>,
-    asks: Asks,
-) -> Answered {
-    let (form, reading) = (asked.form, asked.reading);
-    let mut each = EachDay {
-        form,
-        reading,
-        none,
-        asks,
-    };
-    match word {
-        Some(word) => answered(each.answer(rt, ALONE, value!(day_of(reading, word)))),
-        None => take_lines(rt, INPUT, rt.reader(), &mut each),
+// What is asked of a day, or of that of each line.
+pub(crate) fn answer_each(asked: &mut Asked<'_>, date: Option<NaiveDate>, mut asks: Asks) {
+    match date {
+        Some(date) => asks.answer(asked, date),
+        None => take_input(asked, &mut asks),
     }
 }
 
-impl EachDay<'_> {
-    // What is asked of a day; the exit status.
-    fn answer(&self, rt: &HostRuntime, number: u64, date: NaiveDate) -> io::Result<u8> {
-        let (form, none) = (self.form, self.none);
-        match reply_of(self.asks, date) {
-            Some(reply) => print_reply(rt, form, reply),
-            None => print_nowhere(rt, form, none, number, &Start::Day(date), "", Cause::Past),
+impl EachLine for Asks {
+    fn take_line(&mut self, asked: &mut Asked<'_>, line: &[u8]) {
+        match asked.reading.read_day(line) {
+            Some(date) => self.answer(asked, date),
+            None => asked.print(asked.none),
         }
     }
 }
 
-impl EachLine for EachDay<'_> {
-    fn take_line(&mut self, rt: &HostRuntime, number: u64, line: &[u8]) -> io::Result<u8> {
-        match self.reading.read_day(line) {
-            Some(date) => self.answer(rt, number, date),
-            None => print_reply(rt, self.form, self.none),
+impl Asks {
+    // Prints what is asked of a day.
+    fn answer(&mut self, asked: &mut Asked<'_>, date: NaiveDate) {
+        let reply = match self {
+            Asks::Names => Some(Reply::Names(date)),
+            Asks::Weekday => Some(Reply::Weekday(date.weekday())),
+            Asks::Week => week_of(date),
+            Asks::End(months, is_last) => day_if(end_of(date, *months, *is_last)),
+            Asks::Round(weekday) => day_if(weekday_from(date, *weekday)),
+            Asks::Open(holidays) => match holidays.calendar(years_of(date, date)) {
+                Ok(calendar) => Some(Reply::Whether(Key::Open, calendar.is_open(date))),
+                Err(error) => return asked.fail(error),
+            },
+            Asks::Roll(holidays, roll) => match holidays.calendar(years_of(date, date)) {
+                Ok(calendar) => day_if(calendar.roll(date, *roll)),
+                Err(error) => return asked.fail(error),
+            },
+        };
+        match reply {
+            Some(reply) => asked.print(reply),
+            None => asked.print_nowhere(&Start::Day(date), "", PAST),
         }
     }
 }
 
-// What is asked of a day, if it is in the calendar.
-fn reply_of(asks: Asks, date: NaiveDate) -> Option<Reply> {
-    match asks {
-        Asks::Names => Some(Reply::Names(date)),
-        Asks::Weekday => Some(Reply::Weekday(date.weekday())),
-        Asks::Week => Some(Reply::Week(end_of(date, 0, false)?, end_of(date, 0, true)?)),
-        Asks::End(months, is_last) => Some(Reply::Date(end_of(date, months, is_last)?)),
-        Asks::Round(weekday) => Some(Reply::Date(weekday_from(date, weekday)?)),
-    }
+// The answer that is a day, if there is one.
+fn day_if(date: Option<NaiveDate>) -> Option<Reply> {
+    Some(Reply::Date(date?))
+}
+
+// The first and the last day of the week of a day, if the calendar has both.
+fn week_of(date: NaiveDate) -> Option<Reply> {
+    Some(Reply::Week(end_of(date, 0, false)?, end_of(date, 0, true)?))
 }
 
 // The first or the last day of so many months of the year, of which one is that of a day; of its week where they are 0.

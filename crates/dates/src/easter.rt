@@ -11,10 +11,12 @@ pub(crate) fn command() -> CommandRow {
     )
 }
 
-// Easter Sunday of the year; the exit status.
-pub(crate) fn answer(rt: &HostRuntime, asked: &Asked<'_>, _none: &mut Reply) -> Answered {
+// Easter Sunday of the year.
+pub(crate) fn answer(asked: &mut Asked<'_>) {
     let word = asked.word(0);
-    let sunday = chrono_business::easter(value!(year_of(word)));
-    let sunday = value!(sunday.ok_or(Fault::NoSuch(word.place, Cause::Outside)));
-    asked.print(rt, Reply::Date(sunday))
+    let year = asked.year(word);
+    match chrono_business::easter(year) {
+        Some(sunday) => asked.print(Reply::Date(sunday)),
+        None => asked.no_such(word, NO_YEAR),
+    }
 }

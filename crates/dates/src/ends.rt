@@ -6,9 +6,6 @@ use crate::prelude::*;
 /// The periods that have a first and a last day.
 pub(crate) const PERIODS: &[&str] = &["week", "month", "quarter", "year"];
 
-// So many months has each; a week has none.
-const MONTHS: &[u32] = &[0, 1, 3, 12];
-
 pub(crate) fn first() -> CommandRow {
     row!(
         "first", &[operand!("PERIOD"; values: PERIODS), DAY_OR_LINES],
@@ -42,23 +39,22 @@ pub(crate) fn round() -> CommandRow {
     )
 }
 
-// The day at an end of the day's period, or its next weekday; or that of each line. The exit status.
-pub(crate) fn answer(rt: &HostRuntime, asked: &Asked<'_>, none: &mut Reply) -> Answered {
-    let (first, second) = (asked.word(0), asked.words.operand(1));
+// The day at an end of the day's period, or its next weekday; or that of each line.
+pub(crate) fn answer(asked: &mut Asked<'_>) {
     if asked.command.name == "round" {
-        let asks = Asks::Round(value!(weekday_of(asked.word(1))));
-        return answer_each(rt, asked, *none, asked.word_or_lines(), asks);
+        let weekday = asked.weekday(asked.word(1));
+        let date = asked.day_if(asked.word_or_lines(0));
+        return answer_each(asked, date, Asks::Round(weekday));
     }
-    let place = PERIODS.iter().position(|period| *period == first.text);
-    let Some(months) = MONTHS.get(place.unwrap_or(MONTHS.len())) else {
-        return Err(Fault::Word(first.place, Cause::Wanted(Wanted::Period)));
+    let period = asked.word(0);
+    let months = match period.text {
+        "week" => 0,
+        "month" => 1,
+        "quarter" => 3,
+        "year" => 12,
+        _ => return asked.wrong_choice(period, PERIODS),
     };
-    let asks = Asks::End(*months, asked.command.name == LAST);
-    answer_each(
-        rt,
-        asked,
-        *none,
-        second.filter(|word| word.text != "-"),
-        asks,
-    )
+    let is_last = asked.command.name == LAST;
+    let date = asked.day_if(asked.word_or_lines(1));
+    answer_each(asked, date, Asks::End(months, is_last));
 }

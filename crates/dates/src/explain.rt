@@ -1,10 +1,8 @@
 //! A schedule or a recurrence rule in plain English.
 
-use crate::due::schedule_of;
 use crate::prelude::*;
-use crate::rule::rule_of;
+use chrono_datetime::Month;
 use chrono_rules::{End, Frequency, NumberSet, PlaceSet, Rule};
-use dates_answer::TextLine;
 use zoned_cron::Schedule;
 
 pub(crate) fn command() -> CommandRow {
@@ -17,42 +15,20 @@ pub(crate) fn command() -> CommandRow {
     )
 }
 
-// What a schedule or a rule says; the exit status.
-pub(crate) fn answer(rt: &HostRuntime, asked: &Asked<'_>, _none: &mut Reply) -> Answered {
+// What a schedule or a rule says.
+pub(crate) fn answer(asked: &mut Asked<'_>) {
     let word = asked.word(0);
-    let mut out = Buffer::new(rt.alloc());
+    let mut out = Buffer::new(asked.rt.alloc());
     if word.text.contains("FREQ") || word.text.contains("freq") {
-        let rule = value!(rule_of(word));
-        put_rule(&mut out, &rule);
-    } else {
-        let schedule = value!(schedule_of(word));
+        if let Some(rule) = asked.rule(word) {
+            put_rule(&mut out, &rule);
+        }
+    } else if let Some(schedule) = asked.schedule(word) {
         put_schedule(&mut out, &schedule);
     }
-    answered(print_text(rt, asked.form.form, &out))
-}
-
-// Prints a text; the exit status.
-fn print_text(rt: &HostRuntime, form: OutputForm, out: &Buffer) -> io::Result<u8> {
-    let (key, text) = (Key::Rule, out.text()?);
-    println!(rt; "{}", TextLine { form, key, text })?;
-    Ok(ANSWERED)
-}
-
-/// What lists numbers.
-trait Lists {
-    // Whether a number is listed.
-    fn lists(&self, number: u32) -> bool;
-}
-
-impl Lists for NumberSet {
-    fn lists(&self, number: u32) -> bool {
-        number < 64 && self.contains(number)
-    }
-}
-
-impl Lists for PlaceSet {
-    fn lists(&self, number: u32) -> bool {
-        number < 384 && self.contains(number)
+    match out.text() {
+        Ok(text) => asked.print_text(Key::Rule, text),
+        Err(error) => asked.fail(io::Error::from(error)),
     }
 }
 
@@ -71,32 +47,6 @@ enum Names {
     Months,
 }
 
-const DAYS: &[&str] = &[
-    "Mondays",
-    "Tuesdays",
-    "Wednesdays",
-    "Thursdays",
-    "Fridays",
-    "Saturdays",
-    "Sundays",
-];
-
-const MONTHS: &[&str] = &[
-    "",
-    "January",
-    "February",
-    "March",
-    "April",
-    "May",
-    "June",
-    "July",
-    "August",
-    "September",
-    "October",
-    "November",
-    "December",
-];
-
 // Puts the name of a number behind a text.
 fn put_name(out: &mut Buffer, names: Names, number: u32) {
     match names {
@@ -107,14 +57,25 @@ fn put_name(out: &mut Buffer, names: Names, number: u32) {
             put_ordinal(out, number);
             out.put(" last");
         }
-        Names::Weekdays => out.put(named_in(DAYS, number)),
-        Names::Months => out.put(named_in(MONTHS, number)),
+        Names::Weekdays => put!(out, weekday_name(number), "s"),
+        Names::Months => out.put(month_name(number)),
     }
 }
 
-// The name at a place of a list.
-fn named_in(list: &'static [&'static str], place: u32) -> &'static str {
-    list.get(place as usize).copied().unwrap_or("")
+// The name of a weekday, of which 0 is Monday.
+fn weekday_name(number: u32) -> &'static str {
+    match Weekday::from_u32(number) {
+        Some(weekday) => weekday.name(),
+        None => "",
+    }
+}
+
+// The name of a month, of which 1 is January.
+fn month_name(number: u32) -> &'static str {
+    match Month::from_u32(number) {
+        Some(month) => month.name(),
+        None => "",
+    }
 }
 
 // Puts a number as 1st, 2nd, 3rd or 4th behind a text.
@@ -129,67 +90,77 @@ fn put_ordinal(out: &mut Buffer, number: u32) {
     });
 }
 
-// The first number from one on that is listed, and the last of three or more in a row, below an end.
-fn run_from<L: Lists>(list: &L, from: u32, end: u32) -> Option<(u32, u32)> {
-    for first in from..end {
-        if list.lists(first) {
-            let last = last_in_row(list, first, end);
-            let is_short = last.saturating_sub(first) < 2;
-            return Some((first, if is_short { first } else { last }));
+// No list has a greater number.
+const MOST: u32 = 383;
+
+// The first number from one on that is listed, and the last of three or more in a row.
+fn run_from(list: &PlaceSet, from: u32) -> Option<(u32, u32)> {
+    let first = next_in(list, from, true)?;
+    let last = next_in(list, first, false)
+        .unwrap_or(MOST)
+        .saturating_sub(1);
+    let is_short = last.saturating_sub(first) < 2;
+    Some((first, if is_short { first } else { last }))
+}
+
+// The first number from one on that is listed, or that is not.
+fn next_in(list: &PlaceSet, from: u32, is_listed: bool) -> Option<u32> {
+    for number in from..MOST {
+        if list.contains(number) == is_listed {
+            return Some(number);
         }
     }
     None
 }
 
-// The last number in a row from one on, below an end.
-fn last_in_row<L: Lists>(list: &L, first: u32, end: u32) -> u32 {
-    let mut last = first;
-    for number in first..end {
-        if !list.lists(number) {
-            break;
-        }
-        last = number;
-    }
-    last
-}
-
-// Puts the numbers of a list from one on and below an end behind a text.
-fn put_list<L: Lists>(out: &mut Buffer, list: &L, from: u32, end: u32, names: Names) {
-    let mut next = run_from(list, from, end);
+// Puts the numbers of a list behind a text.
+fn put_list(out: &mut Buffer, list: &PlaceSet, names: Names) {
+    let mut next = run_from(list, 0);
     let mut between = "";
-    for _ in from..end {
+    for _ in 0..MOST {
         let Some((first, last)) = next else {
             break;
         };
-        next = run_from(list, last.saturating_add(1), end);
         out.put(between);
         put_name(out, names, first);
         if first < last {
             out.put(" to ");
             put_name(out, names, last);
         }
-        let is_last = match next {
-            Some((_, last)) => run_from(list, last.saturating_add(1), end).is_none(),
-            None => true,
-        };
-        between = if is_last { " and " } else { ", " };
+        next = run_from(list, last.saturating_add(1));
+        between = if has_more(list, next) { ", " } else { " and " };
     }
 }
 
-// Whether a list has all numbers from one on and below an end; whether it has none.
-fn has_all(set: NumberSet, from: u32, end: u32) -> bool {
-    last_in_row(&set, from, end.saturating_add(1)).saturating_add(1) >= end && set.lists(from)
+// Whether numbers are listed behind those in a row.
+fn has_more(list: &PlaceSet, row: Option<(u32, u32)>) -> bool {
+    match row {
+        Some((_, last)) => run_from(list, last.saturating_add(1)).is_some(),
+        None => false,
+    }
 }
 
-fn is_none<L: Lists>(list: &L, end: u32) -> bool {
-    run_from(list, 0, end).is_none()
+// Puts the numbers of a small list behind a text.
+fn put_set(out: &mut Buffer, set: NumberSet, names: Names) {
+    put_list(out, &places_of(set), names);
 }
 
-// How many numbers a list has below an end.
-fn count_of(set: NumberSet, end: u32) -> u32 {
+// The numbers of a small list.
+fn places_of(set: NumberSet) -> PlaceSet {
+    let mut places = PlaceSet::none();
+    for number in 0..64 {
+        if set.contains(number) {
+            places = places.with(number);
+        }
+    }
+    places
+}
+
+// How many numbers a small list has.
+fn count_of(set: NumberSet) -> u32 {
     let mut count: u32 = 0;
-    for number in 0..end {
-        if set.lists(number) {
+    for number in 0..64 {
+        if set.contains(number) {
             count = count.saturating_add(1);
         }
     }
@@ -199,21 +170,21 @@ fn count_of(set: NumberSet, end: u32) -> u32 {
 // Puts when a schedule is due behind a text.
 fn put_schedule(out: &mut Buffer, schedule: &Schedule) {
     let (minutes, hours) = (schedule.sets.minutes, schedule.sets.hours);
-    let times = count_of(minutes, 60).saturating_mul(count_of(hours, 24));
-    if has_all(minutes, 0, 60) {
+    let step = step_of(minutes, 0, 59);
+    if minutes == NumberSet::range(0, 60) {
         out.put("every minute");
         put_hours(out, hours, "");
-    } else if steps_of(minutes, 0, 59) > 0 && has_all(hours, 0, 24) {
+    } else if step > 0 && hours == NumberSet::range(0, 24) {
         out.put("every ");
-        out.show(&steps_of(minutes, 0, 59));
+        out.show(&step);
         out.put(" minutes");
-    } else if times <= 8 {
+    } else if count_of(minutes).saturating_mul(count_of(hours)) <= 8 {
         out.put("at ");
         put_clocks(out, minutes, hours);
     } else {
-        let is_one = count_of(minutes, 60) == 1;
+        let is_one = count_of(minutes) == 1;
         out.put(if is_one { "at minute " } else { "at minutes " });
-        put_list(out, &minutes, 0, 60, Names::Number);
+        put_set(out, minutes, Names::Number);
         put_hours(out, hours, " of every hour");
     }
     put_days(out, schedule);
@@ -221,8 +192,8 @@ fn put_schedule(out: &mut Buffer, schedule: &Schedule) {
 
 // Puts hours behind a text, or what is said of all.
 fn put_hours(out: &mut Buffer, hours: NumberSet, all: &str) {
-    let step = steps_of(hours, 0, 23);
-    if has_all(hours, 0, 24) {
+    let step = step_of(hours, 0, 23);
+    if hours == NumberSet::range(0, 24) {
         out.put(all);
     } else if step > 0 {
         out.put(" of every ");
@@ -230,30 +201,20 @@ fn put_hours(out: &mut Buffer, hours: NumberSet, all: &str) {
         out.put(" hour");
     } else {
         out.put(" of the hours ");
-        put_list(out, &hours, 0, 24, Names::Number);
+        put_set(out, hours, Names::Number);
     }
 }
 
 // How far apart the numbers of a list are, from its first possible one to its last; 0 where they are not so, or are too few.
-fn steps_of(list: NumberSet, first: u32, last: u32) -> u32 {
+fn step_of(list: NumberSet, first: u32, last: u32) -> u32 {
+    let last = last.min(59);
     for step in 2..31 {
         let is_even = last.saturating_add(1) % step == 0 || first > 0 && step < 8;
-        if is_even && is_by_steps(list, first, last, step) {
+        if is_even && list == NumberSet::by_steps(first, last, step) {
             return step;
         }
     }
     0
-}
-
-// Whether a list has every number so far apart, and no other.
-fn is_by_steps(list: NumberSet, first: u32, last: u32, step: u32) -> bool {
-    for number in first..last.saturating_add(1) {
-        let is_step = number.saturating_sub(first).checked_rem(step) == Some(0);
-        if list.lists(number) != is_step {
-            return false;
-        }
-    }
-    true
 }
 
 /// A time of day to the minute.
@@ -272,7 +233,7 @@ impl fmt::Display for Clock {
 
 // Puts the times of hours and minutes behind a text.
 fn put_clocks(out: &mut Buffer, minutes: NumberSet, hours: NumberSet) {
-    let mut left = count_of(minutes, 60).saturating_mul(count_of(hours, 24));
+    let mut left = count_of(minutes).saturating_mul(count_of(hours));
     for hour in 0..24 {
         for minute in 0..60 {
             if hours.contains(hour) && minutes.contains(minute) {
@@ -290,8 +251,8 @@ fn put_clocks(out: &mut Buffer, minutes: NumberSet, hours: NumberSet) {
 
 // Puts the days on which a schedule is due behind a text.
 fn put_days(out: &mut Buffer, schedule: &Schedule) {
-    let has_days = !has_all(schedule.sets.days, 1, 32);
-    let has_weekdays = !has_all(schedule.sets.weekdays, 0, 7);
+    let has_days = schedule.sets.days != NumberSet::range(1, 32);
+    let has_weekdays = schedule.sets.weekdays != NumberSet::range(0, 7);
     if has_days {
         put_month_days(out, schedule);
         put_months(out, schedule.sets.months, " of every month");
@@ -311,12 +272,13 @@ fn put_days(out: &mut Buffer, schedule: &Schedule) {
 
 // Puts the weekdays on which a schedule is due behind a text.
 fn put_weekdays_due(out: &mut Buffer, schedule: &Schedule) {
-    let last = schedule.sets.month_days.last_weekdays;
-    let nth = schedule.sets.month_days.nth_weekdays;
-    let weekdays = from_monday(schedule.sets.weekdays);
-    let is_named = !is_none(&last, 7) || !is_none(&nth, 35);
-    put_list(out, &weekdays, 0, 7, Names::Weekdays);
-    if is_named && !is_none(&weekdays, 7) {
+    let (last, nth) = (
+        schedule.sets.month_days.last_weekdays,
+        schedule.sets.month_days.nth_weekdays,
+    );
+    let is_named = !last.is_empty() || !nth.is_empty();
+    put_set(out, from_monday(schedule.sets.weekdays), Names::Weekdays);
+    if is_named && !schedule.sets.weekdays.is_empty() {
         out.put(" and ");
     }
     put_named_weekdays(out, last, nth);
@@ -326,11 +288,11 @@ fn put_weekdays_due(out: &mut Buffer, schedule: &Schedule) {
 
 // Puts months behind a text, or what is said of all.
 fn put_months(out: &mut Buffer, months: NumberSet, all: &str) {
-    if has_all(months, 1, 13) {
+    if months == NumberSet::range(1, 13) {
         out.put(all);
     } else {
         out.put(" in ");
-        put_list(out, &months, 1, 13, Names::Months);
+        put_set(out, months, Names::Months);
     }
 }
 
@@ -347,47 +309,35 @@ fn from_monday(days: NumberSet) -> NumberSet {
 
 // Puts the days of the month on which a schedule is due behind a text.
 fn put_month_days(out: &mut Buffer, schedule: &Schedule) {
-    let mut is_first = true;
-    let step = steps_of(schedule.sets.days, 1, 31);
+    let named = &schedule.sets.month_days;
+    let mut front = " on the ";
+    let step = step_of(schedule.sets.days, 1, 31);
     if step > 0 {
         out.put(" on every ");
         put_ordinal(out, step);
         out.put(" day from the 1st");
-        is_first = false;
-    } else if !is_none(&schedule.sets.days, 32) {
-        out.put(" on the ");
-        put_list(out, &schedule.sets.days, 1, 32, Names::Ordinal);
-        is_first = false;
+        front = " and the ";
+    } else if !schedule.sets.days.is_empty() {
+        out.put(front);
+        put_set(out, schedule.sets.days, Names::Ordinal);
+        front = " and the ";
     }
     for follow in 0..31 {
-        if schedule.sets.month_days.from_end.contains(follow) {
-            put_front(out, is_first);
+        if named.from_end.contains(follow) {
+            out.put(front);
             put_name(out, Names::FromEnd, follow.saturating_add(1));
             out.put(" day");
-            is_first = false;
+            front = " and the ";
         }
     }
-    if schedule.sets.month_days.last_workday {
-        put_front(out, is_first);
-        out.put("last workday");
-        is_first = false;
+    if named.last_workday {
+        put!(out, front, "last workday");
+        front = " and the ";
     }
-    if !is_none(&schedule.sets.month_days.nearest_workdays, 32) {
-        put_front(out, is_first);
-        out.put("workday nearest to the ");
-        put_list(
-            out,
-            &schedule.sets.month_days.nearest_workdays,
-            1,
-            32,
-            Names::Ordinal,
-        );
+    if !named.nearest_workdays.is_empty() {
+        put!(out, front, "workday nearest to the ");
+        put_set(out, named.nearest_workdays, Names::Ordinal);
     }
-}
-
-// Puts what stands in front of the first day of the month, or of another, behind a text.
-fn put_front(out: &mut Buffer, is_first: bool) {
-    out.put(if is_first { " on the " } else { " and the " });
 }
 
 // Puts the weekdays that are named by their place in the month behind a text.
@@ -415,35 +365,32 @@ fn put_place(out: &mut Buffer, week: u32, day: u32) {
         5 => out.put("last"),
         _ => put_ordinal(out, week.saturating_add(1)),
     }
-    let name = named_in(DAYS, day);
-    put!(out, " ", name.strip_suffix("s").unwrap_or(name));
+    put!(out, " ", weekday_name(day));
 }
 
 // Puts which days a rule names behind a text.
 fn put_rule(out: &mut Buffer, rule: &Rule) {
     put_frequency(out, rule);
-    if !is_none(&rule.months, 13) {
+    if !rule.months.is_empty() {
         out.put(" in ");
-        put_list(out, &rule.months, 1, 13, Names::Months);
+        put_set(out, rule.months, Names::Months);
     }
-    put_ends(out, " in the ", &rule.weeks, &rule.weeks_from_end, " week");
+    put_small_ends(out, " in the ", rule.weeks, rule.weeks_from_end, " week");
+    let year_day = " day of the year";
     put_ends(
         out,
         " on the ",
         &rule.year_days,
         &rule.year_days_from_end,
-        " day of the year",
+        year_day,
     );
-    let noun = if is_none(&rule.month_days_from_end, 32) {
-        ""
-    } else {
-        " day"
-    };
-    put_ends(
+    let is_from_end = !rule.month_days_from_end.is_empty();
+    let noun = if is_from_end { " day" } else { "" };
+    put_small_ends(
         out,
         " on the ",
-        &rule.month_days,
-        &rule.month_days_from_end,
+        rule.month_days,
+        rule.month_days_from_end,
         noun,
     );
     put_weekdays(out, rule);
@@ -458,6 +405,11 @@ fn put_rule(out: &mut Buffer, rule: &Rule) {
         &rule.positions_from_end,
         "",
     );
+    put_end(out, rule);
+}
+
+// Puts where a rule ends behind a text.
+fn put_end(out: &mut Buffer, rule: &Rule) {
     match rule.end {
         End::Never => {}
         End::Count(1) => out.put(", once"),
@@ -475,24 +427,32 @@ fn put_rule(out: &mut Buffer, rule: &Rule) {
 
 // Whether a rule names no day of its periods, each of which then has one by the start.
 fn names_no_day(rule: &Rule) -> bool {
-    let by_month = is_none(&rule.month_days, 32) && is_none(&rule.month_days_from_end, 32);
-    let by_year = is_none(&rule.year_days, 367) && is_none(&rule.year_days_from_end, 367);
-    let by_week = is_none(&rule.weeks, 54) && is_none(&rule.weeks_from_end, 54);
+    let by_month = rule.month_days.is_empty() && rule.month_days_from_end.is_empty();
+    let by_year = rule.year_days.is_empty() && rule.year_days_from_end.is_empty();
+    let by_week = rule.weeks.is_empty() && rule.weeks_from_end.is_empty();
     by_month && by_year && by_week && rule.weekdays.is_empty()
 }
 
 // Puts a part of a rule behind a text, if the rule has it: its numbers, and those from the end.
-fn put_ends<L: Lists>(out: &mut Buffer, before: &str, list: &L, from_end: &L, noun: &str) {
-    let (has_some, has_ends) = (!is_none(list, 367), !is_none(from_end, 367));
-    if has_some {
-        out.put(before);
-        put_list(out, list, 1, 367, Names::Ordinal);
+fn put_ends(out: &mut Buffer, before: &str, list: &PlaceSet, from_end: &PlaceSet, noun: &str) {
+    let mut front = before;
+    if !list.is_empty() {
+        out.put(front);
+        put_list(out, list, Names::Ordinal);
+        front = " and the ";
     }
-    if has_ends {
-        out.put(if has_some { " and the " } else { before });
-        put_list(out, from_end, 1, 367, Names::FromEnd);
+    if !from_end.is_empty() {
+        out.put(front);
+        put_list(out, from_end, Names::FromEnd);
     }
-    out.put(if has_some || has_ends { noun } else { "" });
+    if !list.is_empty() || !from_end.is_empty() {
+        out.put(noun);
+    }
+}
+
+// The same of a part with small numbers.
+fn put_small_ends(out: &mut Buffer, before: &str, set: NumberSet, from_end: NumberSet, noun: &str) {
+    put_ends(out, before, &places_of(set), &places_of(from_end), noun);
 }
 
 // Puts how often periods come behind a text.
@@ -514,21 +474,22 @@ fn put_frequency(out: &mut Buffer, rule: &Rule) {
 
 // Puts the weekdays of a rule behind a text: those of every week, and those by their place.
 fn put_weekdays(out: &mut Buffer, rule: &Rule) {
-    let days = rule.weekdays;
-    if !is_none(&days.every, 7) {
+    let mut between = " on the ";
+    if !rule.weekdays.every.is_empty() {
         out.put(" on ");
-        put_list(out, &days.every, 0, 7, Names::Weekdays);
+        put_set(out, rule.weekdays.every, Names::Weekdays);
+        between = " and the ";
     }
-    let mut between = if is_none(&days.every, 7) {
-        " on the "
-    } else {
-        " and the "
-    };
-    for day in 0..7 {
-        let front = days.front.get(day).copied().unwrap_or(NumberSet::none());
-        let back = days.back.get(day).copied().unwrap_or(NumberSet::none());
-        between = put_places(out, front, day, Names::Ordinal, between);
-        between = put_places(out, back, day, Names::FromEnd, between);
+    for day in 0..7u32 {
+        let place = day as usize;
+        between = put_places(
+            out,
+            rule.weekdays.front[place],
+            day,
+            Names::Ordinal,
+            between,
+        );
+        between = put_places(out, rule.weekdays.back[place], day, Names::FromEnd, between);
     }
 }
 
@@ -536,16 +497,15 @@ fn put_weekdays(out: &mut Buffer, rule: &Rule) {
 fn put_places(
     out: &mut Buffer,
     places: NumberSet,
-    day: usize,
+    day: u32,
     names: Names,
     between: &'static str,
 ) -> &'static str {
-    if is_none(&places, 54) {
+    if places.is_empty() {
         return between;
     }
     out.put(between);
-    put_list(out, &places, 1, 54, names);
-    let name = DAYS.get(day).copied().unwrap_or("");
-    put!(out, " ", name.strip_suffix("s").unwrap_or(name));
+    put_set(out, places, names);
+    put!(out, " ", weekday_name(day));
     " and the "
 }

@@ -31,34 +31,31 @@ pub(crate) fn parse() -> CommandRow {
     )
 }
 
-// What reads days and date-times, and prints them.
-#[derive(Drop)]
-struct Lines<'a> {
-    form: AnswerForm<'a>,
-    instants: Instants<'a>,
-}
+// The days or the date-times of lines, read and printed.
+#[derive(Clone, Copy)]
+struct Lines {}
 
-// The day or the date-time, or that of each line, read and printed; the exit status.
-pub(crate) fn answer(rt: &HostRuntime, asked: &Asked<'_>, none: &mut Reply) -> Answered {
-    let (form, reading) = (asked.form, asked.reading);
-    let instants = value!(instants_by(rt, asked));
-    match asked.words.operand(1) {
-        Some(word) if word.text != "-" => {
-            *none = reading.none_of_text(word.text.as_bytes());
-            let start = value!(instants.start_of(word));
-            asked.print(rt, reading.reply(start))
+// The day or the date-time, or that of each line, read and printed.
+pub(crate) fn answer(asked: &mut Asked<'_>) {
+    asked.take_zone();
+    match asked.word_or_lines(1) {
+        Some(word) => {
+            asked.none = asked.reading.none_of_text(word.text.as_bytes());
+            let start = asked.start(word);
+            asked.print_start(&start);
         }
-        _ => take_lines(rt, INPUT, rt.reader(), &mut Lines { form, instants }),
+        None => take_input(asked, &mut Lines {}),
     }
 }
 
-impl EachLine for Lines<'_> {
-    fn take_line(&mut self, rt: &HostRuntime, _number: u64, line: &[u8]) -> io::Result<u8> {
-        let (form, reading) = (self.form, self.instants.form);
-        let reply = match self.instants.read(line) {
-            Some(start) => reading.reply(start),
-            None => reading.none_of_text(line),
-        };
-        print_reply(rt, form, reply)
+impl EachLine for Lines {
+    fn take_line(&mut self, asked: &mut Asked<'_>, line: &[u8]) {
+        match asked.read(line) {
+            Some(start) => asked.print_start(&start),
+            None => {
+                let none = asked.reading.none_of_text(line);
+                asked.print(none);
+            }
+        }
     }
 }

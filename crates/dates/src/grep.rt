@@ -43,8 +43,7 @@ const LINES: &str =
 
 // Which lines are printed.
 #[derive(Drop)]
-struct Lines<'a> {
-    reading: InstantForm<'a>,
+struct Lines {
     // The numbers of the first and the last day that are looked for.
     first: i32,
     last: i32,
@@ -57,75 +56,56 @@ struct Lines<'a> {
     places: Vec<(i64, u32, usize, usize)>,
 }
 
-// The lines that are looked for, or all in order; the exit status.
-pub(crate) fn answer(rt: &HostRuntime, asked: &Asked<'_>, _none: &mut Reply) -> Answered {
-    let mut lines = value!(lines_of(rt, asked));
-    let status = match asked.word_or_lines() {
-        Some(word) => {
-            let file = value!(open_file(rt, word));
-            value!(take_lines(rt, word, file, &mut lines))
-        }
-        None => value!(take_lines(rt, INPUT, rt.reader(), &mut lines)),
-    };
-    if lines.is_sorted {
-        lines.print(rt)?;
-        return Ok(status);
-    }
-    Ok(if lines.found { ANSWERED } else { NONE })
-}
-
-// What is looked for.
-fn lines_of<'a>(rt: &HostRuntime, asked: &Asked<'a>) -> Result<Lines<'a>, Fault> {
+// The lines that are looked for, or all in order.
+pub(crate) fn answer(asked: &mut Asked<'_>) {
     let mut lines = Lines {
-        reading: asked.reading,
         first: i32::MIN,
         last: i32::MAX,
-        on: given!(asked.value("--on"), word, weekdays_of(word)),
+        on: match asked.value("--on") {
+            Some(word) => Some(asked.weekdays(word)),
+            None => None,
+        },
         is_sorted: asked.command.name == SORT,
         found: false,
-        text: Vec::new(rt.alloc()),
-        places: Vec::new(rt.alloc()),
+        text: Vec::new(asked.rt.alloc()),
+        places: Vec::new(asked.rt.alloc()),
     };
-    if let Some(word) = asked.value("--in") {
-        let (first, last) = value!(days_in(word));
-        lines.first = first.num_days_from_ce();
-        lines.last = last.num_days_from_ce();
+    lines.look_for(asked);
+    take_file(asked, &mut lines);
+    if !lines.is_sorted {
+        asked.end_by(if lines.found { ANSWERED } else { NONE });
+    } else if !asked.is_over {
+        let printed = lines.print(asked.rt);
+        asked.done(printed);
     }
-    if let Some(word) = asked.value("--after") {
-        let day = value!(day_of(asked.reading, word)).num_days_from_ce();
-        lines.first = lines.first.max(day.saturating_add(1));
-    }
-    if let Some(word) = asked.value("--before") {
-        let day = value!(day_of(asked.reading, word)).num_days_from_ce();
-        lines.last = lines.last.min(day.saturating_sub(1));
-    }
-    Ok(lines)
 }
 
-// The first and the last day of the month or the year that a word names.
-fn days_in(word: Word<'_>) -> Result<(NaiveDate, NaiveDate), Fault> {
-    let text = word.text.as_bytes();
-    if read_year(text).is_some() {
-        let first = value!(start_of_year(word));
-        return Ok((
-            first,
-            first
-                .moved_by_months(11)
-                .unwrap_or(first)
-                .last_day_of_month(),
-        ));
+impl Asked<'_> {
+    // The first and the last day of the month or the year that a word names.
+    fn days_in(&mut self, word: Word<'_>) -> (NaiveDate, NaiveDate) {
+        let text = word.text.as_bytes();
+        if read_year(text).is_some() {
+            let first = self.start_of_year(word);
+            let last = first.moved_by_months(11).unwrap_or(first);
+            return (first, last.last_day_of_month());
+        }
+        match read_month(text) {
+            Ok(first) => (first, first.last_day_of_month()),
+            Err(error) => {
+                let expected = "expected a month as 2024-02 or a year as 2024";
+                self.unread(word, Unreadable::Form(error), expected);
+                (NaiveDate::MIN, NaiveDate::MIN)
+            }
+        }
     }
-    let what = Wanted::MonthOrYear;
-    let first = value!(read_month(text), error => unread(word, Unreadable::Form(error), what));
-    Ok((first, first.last_day_of_month()))
 }
 
 // The day or the date-time that a line has: the line, or its first word that is one.
-fn start_in(reading: InstantForm<'_>, line: &[u8]) -> Option<Start> {
+fn start_in(reading: &Reading<'_>, line: &[u8]) -> Option<Start> {
     if let Ok(start) = reading.read(line) {
         return Some(start);
     }
-    let is_plain = matches!(reading, InstantForm::Text(_, Order::None));
+    let is_plain = reading.pattern.is_none() && matches!(reading.order, Order::None);
     for word in line.split(|byte| b" \t\r,;()[]\"'".contains(byte)) {
         if !is_plain || word.contains(&b'-') {
             if let Ok(start) = reading.read(word) {
@@ -136,42 +116,72 @@ fn start_in(reading: InstantForm<'_>, line: &[u8]) -> Option<Start> {
     None
 }
 
-impl EachLine for Lines<'_> {
-    fn take_line(&mut self, rt: &HostRuntime, _number: u64, line: &[u8]) -> io::Result<u8> {
-        let start = start_in(self.reading, line);
-        if self.is_sorted {
-            return self.keep(line, start);
+impl EachLine for Lines {
+    fn take_line(&mut self, asked: &mut Asked<'_>, line: &[u8]) {
+        let start = start_in(&asked.reading, line);
+        let taken = if self.is_sorted {
+            self.keep(line, start)
+        } else {
+            self.find(asked.rt, line, start)
+        };
+        asked.done(taken);
+        if self.is_sorted && start.is_none() {
+            asked.end_by(NONE);
         }
+    }
+}
+
+impl Lines {
+    // Takes which days are looked for.
+    fn look_for(&mut self, asked: &mut Asked<'_>) {
+        if let Some(word) = asked.value("--in") {
+            let (first, last) = asked.days_in(word);
+            self.first = first.num_days_from_ce();
+            self.last = last.num_days_from_ce();
+        }
+        if let Some(day) = asked.day_if(asked.value("--after")) {
+            self.first = self.first.max(day.num_days_from_ce().saturating_add(1));
+        }
+        if let Some(day) = asked.day_if(asked.value("--before")) {
+            self.last = self.last.min(day.num_days_from_ce().saturating_sub(1));
+        }
+    }
+
+    // Prints a line whose day is looked for.
+    fn find(&mut self, rt: &HostRuntime, line: &[u8], start: Option<Start>) -> io::Result<()> {
         let Some(start) = start else {
-            return Ok(ANSWERED);
+            return Ok(());
         };
         let date = start.local().date();
         let day = date.num_days_from_ce();
-        let is_on = self.on.map_or(true, |days| days.contains(date.weekday()));
+        let is_on = match self.on {
+            Some(days) => days.contains(date.weekday()),
+            None => true,
+        };
         if is_on && self.first <= day && day <= self.last {
             self.found = true;
             self.put(line)?;
             self.print(rt)?;
             self.text.clear();
         }
-        Ok(ANSWERED)
+        Ok(())
     }
-}
 
-impl Lines<'_> {
     // Puts a line behind the text.
     fn put(&mut self, line: &[u8]) -> io::Result<()> {
         self.text.extend_from_slice(line)?;
         Ok(self.text.push(b'\n')?)
     }
 
-    // Keeps a line with the second and the nanosecond of its day; the exit status.
-    fn keep(&mut self, line: &[u8], start: Option<Start>) -> io::Result<u8> {
+    // Keeps a line with the second and the nanosecond of its day.
+    fn keep(&mut self, line: &[u8], start: Option<Start>) -> io::Result<()> {
         let begin = self.text.len();
         self.put(line)?;
-        let (second, nano) = start.map_or((i64::MAX, 0), |start| second_of(start.placed()));
-        self.places.push((second, nano, begin, self.text.len()))?;
-        Ok(if start.is_some() { ANSWERED } else { NONE })
+        let (second, nano) = match start {
+            Some(start) => second_of(start.placed()),
+            None => (i64::MAX, 0),
+        };
+        Ok(self.places.push((second, nano, begin, self.text.len()))?)
     }
 
     // Prints the text, or its lines in order.

@@ -3,7 +3,6 @@
 use crate::prelude::*;
 use chrono_business::{Calendar, HolidayRule, without_weekends};
 use chrono_datetime::WeekdaySet;
-use std::fs::{self, File};
 
 /// The holidays by the options of a command.
 #[derive(Drop)]
@@ -54,49 +53,62 @@ fn put_in_order(days: &mut Vec<NaiveDate>, weekend: WeekdaySet) {
     days.truncate(count);
 }
 
-// The holidays by the options of a command.
-pub(crate) fn holidays_of(rt: &HostRuntime, asked: &Asked<'_>) -> Result<Holidays, Fault> {
-    let weekend = value!(weekend_of(asked.option("--weekend")));
-    let mut holidays = Holidays {
-        weekend,
-        rules: Vec::new(rt.alloc()),
-        listed: Vec::new(rt.alloc()),
-        days: Vec::new(rt.alloc()),
-        years: None,
-    };
-    put_rules(asked.option("--calendar").text, &mut holidays.rules)?;
-    if let Some(word) = asked.value("--holidays") {
-        value!(put_listed(rt, asked.reading, word, &mut holidays.listed));
-    }
-    Ok(holidays)
-}
-
-// Puts the days that the file of a word lists into a list.
-fn put_listed(
-    rt: &HostRuntime,
-    form: InstantForm<'_>,
-    word: Word<'_>,
-    days: &mut Vec<NaiveDate>,
-) -> Result<(), Fault> {
-    let mut line = Vec::new(rt.alloc());
-    let mut reader = BufReader::new(rt.alloc(), value!(open_file(rt, word)))?;
-    for number in 1..u64::MAX {
-        match read_line(&mut reader, &mut line) {
-            Ok(true) => match day_of_line(form, line.as_slice()) {
-                Ok(day) => days.push(day)?,
-                Err(reason) => return Err(Fault::NoHoliday(word.place, number, reason)),
-            },
-            Ok(false) => break,
-            Err(error) => return Err(Fault::Input(word.place, error)),
+impl Asked<'_> {
+    // The holidays by the options of the command.
+    pub(crate) fn holidays(&mut self) -> Holidays {
+        let mut holidays = Holidays {
+            weekend: self.weekend(self.option("--weekend")),
+            rules: Vec::new(self.rt.alloc()),
+            listed: Vec::new(self.rt.alloc()),
+            days: Vec::new(self.rt.alloc()),
+            years: None,
+        };
+        let put = put_rules(self.option("--calendar").text, &mut holidays.rules);
+        self.done(put);
+        if let Some(word) = self.value("--holidays") {
+            let put = self.put_listed(word, &mut holidays.listed);
+            self.done(put);
         }
+        holidays
     }
-    Ok(())
-}
 
-// The file that a word names.
-pub(crate) fn open_file(rt: &HostRuntime, word: Word<'_>) -> Result<File, Fault> {
-    if word.text.is_empty() {
-        return Err(wanted(word, Wanted::File));
+    // Puts the days that the file of a word lists into a list.
+    fn put_listed(&mut self, word: Word<'_>, days: &mut Vec<NaiveDate>) -> io::Result<()> {
+        let Some(file) = self.open_file(word) else {
+            return Ok(());
+        };
+        let mut line = Vec::new(self.rt.alloc());
+        let mut reader = BufReader::new(self.rt.alloc(), file)?;
+        for number in 1..u64::MAX {
+            match read_line(&mut reader, &mut line) {
+                Ok(true) => match self.reading.day_of_line(line.as_slice()) {
+                    Ok(day) => days.push(day)?,
+                    Err(reason) => {
+                        self.wrong_holiday(word, number, reason);
+                        break;
+                    }
+                },
+                Ok(false) => break,
+                Err(error) => {
+                    self.wrong_by(word, &error, "");
+                    break;
+                }
+            }
+        }
+        Ok(())
     }
-    Ok(value!(fs::open(rt, word.text), error => Fault::Input(word.place, error)))
+
+    // Ends since a line of holidays is no day.
+    fn wrong_holiday(&mut self, word: Word<'_>, number: u64, reason: Reason) {
+        let mut said = self.blame(word);
+        said.put(", line ");
+        said.show(&number);
+        said.put(": ");
+        if !matches!(reason, Reason::Form) {
+            put_reason(&mut said, reason);
+            said.put("; ");
+        }
+        said.put("expected a day as 2024-02-29");
+        self.refuse(&said);
+    }
 }

@@ -16,20 +16,28 @@ pub(crate) fn command() -> CommandRow {
     )
 }
 
-// What the zone's clock shows at the instant, or at both where a local time is shown twice; the exit status.
-pub(crate) fn answer(rt: &HostRuntime, asked: &Asked<'_>, none: &mut Reply) -> Answered {
-    *none = Reply::NoClock;
-    let zone = value!(zone_of(rt, asked.word(0)));
-    let start = value!(moment_of(asked.reading, asked.word(1)));
-    let from = given!(asked.value("--from-zone"), word, zone_of(rt, word));
-    match instants_of(from.as_ref().unwrap_or(&zone), start) {
+// What the zone's clock shows at the instant, or at both where a local time is shown twice.
+pub(crate) fn answer(asked: &mut Asked<'_>) {
+    asked.none = Reply::NoClock;
+    let Some(zone) = asked.zone_of(asked.word(0)) else {
+        return;
+    };
+    let start = asked.moment(asked.word(1));
+    let instants = match asked.value("--from-zone") {
+        Some(word) => match asked.zone_of(word) {
+            Some(from) => instants_of(&from, start),
+            None => return,
+        },
+        None => instants_of(&zone, start),
+    };
+    match instants {
         MappedLocalTime::None => {
-            answered(print_nowhere(rt, asked.form, *none, ALONE, &start, "", Cause::Never))
+            asked.print_nowhere(&start, "", "the zone's clock never shows it")
         }
-        MappedLocalTime::Single(only) => answered(print_in(rt, asked.form, &zone, only)),
+        MappedLocalTime::Single(only) => asked.print_in(&zone, only),
         MappedLocalTime::Ambiguous(earlier, later) => {
-            value!(answered(print_in(rt, asked.form, &zone, earlier)));
-            answered(print_in(rt, asked.form, &zone, later))
+            asked.print_in(&zone, earlier);
+            asked.print_in(&zone, later);
         }
     }
 }

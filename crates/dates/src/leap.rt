@@ -11,9 +11,9 @@ pub(crate) fn command() -> CommandRow {
     )
 }
 
-// `yes` where the year is a leap year, and else `no`; the exit status.
-pub(crate) fn answer(rt: &HostRuntime, asked: &Asked<'_>, none: &mut Reply) -> Answered {
-    *none = Reply::Nothing(Key::Leap);
-    let first = value!(start_of_year(asked.word(0)));
-    asked.print(rt, Reply::Whether(Key::Leap, first.leap_year()))
+// `yes` where the year is a leap year, and else `no`.
+pub(crate) fn answer(asked: &mut Asked<'_>) {
+    asked.none = Reply::Nothing(Key::Leap);
+    let first = asked.start_of_year(asked.word(0));
+    asked.print(Reply::Whether(Key::Leap, first.leap_year()));
 }

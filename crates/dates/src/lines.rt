@@ -1,6 +1,7 @@
 //! Lines of input, of each of which only so many bytes are kept, and commands that take each of them.
 
 use crate::prelude::*;
+use std::fs::{self, File};
 use std::io::{BufRead, Read};
 
 /// So many bytes of a line are kept; no text of as many names a day or a date-time.
@@ -26,54 +27,82 @@ pub(crate) fn read_line(
 
 /// A command that takes each line of a text.
 pub(crate) trait EachLine {
-    /// Takes the line of this number, from 1 on; the exit status.
-    fn take_line(&mut self, rt: &HostRuntime, number: u64, line: &[u8]) -> io::Result<u8>;
+    /// Takes a line, whose number is that of `asked`.
+    fn take_line(&mut self, asked: &mut Asked<'_>, line: &[u8]);
 }
 
-// Takes each line of a source; the greatest exit status.
-pub(crate) fn take_lines(
-    rt: &HostRuntime,
+// Takes each line of the standard input.
+pub(crate) fn take_input(asked: &mut Asked<'_>, command: &mut impl EachLine) {
+    let rt = asked.rt;
+    take_lines(asked, INPUT, rt.reader(), command);
+}
+
+// Takes each line of the file that the first operand names; of the standard input without one.
+pub(crate) fn take_file(asked: &mut Asked<'_>, command: &mut impl EachLine) {
+    match asked.word_or_lines(0) {
+        Some(word) => {
+            if let Some(file) = asked.open_file(word) {
+                take_lines(asked, word, file, command);
+            }
+        }
+        None => take_input(asked, command),
+    }
+}
+
+// Takes each line of a source. The exit status is the greatest.
+fn take_lines(
+    asked: &mut Asked<'_>,
     source: Word<'_>,
     reader: impl Read + Drop,
     command: &mut impl EachLine,
-) -> Answered {
+) {
+    if asked.is_over {
+        return;
+    }
     let mut status = ANSWERED;
-    let mut line = Vec::new(rt.alloc());
-    let mut reader = BufReader::new(rt.alloc(), reader)?;
+    let mut line = Vec::new(asked.rt.alloc());
+    let mut reader = match BufReader::new(asked.rt.alloc(), reader) {
+        Ok(reader) => reader,
+        Err(error) => {
+            asked.fail(error);
+            return;
+        }
+    };
     for number in 1..u64::MAX {
         match read_line(&mut reader, &mut line) {
-            Ok(true) => status = status.max(command.take_line(rt, number, line.as_slice())?),
+            Ok(true) => {}
             Ok(false) => break,
-            Err(error) => return Err(Fault::Input(source.place, error)),
+            Err(error) => {
+                asked.wrong_by(source, &error, "");
+                break;
+            }
+        }
+        asked.line = number;
+        asked.end_by(ANSWERED);
+        command.take_line(asked, line.as_slice());
+        status = status.max(asked.status);
+        if asked.is_over {
+            break;
         }
     }
-    Ok(status)
+    asked.end_by(status);
 }
 
-/// In place of a line's number, where the words ask for one answer alone.
-pub(crate) const ALONE: u64 = 0;
-
-// Prints that there is no answer, since a move from there leads nowhere; the exit status.
-pub(crate) fn print_nowhere(
-    rt: &HostRuntime,
-    form: AnswerForm<'_>,
-    none: Reply,
-    number: u64,
-    from: &Start,
-    by: &str,
-    why: Cause,
-) -> io::Result<u8> {
-    let status = print_reply(rt, form, none)?;
-    let mut out = Buffer::new(rt.alloc());
-    if number != ALONE {
-        out.put("line ");
-        out.show(&number);
-        out.put(": ");
+impl Asked<'_> {
+    // The file that a word names.
+    pub(crate) fn open_file(&mut self, word: Word<'_>) -> Option<File> {
+        if word.text.is_empty() {
+            self.wrong(word, "expected the name of a file");
+            return None;
+        }
+        match fs::open(self.rt, word.text) {
+            Ok(file) => Some(file),
+            Err(error) => {
+                self.wrong_by(word, &error, "");
+                None
+            }
+        }
     }
-    out.show(from);
-    put!(out, gap_before(by), by, ": ");
-    put_cause(&mut out, by, why);
-    tell(rt, &out, status)
 }
 
 /// Why a line names no day; `Form` is that it is not written as one, and `Mark` a byte order mark.
@@ -93,7 +122,7 @@ pub(crate) enum Reason {
 pub(crate) fn put_reason(out: &mut Buffer, reason: Reason) {
     out.put(match reason {
         Reason::Day(error) => {
-            put_no_day(out, error);
+            put_unread(out, error);
             return;
         }
         Reason::Moment => "a date-time, and no day",
@@ -106,21 +135,23 @@ pub(crate) fn put_reason(out: &mut Buffer, reason: Reason) {
     });
 }
 
-// The day that a line names, or why it names none.
-pub(crate) fn day_of_line(form: InstantForm<'_>, line: &[u8]) -> Result<NaiveDate, Reason> {
-    if line.len() >= MOST_BYTES {
-        return Err(Reason::Length);
-    }
-    match form.read(line) {
-        Ok(start) => match start {
-            Start::Day(date) => Ok(date),
-            _ => Err(Reason::Moment),
-        },
-        Err(Unreadable::Form(error))
-            if error.cause == ReadCause::NotThisForm || parted(line).is_some() => {
-            Err(beside_day(line))
+impl Reading<'_> {
+    // The day that a line names, or why it names none.
+    pub(crate) fn day_of_line(&self, line: &[u8]) -> Result<NaiveDate, Reason> {
+        if line.len() >= MOST_BYTES {
+            return Err(Reason::Length);
         }
-        Err(error) => Err(Reason::Day(error)),
+        match self.read(line) {
+            Ok(start) => match start {
+                Start::Day(date) => Ok(date),
+                _ => Err(Reason::Moment),
+            },
+            Err(Unreadable::Form(error))
+                if error.cause == ReadCause::NotThisForm || parted(line).is_some() => {
+                Err(beside_day(line))
+            }
+            Err(error) => Err(Reason::Day(error)),
+        }
     }
 }
 

@@ -10,29 +10,6 @@ macro_rules! put {
     };
 }
 
-// The value of a result; its fault, or the fault by its error, is returned.
-macro_rules! value {
-    ($read:expr) => {
-        value!($read, fault => fault)
-    };
-    ($read:expr, $error:ident => $fault:expr) => {
-        match $read {
-            Ok(value) => value,
-            Err($error) => return Err($fault),
-        }
-    };
-}
-
-// What a word that may be given has by a reading of it; its fault is returned.
-macro_rules! given {
-    ($given:expr, $word:ident, $read:expr) => {
-        match $given {
-            Some($word) => Some(value!($read)),
-            None => None,
-        }
-    };
-}
-
 // The row of a command: its name, its operands and its options, and what help says of it.
 macro_rules! row {
     ($name:expr, $operands:expr, $options:expr; $($field:ident: $text:expr),*) => {
@@ -93,7 +70,6 @@ mod table;
 mod test;
 mod texts;
 mod values;
-mod wanted;
 mod week;
 mod weekday;
 mod zone_changes;
@@ -105,25 +81,23 @@ use std::env;
 use std::process::ExitCode;
 
 fn main(rt: HostRuntime) -> ExitCode {
-    match run(&rt) {
-        Ok(status) => ExitCode::from(status),
-        Err(fault) => {
-            // Whoever read the answers has enough of them.
-            if fault.kind() == ErrorKind::BrokenPipe {
-                return ExitCode::SUCCESS;
-            }
-            let _ = eprintln!(rt; "dates: {fault}");
-            ExitCode::from(WRONG)
+    ExitCode::from(run(&rt))
+}
+
+// Answers what the arguments ask for; the exit status.
+fn run(rt: &HostRuntime) -> u8 {
+    match texts_of(rt) {
+        Ok(texts) => answer_arguments(rt, texts.as_slice()),
+        Err(error) => {
+            let mut asked = Asked::new(rt, day::command());
+            asked.refuse_arguments(error);
+            asked.status
         }
     }
 }
 
-// Answers what the arguments ask for; the exit status.
-fn run(rt: &HostRuntime) -> io::Result<u8> {
-    let arguments = match env::args(rt) {
-        Ok(arguments) => arguments,
-        Err(fault) => return refuse_arguments(rt, fault),
-    };
-    let texts: Vec<String> = arguments.skip(1).collect(rt.alloc())?;
-    answer_arguments(rt, texts.as_slice())
+// The arguments.
+fn texts_of(rt: &HostRuntime) -> io::Result<Vec<String>> {
+    let arguments = env::args(rt)?;
+    Ok(arguments.skip(1).collect(rt.alloc())?)
 }

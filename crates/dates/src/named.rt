@@ -27,49 +27,66 @@ impl Now {
     }
 }
 
-// What the clock shows, if a word of a command names a day by it; nothing without such a word.
-pub(crate) fn clock_of(
-    rt: &HostRuntime,
-    command: &CommandRow,
-    words: &Arguments<'_>,
-) -> Result<Option<Now>, Fault> {
-    if !asks_clock(command, words) {
-        return Ok(None);
+impl Asked<'_> {
+    // Takes what the clock shows, if a word names a day by it.
+    pub(crate) fn take_clock(&mut self) {
+        if !asks_clock(&self.command, &self.words) {
+            return;
+        }
+        let zone_word = self.value("--zone");
+        // (a schedule without a zone is due by local times)
+        let is_schedule = self.command.name == "next" || self.command.name == "prev";
+        let is_instant = zone_word.is_some() || self.words.has("--unix") || !is_schedule;
+        if let Some(stamp) = self.shown() {
+            self.reading.now = Some(Now {
+                second: stamp.timestamp(),
+                ahead: stamp.timezone().local_minus_utc(),
+                is_instant,
+            });
+        }
     }
-    let zone_word = words.value(command.options, "--zone");
-    let zone = match zone_word {
-        Some(word) => value!(zone_of(rt, word)),
-        None => value!(machine_zone(rt)),
-    };
-    let shown = value!(shown_now(rt, &zone, words.value(command.options, "--now")));
-    // (a schedule without a zone is due by local times)
-    let is_schedule = command.name == "next" || command.name == "prev";
-    let is_instant = zone_word.is_some() || words.has("--unix") || !is_schedule;
-    match shown {
-        Some(stamp) => Ok(Some(Now {
-            second: stamp.timestamp(),
-            ahead: stamp.timezone().local_minus_utc(),
-            is_instant,
-        })),
-        None => Ok(None),
-    }
-}
 
-// What a zone's clock shows now, or at the time that a word names.
-pub(crate) fn shown_now(
-    rt: &HostRuntime,
-    zone: &OwnedZone,
-    word: Option<Word<'_>>,
-) -> Result<Option<DateTime<FixedOffset>>, Fault> {
-    let Some(word) = word else {
-        return Ok(shown_in(zone, second_of(SystemTime::now(rt)?)));
-    };
-    match instants_of(
-        zone,
-        value!(moment_of(InstantForm::Text(None, Order::None), word)),
-    ) {
-        MappedLocalTime::Single(stamp) => Ok(shown_in(zone, Some(stamp))),
-        _ => Err(Fault::NoSuch(word.place, Cause::NotOnce)),
+    // What the clock of the zone of the command shows, which is the machine's own if it has none.
+    pub(crate) fn shown(&mut self) -> Option<DateTime<FixedOffset>> {
+        let zone = match self.value("--zone") {
+            Some(word) => self.zone_of(word)?,
+            None => self.machine_zone()?,
+        };
+        match self.value("--now") {
+            Some(word) => self.shown_at(&zone, word),
+            None => match SystemTime::now(self.rt) {
+                Ok(time) => shown_in(&zone, second_of(time)),
+                Err(error) => {
+                    self.fail(error);
+                    None
+                }
+            },
+        }
+    }
+
+    // What a zone's clock shows at the time that a word names.
+    fn shown_at(&mut self, zone: &OwnedZone, word: Word<'_>) -> Option<DateTime<FixedOffset>> {
+        let read = read_written(word.text.as_bytes(), Order::None);
+        let start = self.taken(word, read, MOMENT_EXPECTED);
+        let start = self.moment_at(word, start);
+        match instants_of(zone, start) {
+            MappedLocalTime::Single(stamp) => shown_in(zone, Some(stamp)),
+            _ => {
+                self.no_such(word, NOT_ONCE);
+                None
+            }
+        }
+    }
+
+    // The day that the clock shows.
+    pub(crate) fn day_shown(&mut self) -> NaiveDate {
+        match self.shown() {
+            Some(stamp) => stamp.naive_local().date(),
+            None => {
+                self.no_such(self.option("--now"), PAST);
+                NaiveDate::MIN
+            }
+        }
     }
 }
 

@@ -24,37 +24,15 @@ pub(crate) fn today() -> CommandRow {
     }
 }
 
-// The day, or the second, that the zone's clock shows now; the exit status.
-pub(crate) fn answer(rt: &HostRuntime, asked: &Asked<'_>, none: &mut Reply) -> Answered {
-    if asked.command.name != TODAY {
-        *none = asked.reading.no_moment();
+// The day, or the second, that the zone's clock shows now.
+pub(crate) fn answer(asked: &mut Asked<'_>) {
+    let is_day = asked.command.name == TODAY;
+    if !is_day {
+        asked.none = asked.reading.no_moment();
     }
-    let instants = asked.reading;
-    match value!(shown(rt, asked)) {
-        Some(stamp) if asked.command.name == TODAY => {
-            asked.print(rt, Reply::Date(stamp.naive_local().date()))
-        }
-        Some(stamp) => asked.print(rt, instants.reply(Start::Stamp(stamp))),
-        None => asked.print(rt, *none),
-    }
-}
-
-// What the clock of the zone of a command shows, which is the machine's own if it has none.
-pub(crate) fn shown(
-    rt: &HostRuntime,
-    asked: &Asked<'_>,
-) -> Result<Option<DateTime<FixedOffset>>, Fault> {
-    let zone = match asked.value("--zone") {
-        Some(word) => value!(zone_of(rt, word)),
-        None => value!(machine_zone(rt)),
-    };
-    shown_now(rt, &zone, asked.value("--now"))
-}
-
-// The day that the clock shows.
-pub(crate) fn day_shown(rt: &HostRuntime, asked: &Asked<'_>) -> Result<NaiveDate, Fault> {
-    match value!(shown(rt, asked)) {
-        Some(stamp) => Ok(stamp.naive_local().date()),
-        None => Err(Fault::NoSuch(asked.option("--now").place, Cause::Past)),
+    match asked.shown() {
+        Some(stamp) if is_day => asked.print(Reply::Date(stamp.naive_local().date())),
+        Some(stamp) => asked.print_start(&Start::Stamp(stamp)),
+        None => asked.print(asked.none),
     }
 }

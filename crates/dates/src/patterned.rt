@@ -1,8 +1,7 @@
 //! Days and date-times that are read and printed by patterns.
 
 use crate::prelude::*;
-use chrono_pattern::{DelayedFormat, PatternError, PatternFault, PatternReadError, ReadFault};
-use dates_answer::TextLine;
+use chrono_pattern::{DelayedFormat, PatternFault, PatternReadError, ReadFault};
 
 /// `--parse`.
 pub(crate) const PARSE: Opt =
@@ -37,19 +36,34 @@ pub(crate) fn pattern_word<'a>(
     }
 }
 
-// The pattern that a word writes.
-pub(crate) fn pattern_of<'a>(word: Word<'a>) -> Result<Pattern<'a>, Fault> {
-    let pattern = Pattern::new(word.text.as_bytes());
-    Ok(value!(pattern, error => Fault::Word(word.place, Cause::Pattern(error))))
-}
-
-// The pattern that a word writes, by which days or date-times are read.
-pub(crate) fn reading_of<'a>(word: Word<'a>) -> Result<Pattern<'a>, Fault> {
-    let pattern = value!(pattern_of(word));
-    if pattern.names_date() || pattern.names_zoned() {
-        return Ok(pattern);
+impl<'a> Asked<'a> {
+    // The pattern that a word writes, if there is one.
+    pub(crate) fn pattern_if(&mut self, word: Option<Word<'a>>) -> Option<Pattern<'a>> {
+        let word = word?;
+        match Pattern::new(word.text.as_bytes()) {
+            Ok(pattern) => Some(pattern),
+            Err(error) => {
+                let mut said = self.blame(word);
+                said.put(": byte ");
+                said.show(&error.byte);
+                said.put(match error.cause {
+                    PatternFault::Unknown => ": no such specifier",
+                    PatternFault::Cut => ": the pattern ends within a specifier",
+                });
+                self.refuse(&said);
+                None
+            }
+        }
     }
-    Err(wanted(word, Wanted::DayPattern))
+
+    // The pattern that a word writes, by which days or date-times are read.
+    pub(crate) fn reading_if(&mut self, word: Option<Word<'a>>) -> Option<Pattern<'a>> {
+        let pattern = self.pattern_if(word)?;
+        if !pattern.names_date() && !pattern.names_zoned() {
+            self.wrong(word?, "expected a pattern that names a day, as %d.%m.%Y");
+        }
+        Some(pattern)
+    }
 }
 
 // The day, the date-time or the instant that a text names by a pattern.
@@ -64,7 +78,7 @@ pub(crate) fn read_by(pattern: &Pattern<'_>, text: &[u8]) -> Result<Start, Patte
 }
 
 // The day, the date-time or the instant that a reply is, if it is one.
-fn dated(reply: &Reply) -> Option<Start> {
+pub(crate) fn dated(reply: &Reply) -> Option<Start> {
     match *reply {
         Reply::Date(date) | Reply::Names(date) => Some(Start::Day(date)),
         Reply::Moment(moment) => Some(Start::DateTime(moment)),
@@ -74,40 +88,8 @@ fn dated(reply: &Reply) -> Option<Start> {
     }
 }
 
-// The key of a day, a date-time or an instant.
-fn key_of_start(start: &Start) -> Key {
-    match start {
-        Start::Day(_) => Key::Date,
-        _ => Key::Moment,
-    }
-}
-
-// Prints the day, the date-time or the instant of a reply by a pattern, or that it lacks what the pattern asks for; the exit status.
-pub(crate) fn print_by(
-    rt: &HostRuntime,
-    form: OutputForm,
-    pattern: &Pattern<'_>,
-    reply: Reply,
-) -> io::Result<u8> {
-    let Some(start) = dated(&reply) else {
-        return print_line(rt, form, reply);
-    };
-    let key = key_of_start(&start);
-    let Some(text) = delayed(pattern, &start) else {
-        let status = print_line(rt, form, Reply::Nothing(key))?;
-        let mut out = Buffer::new(rt.alloc());
-        out.show(&start);
-        out.put(": the pattern asks for a time of day or an offset, which it has not");
-        return tell(rt, &out, status);
-    };
-    let text = text.to_string(rt.alloc())?;
-    let text = text.as_str();
-    println!(rt; "{}", TextLine { form, key, text })?;
-    Ok(ANSWERED)
-}
-
 // The text by a pattern, if there is what the pattern asks for.
-fn delayed<'a>(pattern: &Pattern<'a>, start: &Start) -> Option<DelayedFormat<'a>> {
+pub(crate) fn delayed<'a>(pattern: &Pattern<'a>, start: &Start) -> Option<DelayedFormat<'a>> {
     match *start {
         Start::Day(date) => pattern.delayed_date(date),
         Start::DateTime(moment) => pattern.delayed(moment),
@@ -120,18 +102,8 @@ pub(crate) fn is_other_form(error: PatternReadError) -> bool {
     !matches!(error.cause, ReadFault::OutOfRange | ReadFault::Impossible)
 }
 
-// Puts why a text is no pattern behind another.
-pub(crate) fn put_pattern_error(out: &mut Buffer, error: PatternError) {
-    out.put("byte ");
-    out.show(&error.byte);
-    out.put(match error.cause {
-        PatternFault::Unknown => ": no such specifier",
-        PatternFault::Cut => ": the pattern ends within a specifier",
-    });
-}
-
 // Puts why a text is not read by a pattern behind another.
-pub(crate) fn put_unread(out: &mut Buffer, error: PatternReadError) {
+pub(crate) fn put_unread_by(out: &mut Buffer, error: PatternReadError) {
     if error.cause == ReadFault::Impossible {
         out.put("no such day or time");
         return;

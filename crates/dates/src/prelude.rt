@@ -11,7 +11,6 @@ pub(crate) use crate::patterned::*;
 pub(crate) use crate::table::*;
 pub(crate) use crate::texts::*;
 pub(crate) use crate::values::*;
-pub(crate) use crate::wanted::*;
 pub(crate) use crate::zoned::*;
 pub(crate) use chrono_datetime::{
     Datelike, NaiveDate, NaiveDateTime, NaiveTime, TimeDelta, Weekday,
@@ -22,7 +21,7 @@ pub(crate) use chrono_zoned::{DateTime, FixedOffset, InZone, MappedLocalTime, Ti
 pub(crate) use command_words::{
     Arguments, Buffer, CommandRow, OPERAND, OPTION, Operand, Opt, Word, gap_before,
 };
-pub(crate) use dates_answer::{Key, OutputForm, Quoted, Reply, Span, Unit};
+pub(crate) use dates_answer::{Key, OutputForm, Reply, Span, Unit};
 pub(crate) use std::alloc::{AllocError, Allocator, Global};
 pub(crate) use std::fmt;
 pub(crate) use std::io::{self, BufReader, ErrorKind};

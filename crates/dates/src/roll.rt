@@ -1,5 +1,6 @@
 //! Where closed days go.
 
+use crate::each::{Asks, answer_each};
 use crate::prelude::*;
 use chrono_business::Roll;
 
@@ -25,38 +26,33 @@ pub(crate) fn command() -> CommandRow {
     )
 }
 
-// Where the day, or that of each line, goes; the exit status.
-pub(crate) fn answer(rt: &HostRuntime, asked: &Asked<'_>, none: &mut Reply) -> Answered {
-    let (date, roll) = value!(read(asked.reading, asked.word(0), asked.words.operand(1)));
-    crate::open::answer_days(rt, asked, *none, date, Some(roll))
+// Where the day, or that of each line, goes.
+pub(crate) fn answer(asked: &mut Asked<'_>) {
+    let first = asked.word(0);
+    let (date, roll) = match asked.words.operand(1) {
+        Some(second) => (asked.day_if(asked.word_or_lines(0)), asked.roll_of(second)),
+        None if begins_as_day(first) => {
+            asked.day(first);
+            return asked.missing_operand(1);
+        }
+        None => (None, asked.roll_of(first)),
+    };
+    let holidays = asked.holidays();
+    answer_each(asked, date, Asks::Roll(holidays, roll));
 }
 
-// The day and the convention; no day for the lines of the input.
-fn read(
-    form: InstantForm<'_>,
-    first: Word<'_>,
-    second: Option<Word<'_>>,
-) -> Result<(Option<NaiveDate>, Roll), Fault> {
-    match second {
-        Some(second) if first.text == "-" => Ok((None, value!(roll_of(second)))),
-        Some(second) => Ok((Some(value!(day_of(form, first))), value!(roll_of(second)))),
-        None if begins_as_day(first) => match day_of(form, first) {
-            Ok(_) => Err(Fault::NoOperand(1)),
-            Err(fault) => Err(fault),
-        },
-        None => Ok((None, value!(roll_of(first)))),
-    }
-}
-
-// The roll of the convention that a word names.
-fn roll_of(word: Word<'_>) -> Result<Roll, Fault> {
-    match word.text {
-        "following" => Ok(Roll::Following),
-        "preceding" => Ok(Roll::Preceding),
-        "modified-following" => Ok(Roll::ModifiedFollowing),
-        "modified-preceding" => Ok(Roll::ModifiedPreceding),
-        "nearest" => Ok(Roll::NearestQuantLib),
-        "unadjusted" => Ok(Roll::Unadjusted),
-        _ => Err(Fault::Word(word.place, Cause::Wanted(Wanted::Convention))),
+impl Asked<'_> {
+    // The roll of the convention that a word names.
+    fn roll_of(&mut self, word: Word<'_>) -> Roll {
+        match word.text {
+            "following" => return Roll::Following,
+            "preceding" => return Roll::Preceding,
+            "modified-following" => return Roll::ModifiedFollowing,
+            "modified-preceding" => return Roll::ModifiedPreceding,
+            "nearest" => return Roll::NearestQuantLib,
+            "unadjusted" => {}
+            _ => self.wrong_choice(word, CONVENTIONS),
+        }
+        Roll::Unadjusted
     }
 }

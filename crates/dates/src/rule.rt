@@ -40,52 +40,64 @@ pub(crate) fn command() -> CommandRow {
     )
 }
 
-// The instances of the rule, a line each; `none` where there is none. The exit status.
-pub(crate) fn answer(rt: &HostRuntime, asked: &Asked<'_>, none: &mut Reply) -> Answered {
+// The instances of the rule, a line each; `none` where there is none.
+pub(crate) fn answer(asked: &mut Asked<'_>) {
     if let Some(zone) = asked.value("--zone") {
-        *none = Reply::NoClock;
-        return crate::zoned_rule::answer_in(rt, asked, zone);
+        asked.none = Reply::NoClock;
+        return crate::zoned_rule::answer_in(asked, zone);
     }
-    let rule = value!(rule_of(asked.word(0)));
-    let start = value!(day_of(asked.reading, asked.option("--start")));
-    let most = given!(asked.value("--count"), word, amount_of(word)).unwrap_or(u64::MAX);
-    let (dates, exceptions) = (
-        value!(days_given(rt, asked, "--rdate")),
-        value!(days_given(rt, asked, "--exdate")),
-    );
-    let first = dates.first().map_or(start, |day| start.min(*day));
-    let from = given!(asked.value("--from"), word, day_of(asked.reading, word)).unwrap_or(first);
-    let mut status = NONE;
+    let rule = asked.rule(asked.word(0));
+    let start = asked.day(asked.option("--start"));
+    let most = asked.amount_if("--count").unwrap_or(u64::MAX);
+    let (dates, exceptions) = (asked.days_given("--rdate"), asked.days_given("--exdate"));
+    let first = start.min(dates.first().copied().unwrap_or(start));
+    let from = asked.day_if(asked.value("--from")).unwrap_or(first);
+    let Some(rule) = rule else {
+        return;
+    };
+    asked.end_by(NONE);
     // (both are in order, each once)
     if let Some(days) = Recurrence::try_new(rule, start, dates.as_slice(), exceptions.as_slice()) {
         for day in days.iter_from(from).take(most as usize) {
-            status = value!(asked.print(rt, Reply::Date(day)));
+            if asked.is_over {
+                break;
+            }
+            asked.print(Reply::Date(day));
         }
     }
-    asked.finish(rt, status, *none)
+    asked.print_none_if_alone();
 }
 
-// The days that an option gives, in order, each once.
-fn days_given(rt: &HostRuntime, asked: &Asked<'_>, name: &str) -> Result<Vec<NaiveDate>, Fault> {
-    let mut days = Vec::new(rt.alloc());
-    for given in asked.words.options.as_slice() {
-        if given.option.name == name {
-            put_day(&mut days, value!(day_of(asked.reading, given.value)))?;
+impl Asked<'_> {
+    // The days that an option gives, in order, each once.
+    fn days_given(&mut self, name: &str) -> Vec<NaiveDate> {
+        let mut days = Vec::new(self.rt.alloc());
+        for place in 0..self.words.options.len() {
+            if let Some(given) = self.words.options.get(place).copied() {
+                if given.option.name == name {
+                    let day = self.day(given.value);
+                    self.done(put_day(&mut days, day));
+                }
+            }
+        }
+        days.as_mut_slice().sort_unstable();
+        days.dedup();
+        days
+    }
+
+    // The rule that a word writes.
+    pub(crate) fn rule(&mut self, word: Word<'_>) -> Option<Rule> {
+        match read_rule(word.text.as_bytes()) {
+            Ok(rule) => Some(rule),
+            Err(error) => {
+                self.wrong_by(word, &error, "; expected a rule as FREQ=MONTHLY;BYDAY=-1FR");
+                None
+            }
         }
     }
-    days.as_mut_slice().sort_unstable();
-    days.dedup();
-    Ok(days)
 }
 
 // Puts a day behind others.
 fn put_day<A: Allocator>(days: &mut Vec<NaiveDate, A>, day: NaiveDate) -> io::Result<()> {
     Ok(days.push(day)?)
-}
-
-// The rule that a word writes.
-pub(crate) fn rule_of(word: Word<'_>) -> Result<Rule, Fault> {
-    Ok(
-        value!(read_rule(word.text.as_bytes()), error => Fault::Word(word.place, Cause::Rule(error))),
-    )
 }

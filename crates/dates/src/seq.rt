@@ -23,32 +23,53 @@ pub(crate) fn command() -> CommandRow {
     )
 }
 
-// The days of the sequence as long as they are not past its end; `none` where the first day is past it. The exit status.
-pub(crate) fn answer(rt: &HostRuntime, asked: &Asked<'_>, none: &mut Reply) -> Answered {
-    let reading = asked.reading;
+// The days of the sequence as long as they are not past its end; `none` where the first day is past it.
+pub(crate) fn answer(asked: &mut Asked<'_>) {
     let (second, third) = second_and_span(asked);
-    let from = value!(start_of(reading, asked.word(0)));
-    *none = reading.none_of(from);
-    let instants = value!(instants_by(rt, asked));
-    let to = given!(second, word, like(&instants, from, word));
-    let step = given!(third, word, step_of(from, word));
-    let step = step.unwrap_or(day_by_day(&from, to.as_ref()));
-    let skip = value!(skipped(asked));
-    let mut left = given!(asked.value("--count"), word, amount_of(word)).unwrap_or(u64::MAX);
-    let mut status = NONE;
+    let from = asked.start(asked.word(0));
+    asked.none = asked.reading.none_of(&from);
+    let to = match second {
+        Some(word) => Some(like(asked, &from, word)),
+        None => None,
+    };
+    let step = match third {
+        Some(word) => asked.step(&from, word),
+        None => day_by_day(&from, to.as_ref()),
+    };
+    let skip = match asked.value("--skip") {
+        Some(word) => asked.weekdays(word),
+        None => WeekdaySet::EMPTY,
+    };
+    let most = asked.amount_if("--count").unwrap_or(u64::MAX);
+    if !asked.is_over {
+        print_sequence(asked, &from, &to, &step, skip, most);
+    }
+}
+
+// Prints a sequence but for some weekdays, and so many of it at most.
+fn print_sequence(
+    asked: &mut Asked<'_>,
+    from: &Start,
+    to: &Option<Start>,
+    step: &Move,
+    skip: WeekdaySet,
+    most: u64,
+) {
+    asked.end_by(NONE);
+    let mut left = most;
     for place in 0..u32::MAX {
-        let Some(start) = there(&from, to.as_ref(), step, place) else {
+        let Some(start) = there(from, to.as_ref(), *step, place) else {
             break;
         };
-        if left == 0 {
+        if left == 0 || asked.is_over {
             break;
         }
         if !skip.contains(start.local().date().weekday()) {
-            status = value!(asked.print(rt, reading.reply(start)));
+            asked.print_start(&start);
             left = left.saturating_sub(1);
         }
     }
-    asked.finish(rt, status, *none)
+    asked.print_none_if_alone();
 }
 
 // The word of the end and that of the span, each of which may be left out.
@@ -62,28 +83,24 @@ fn second_and_span<'a>(asked: &Asked<'a>) -> (Option<Word<'a>>, Option<Word<'a>>
     }
 }
 
-// The weekdays that are left out.
-fn skipped(asked: &Asked<'_>) -> Result<WeekdaySet, Fault> {
-    match asked.value("--skip") {
-        Some(word) => weekdays_of(word),
-        None => Ok(WeekdaySet::EMPTY),
+impl Asked<'_> {
+    // The span that a word writes, which is not 0; a time moves no day.
+    fn step(&mut self, from: &Start, word: Word<'_>) -> Move {
+        let text = word.text.as_bytes();
+        match move_at(text, 0) {
+            Some((step, next)) if next == text.len() && steps_from(&step, from.is_day()) => {
+                if goes(&step) == 0 {
+                    self.wrong(word, "expected a span that is not 0");
+                }
+                step
+            }
+            _ => {
+                let why = "expected a span as 3d, -2w, 1m or 4y, or of date-times as 36h or 90min";
+                self.wrong(word, why);
+                Move::OpenDays(0)
+            }
+        }
     }
-}
-
-// The span that a word writes, which is not 0; a time moves no day.
-fn step_of(from: Start, word: Word<'_>) -> Result<Move, Fault> {
-    let text = word.text.as_bytes();
-    let step = match move_at(text, 0) {
-        Some((step, next)) if next == text.len() => step,
-        _ => return Err(wanted(word, Wanted::Step)),
-    };
-    if !steps_from(&step, from.is_day()) {
-        return Err(wanted(word, Wanted::Step));
-    }
-    if goes(&step) == 0 {
-        return Err(wanted(word, Wanted::NonZero));
-    }
-    Ok(step)
 }
 
 // Whether a move leads from day to day, or from time to time, where `m` was meant for minutes.
@@ -110,7 +127,7 @@ fn goes(step: &Move) -> i64 {
 // A day on, or back where the second day is the earlier.
 fn day_by_day(from: &Start, to: Option<&Start>) -> Move {
     let unit = Unit::Days;
-    let is_back = to.map_or(false, |to| from.until(to) < TimeDelta::zero());
+    let is_back = from.until(to.unwrap_or(from)) < TimeDelta::zero();
     let count = if is_back { -1 } else { 1 };
     Move::Calendar(Span { count, unit })
 }
@@ -133,7 +150,7 @@ fn there(from: &Start, to: Option<&Start>, step: Move, place: u32) -> Option<Sta
         Move::OpenDays(_) => return None,
     };
     let found = from.at(moment)?;
-    let past = to.map_or(TimeDelta::zero(), |to| to.until(&found));
+    let past = to.unwrap_or(&found).until(&found);
     let is_past = if way < 0 {
         past < TimeDelta::zero()
     } else {

@@ -1,7 +1,7 @@
 //! The commands of `dates`: a row each. Help, the man page, completion and messages come from these rows.
 
 use crate::prelude::*;
-use command_words::{Program, Wrong, put_command_help, put_program_help, read_words};
+use command_words::{Program, put_command_help, put_program_help, read_words};
 
 // The rows: the module of each command and its function there, in the order in which the help lists them.
 macro_rules! each_command {
@@ -53,10 +53,10 @@ macro_rules! list_rows {
 }
 
 macro_rules! answer_named {
-    ($rt:ident, $asked:ident, $none:ident, $($module:ident::$command:ident,)*) => {
+    ($asked:ident, $($module:ident::$command:ident,)*) => {
         $(
             if $asked.command.name == crate::$module::$command().name {
-                return crate::$module::answer($rt, $asked, $none);
+                return crate::$module::answer($asked);
             }
         )*
     };
@@ -69,10 +69,9 @@ pub(crate) fn commands() -> [CommandRow; ROWS] {
     each_command!(list_rows)
 }
 
-// Answers the command that is asked, and tells what is printed where there is no answer; the exit status.
-fn answer(rt: &HostRuntime, asked: &Asked<'_>, none: &mut Reply) -> Answered {
-    each_command!(answer_named, rt, asked, none);
-    Ok(ANSWERED)
+// Answers the command that is asked.
+fn answer(asked: &mut Asked<'_>) {
+    each_command!(answer_named, asked);
 }
 
 /// The name of the program.
@@ -109,28 +108,15 @@ const MORE: &str = "A DAY is a calendar date, an ordinal date or a week date, as
     printed, where check finds a line, where grep finds none, or where a test does\n\
     not hold; and 2 after a wrong command, or a read or a write that failed.";
 
-// Answers what the arguments ask for: the first that is not `--json` may name a command. The exit status.
-pub(crate) fn answer_arguments(rt: &HostRuntime, arguments: &[String]) -> io::Result<u8> {
-    let mut words: Vec<Word<'_>> = Vec::new(rt.alloc());
-    let mut command = None;
-    let mut place: usize = 0;
-    for argument in arguments {
-        place = place.saturating_add(1);
-        let text = argument.as_str();
-        if command.is_none() && text != "--json" {
-            let named = command_named(text);
-            command = Some(named);
-            if !named.name.is_empty() {
-                continue;
-            }
-        }
-        words.push(Word { place, text })?;
+// Answers what the arguments ask for; the exit status.
+pub(crate) fn answer_arguments<'a>(rt: &'a HostRuntime, arguments: &'a [String]) -> u8 {
+    let mut asked = Asked::new(rt, crate::day::command());
+    let read = asked.read_arguments(arguments);
+    asked.done(read);
+    if !asked.is_over {
+        answer_words(&mut asked);
     }
-    answer_command(
-        rt,
-        command.unwrap_or(crate::day::command()),
-        words.as_slice(),
-    )
+    asked.status
 }
 
 // The command with that name, and a day where there is none.
@@ -143,116 +129,21 @@ fn command_named(name: &str) -> CommandRow {
     crate::day::command()
 }
 
-// Reads the words by the row of a command and answers it; the exit status.
-fn answer_command(rt: &HostRuntime, command: CommandRow, words: &[Word<'_>]) -> io::Result<u8> {
-    match read_words(rt.alloc(), command.options, words)? {
-        Ok(words) if words.has("--help") => print_help(rt, &command),
-        Ok(words) => answer_words(rt, command, words),
-        Err(wrong) => match words.first() {
-            Some(first) => refuse_first(rt, &command, *first, wrong),
-            None => refuse_word(rt, &command, wrong),
-        },
+// Answers a command by its words, or prints its help.
+fn answer_words(asked: &mut Asked<'_>) {
+    if asked.words.has("--help") {
+        return print_help(asked);
     }
-}
-
-// Says what is wrong with the first word, or else which word breaks the table; the exit status.
-fn refuse_first(
-    rt: &HostRuntime,
-    command: &CommandRow,
-    first: Word<'_>,
-    wrong: Wrong<'_>,
-) -> io::Result<u8> {
-    match wrong_first(command, first) {
-        Some(fault) => refuse(rt, command, OutputForm::Text, NO_DATE, first.text, fault),
-        None => refuse_word(rt, command, wrong),
+    if asked.words.has("--json") {
+        asked.form = OutputForm::Json;
     }
-}
-
-// That there is no day.
-const NO_DATE: Reply = Reply::Nothing(Key::Date);
-
-// Answers a command by its words; the exit status.
-fn answer_words(rt: &HostRuntime, command: CommandRow, words: Arguments<'_>) -> io::Result<u8> {
-    let form = if words.has("--json") {
-        OutputForm::Json
-    } else {
-        OutputForm::Text
-    };
-    let (format, parse) = match patterns_of(&command, &words) {
-        Ok(patterns) => patterns,
-        Err(fault) => return refuse(rt, &command, form, NO_DATE, word_of(&words, fault), fault),
-    };
-    match clock_of(rt, &command, &words) {
-        Ok(now) => answer_by(
-            rt,
-            command,
-            form,
-            words,
-            format.as_ref(),
-            parse.as_ref(),
-            now,
-        ),
-        Err(fault) => refuse(rt, &command, form, NO_DATE, word_of(&words, fault), fault),
-    }
-}
-
-// The text of the word that a fault names: an operand, or the value of an option.
-fn word_of<'a>(words: &Arguments<'a>, fault: Fault) -> &'a str {
-    let place = place_of(fault);
-    for word in words.operands.as_slice() {
-        if word.place == place {
-            return word.text;
-        }
-    }
-    for given in words.options.as_slice() {
-        if given.value.place == place {
-            return given.value.text;
-        }
-    }
-    ""
-}
-
-// Answers a command by its words and its patterns; the exit status.
-fn answer_by(
-    rt: &HostRuntime,
-    command: CommandRow,
-    form: OutputForm,
-    words: Arguments<'_>,
-    pattern: Option<&'_ Pattern<'_>>,
-    parse: Option<&'_ Pattern<'_>>,
-    now: Option<Now>,
-) -> io::Result<u8> {
-    let mut none = NO_DATE;
-    let reading = InstantForm::of(&words, parse, now);
-    let asked = Asked {
-        command,
-        form: AnswerForm { form, pattern },
-        reading,
-        words,
-    };
-    match answer(rt, &asked, &mut none) {
-        Ok(status) => Ok(status),
-        Err(fault) => refuse(
-            rt,
-            &command,
-            form,
-            none,
-            word_of(&asked.words, fault),
-            fault,
-        ),
-    }
-}
-
-// The patterns by which a command prints and reads, if its words are as many as it takes.
-fn patterns_of<'a>(command: &CommandRow, words: &Arguments<'a>) -> Result<Patterns<'a>, Fault> {
-    if let Some(fault) = wrong_count(command, words) {
-        return Err(fault);
-    }
-    let format = given!(pattern_word(command, words, FORMAT), word, pattern_of(word));
-    let parse = given!(pattern_word(command, words, PARSE), word, reading_of(word));
-    match wrong_pair(words) {
-        Some(fault) => Err(fault),
-        None => Ok((format, parse)),
+    asked.check_count();
+    asked.take_patterns();
+    asked.check_pairs();
+    asked.take_clock();
+    asked.take_order();
+    if !asked.is_over {
+        answer(asked);
     }
 }
 
@@ -266,78 +157,94 @@ const APART: &[[&str; 2]] = &[
     ["--rdate", "--zone"],
 ];
 
-// Puts behind a text which two options do not stand beside each other.
-pub(crate) fn put_apart(out: &mut Buffer, place: usize) {
-    if let Some([one, other]) = APART.get(place) {
-        put!(out, "expected no ", one, " beside ", other);
-    }
-}
-
-// What is wrong where two options are given of which one alone may be.
-fn wrong_pair(words: &Arguments<'_>) -> Option<Fault> {
-    let mut place: usize = 0;
-    for [one, other] in APART {
-        if let Some(word) = words.value(&[], one) {
-            if words.has(other) {
-                return Some(Fault::Word(word.place, Cause::Apart(place)));
+impl<'a> Asked<'a> {
+    // Reads the arguments: the first that is not `--json` may name the command.
+    fn read_arguments(&mut self, arguments: &'a [String]) -> io::Result<()> {
+        let mut words: Vec<Word<'a>> = Vec::new(self.rt.alloc());
+        let mut is_named = false;
+        let mut place: usize = 0;
+        for argument in arguments {
+            place = place.saturating_add(1);
+            let text = argument.as_str();
+            if !is_named && text != "--json" {
+                is_named = true;
+                self.command = command_named(text);
+                if !self.command.name.is_empty() {
+                    continue;
+                }
+            }
+            words.push(Word { place, text })?;
+        }
+        match read_words(self.rt.alloc(), self.command.options, words.as_slice())? {
+            Ok(read) => self.words = read,
+            Err(wrong) => {
+                self.check_first(words.first().copied().unwrap_or(NO_WORD));
+                self.refuse_word(wrong);
             }
         }
-        place = place.saturating_add(1);
+        Ok(())
     }
-    None
-}
 
-// The patterns by which a command prints and reads.
-type Patterns<'a> = (Option<Pattern<'a>>, Option<Pattern<'a>>);
-
-// What is wrong with the first word, where it names no command and is neither an option nor a day.
-fn wrong_first(command: &CommandRow, first: Word<'_>) -> Option<Fault> {
-    let is_right = first.text.starts_with("--") || is_named(first.text.as_bytes());
-    if !command.name.is_empty() || is_right {
-        return None;
-    }
-    match crate::day::first_of(InstantForm::Text(None, Order::None), first) {
-        Ok(_) => None,
-        Err(fault) => Some(fault),
-    }
-}
-
-// What is missing, or which operand is one too many.
-fn wrong_count(command: &CommandRow, words: &Arguments<'_>) -> Option<Fault> {
-    if let Some(place) = words.missing_operand(command) {
-        return Some(Fault::NoOperand(place));
-    }
-    if let Some(option) = words.missing(command.options) {
-        return Some(Fault::NoOption(place_in(command.options, option.name)));
-    }
-    let extra = words.extra_operand(command)?;
-    match wrong_first(command, words.operand(0)?) {
-        None => Some(wanted(extra, Wanted::NoMore)),
-        fault => fault,
-    }
-}
-
-// The place of the option of that name.
-fn place_in(options: &[Opt], name: &str) -> usize {
-    let mut place: usize = 0;
-    for option in options {
-        if option.name == name {
-            break;
+    // Ends where the first word names no command and is neither an option nor a day.
+    fn check_first(&mut self, first: Word<'_>) {
+        let is_right = first.text.starts_with("--") || is_named(first.text.as_bytes());
+        if self.command.name.is_empty() && !is_right {
+            self.day_or_command(first);
         }
-        place = place.saturating_add(1);
     }
-    place
+
+    // Ends where an operand or an option is missing, or an operand is one too many.
+    fn check_count(&mut self) {
+        if let Some(place) = self.words.missing_operand(&self.command) {
+            self.missing_operand(place);
+        } else if let Some(option) = self.words.missing(self.command.options) {
+            self.missing(option.name, option.value);
+        } else if let Some(extra) = self.words.extra_operand(&self.command) {
+            self.check_first(self.word(0));
+            self.wrong(extra, NO_MORE);
+        }
+    }
+
+    // Takes the patterns by which the command prints and reads.
+    fn take_patterns(&mut self) {
+        let format = pattern_word(&self.command, &self.words, FORMAT);
+        self.format = self.pattern_if(format);
+        let parse = pattern_word(&self.command, &self.words, PARSE);
+        self.reading.pattern = self.reading_if(parse);
+    }
+
+    // Ends where two options are given of which one alone may be.
+    fn check_pairs(&mut self) {
+        for [one, other] in APART {
+            if let Some(word) = self.words.value(&[], one) {
+                if self.words.has(other) {
+                    let mut said = self.blame(word);
+                    put!(said, ": expected no ", one, " beside ", other);
+                    self.refuse(&said);
+                }
+            }
+        }
+    }
+
+    // Takes how days and instants are read without a pattern.
+    fn take_order(&mut self) {
+        self.reading.is_unix = self.words.has("--unix");
+        self.reading.order = match self.words.value(&[], "--order") {
+            Some(word) if word.text == "dmy" => Order::Day,
+            Some(_) => Order::Month,
+            None => Order::None,
+        };
+    }
 }
 
-// Prints how a command, or the program, is used; the exit status.
-fn print_help(rt: &HostRuntime, command: &CommandRow) -> io::Result<u8> {
+// Prints how a command, or the program, is used.
+fn print_help(asked: &mut Asked<'_>) {
     let rows = commands();
-    let mut page = Buffer::new(rt.alloc());
-    if command.name.is_empty() {
+    let mut page = Buffer::new(asked.rt.alloc());
+    if asked.command.name.is_empty() {
         put_program_help(&mut page, &program(&rows));
     } else {
-        put_command_help(&mut page, &program(&rows), command);
+        put_command_help(&mut page, &program(&rows), &asked.command);
     }
-    print!(rt; "{}", page.text()?)?;
-    Ok(ANSWERED)
+    asked.print_page(&page);
 }

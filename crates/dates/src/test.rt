@@ -18,11 +18,11 @@ pub(crate) fn command() -> CommandRow {
 }
 
 // 0 where the test holds, and else 1.
-pub(crate) fn answer(rt: &HostRuntime, asked: &Asked<'_>, _none: &mut Reply) -> Answered {
-    let instants = value!(instants_by(rt, asked));
-    let from = value!(instants.start_of(asked.word(0)));
+pub(crate) fn answer(asked: &mut Asked<'_>) {
+    asked.take_zone();
+    let from = asked.start(asked.word(0));
     let test = asked.word(1);
-    let to = value!(like(&instants, from, asked.word(2)));
+    let to = like(asked, &from, asked.word(2));
     let (apart, zero) = (from.until(&to), TimeDelta::zero());
     let holds = match test.text {
         "-lt" => zero < apart,
@@ -31,7 +31,7 @@ pub(crate) fn answer(rt: &HostRuntime, asked: &Asked<'_>, _none: &mut Reply) -> 
         "-ne" => !apart.is_zero(),
         "-ge" => apart <= zero,
         "-gt" => apart < zero,
-        _ => return Err(Fault::Word(test.place, Cause::Wanted(Wanted::Test))),
+        _ => return asked.wrong_choice(test, TESTS),
     };
-    Ok(if holds { ANSWERED } else { NONE })
+    asked.end_by(if holds { ANSWERED } else { NONE });
 }

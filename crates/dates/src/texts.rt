@@ -124,6 +124,15 @@ impl Start {
         matches!(self, Start::Day(_))
     }
 
+    // The key of its object.
+    pub(crate) fn key(&self) -> Key {
+        if self.is_day() {
+            Key::Date
+        } else {
+            Key::Moment
+        }
+    }
+
     // Whether both are days, both date-times or both instants.
     pub(crate) fn is_like(&self, other: &Start) -> bool {
         self.is_day() == other.is_day() && self.has_offset() == other.has_offset()

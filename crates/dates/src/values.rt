@@ -4,24 +4,17 @@ use crate::prelude::*;
 use chrono_pattern::PatternReadError;
 use chrono_text::{read_decimal, read_year};
 
-/// How instants are read and written.
-#[derive(Clone, Copy)]
-pub(crate) enum InstantForm<'a> {
-    /// As date-times with their offset, by what the clock shows, and in an order.
-    Text(Option<Now>, Order),
-    /// As seconds since 1970 in UTC, and by what the clock shows.
-    Seconds(Option<Now>),
-    /// Read by a pattern, and written as date-times.
-    Pattern(&'a Pattern<'a>),
-}
-
-// The order that the option tells, if it is given.
-fn order_of(words: &Arguments<'_>) -> Order {
-    match words.value(&[], "--order") {
-        Some(word) if word.text == "dmy" => Order::Day,
-        Some(_) => Order::Month,
-        None => Order::None,
-    }
+/// How days and instants are read and written.
+#[derive(Drop)]
+pub(crate) struct Reading<'a> {
+    /// The pattern by which they are read, if one is given.
+    pub pattern: Option<Pattern<'a>>,
+    /// What the clock shows, where a word asks for it.
+    pub now: Option<Now>,
+    /// In which order a text names year, month and day.
+    pub order: Order,
+    /// Whether instants are seconds since 1970 in UTC.
+    pub is_unix: bool,
 }
 
 /// Why a text names no day, date-time or instant.
@@ -31,6 +24,18 @@ pub(crate) enum Unreadable {
     Form(ReadError),
     /// By a pattern.
     Pattern(PatternReadError),
+}
+
+impl Unreadable {
+    // Whether the text has another form than those of ISO 8601.
+    pub(crate) fn is_other_form(self) -> bool {
+        matches!(self, Unreadable::Form(error) if error.cause == ReadCause::NotThisForm)
+    }
+
+    // Whether the text has another form than that of the pattern.
+    pub(crate) fn is_other_pattern(self) -> bool {
+        matches!(self, Unreadable::Pattern(error) if is_other_form(error))
+    }
 }
 
 impl From<ReadError> for Unreadable {
@@ -45,35 +50,41 @@ impl From<PatternReadError> for Unreadable {
     }
 }
 
-impl<'a> InstantForm<'a> {
-    // The form by the options of a command, and by the pattern of one of them.
-    pub(crate) fn of(
-        words: &Arguments<'_>,
-        pattern: Option<&'a Pattern<'a>>,
-        now: Option<Now>,
-    ) -> Self {
-        match pattern {
-            Some(pattern) => InstantForm::Pattern(pattern),
-            None if words.has("--unix") => InstantForm::Seconds(now),
-            None => InstantForm::Text(now, order_of(words)),
+// Puts why a text names no day behind another.
+pub(crate) fn put_unread(out: &mut Buffer, error: Unreadable) {
+    match error {
+        Unreadable::Form(error) => out.show(&error),
+        Unreadable::Pattern(error) => put_unread_by(out, error),
+    }
+}
+
+impl Reading<'_> {
+    // By the forms of ISO 8601, and by the names of months.
+    pub(crate) fn plain() -> Self {
+        Reading {
+            pattern: None,
+            now: None,
+            order: Order::None,
+            is_unix: false,
         }
     }
 
     // The day, the date-time or the instant that a text names; by seconds an instant alone.
-    pub(crate) fn read(self, text: &[u8]) -> Result<Start, Unreadable> {
-        match self {
-            InstantForm::Text(Some(now), _) if is_named(text) => Ok(read_named(now, text)?),
-            InstantForm::Text(_, order) => read_written(text, order),
-            InstantForm::Seconds(Some(now)) if text == b"now".as_slice() => {
+    pub(crate) fn read(&self, text: &[u8]) -> Result<Start, Unreadable> {
+        if let Some(pattern) = &self.pattern {
+            return Ok(read_by(pattern, text)?);
+        }
+        match self.now {
+            Some(now) if is_named(text) && (!self.is_unix || text == b"now".as_slice()) => {
                 Ok(read_named(now, text)?)
             }
-            InstantForm::Seconds(_) => Ok(read_instant(text)?),
-            InstantForm::Pattern(pattern) => Ok(read_by(pattern, text)?),
+            _ if self.is_unix => Ok(read_instant(text)?),
+            _ => read_written(text, self.order),
         }
     }
 
     // The day that a text names.
-    pub(crate) fn read_day(self, text: &[u8]) -> Option<NaiveDate> {
+    pub(crate) fn read_day(&self, text: &[u8]) -> Option<NaiveDate> {
         match self.read(text).ok()? {
             Start::Day(date) => Some(date),
             _ => None,
@@ -81,120 +92,169 @@ impl<'a> InstantForm<'a> {
     }
 
     // The answer that is a day, a date-time or an instant.
-    pub(crate) fn reply(self, start: Start) -> Reply {
+    pub(crate) fn reply(&self, start: Start) -> Reply {
         match start {
             Start::Day(date) => Reply::Date(date),
             Start::DateTime(moment) => Reply::Moment(moment),
-            Start::Stamp(stamp) => match self {
-                InstantForm::Seconds(_) => Reply::Number(Key::Unix, stamp.timestamp()),
-                _ => Reply::Stamp(stamp),
-            },
+            Start::Stamp(stamp) => {
+                if self.is_unix {
+                    Reply::Number(Key::Unix, stamp.timestamp())
+                } else {
+                    Reply::Stamp(stamp)
+                }
+            }
         }
     }
 
     // That there is no day, or no date-time, as is the start.
-    pub(crate) fn none_of(self, start: Start) -> Reply {
-        match start {
-            Start::Day(_) => Reply::Nothing(Key::Date),
-            _ => self.no_moment(),
+    pub(crate) fn none_of(&self, start: &Start) -> Reply {
+        if start.is_day() {
+            Reply::Nothing(Key::Date)
+        } else {
+            self.no_moment()
         }
     }
 
-    // That there is no such day, or no such date-time where the text has a `T` or a colon.
-    pub(crate) fn none_of_text(self, text: &[u8]) -> Reply {
-        match self {
-            InstantForm::Text(_, _) if !text.contains(&b'T') && !text.contains(&b':') => {
-                Reply::Nothing(Key::Date)
-            }
-            InstantForm::Pattern(pattern) if !pattern.names_date_time() => {
-                Reply::Nothing(Key::Date)
-            }
-            form => form.no_moment(),
+    // That there is no such day, or no such date-time where the text has a `T` or a colon, or the pattern a time.
+    pub(crate) fn none_of_text(&self, text: &[u8]) -> Reply {
+        let is_timed = match &self.pattern {
+            Some(pattern) => pattern.names_date_time(),
+            None => self.is_unix || text.contains(&b'T') || text.contains(&b':'),
+        };
+        if is_timed {
+            self.no_moment()
+        } else {
+            Reply::Nothing(Key::Date)
         }
     }
 
     // That there is no date-time.
-    pub(crate) fn no_moment(self) -> Reply {
-        match self {
-            InstantForm::Seconds(_) => Reply::Nothing(Key::Unix),
-            _ => Reply::Nothing(Key::Moment),
-        }
+    pub(crate) fn no_moment(&self) -> Reply {
+        Reply::Nothing(if self.is_unix { Key::Unix } else { Key::Moment })
     }
 }
 
-// What is wrong with a word that cannot be read: that something else was expected, or that there is no such day or time.
-pub(crate) fn unread(word: Word<'_>, error: Unreadable, what: Wanted) -> Fault {
-    match error {
-        Unreadable::Form(error) if error.cause == ReadCause::NotThisForm => {
-            if has_order(word.text.as_bytes()) {
-                return Fault::Word(word.place, Cause::Order);
+impl Asked<'_> {
+    // What a word is read as, where that is expected.
+    pub(crate) fn taken(
+        &mut self,
+        word: Word<'_>,
+        read: Result<Start, Unreadable>,
+        expected: &str,
+    ) -> Start {
+        match read {
+            Ok(start) => start,
+            Err(error) => {
+                self.unread(word, error, expected);
+                Start::Day(NaiveDate::MIN)
             }
-            wanted(word, what)
         }
-        Unreadable::Pattern(wrong) if is_other_form(wrong) => {
-            Fault::Word(word.place, Cause::NoDay(error))
+    }
+
+    // The day, the date-time or the instant that a word names, where that is expected.
+    pub(crate) fn start_as(&mut self, word: Word<'_>, expected: &str) -> Start {
+        let read = self.reading.read(word.text.as_bytes());
+        self.taken(word, read, expected)
+    }
+
+    // The day that a word names.
+    pub(crate) fn day(&mut self, word: Word<'_>) -> NaiveDate {
+        let start = self.start_as(word, DAY_EXPECTED);
+        self.day_at(word, start, DAY_EXPECTED)
+    }
+
+    // The day that a start is, where that is expected.
+    pub(crate) fn day_at(&mut self, word: Word<'_>, start: Start, expected: &str) -> NaiveDate {
+        if !start.is_day() {
+            self.wrong(word, expected);
         }
-        _ => Fault::NoSuch(word.place, Cause::NoDay(error)),
+        start.local().date()
+    }
+
+    // The day that a word names, if there is one.
+    pub(crate) fn day_if(&mut self, word: Option<Word<'_>>) -> Option<NaiveDate> {
+        match word {
+            Some(word) => Some(self.day(word)),
+            None => None,
+        }
+    }
+
+    // The day that a word names, which else may have been meant for a command.
+    pub(crate) fn day_or_command(&mut self, word: Word<'_>) -> NaiveDate {
+        match self.reading.read(word.text.as_bytes()) {
+            Ok(start) if start.is_day() => return start.local().date(),
+            Err(error) if !error.is_other_form() || has_order(word.text.as_bytes()) => {
+                self.unread(word, error, "")
+            }
+            _ => self.no_command(word),
+        }
+        NaiveDate::MIN
+    }
+
+    // The date-time or the instant that a word names.
+    pub(crate) fn moment(&mut self, word: Word<'_>) -> Start {
+        let start = self.start_as(word, MOMENT_EXPECTED);
+        self.moment_at(word, start)
+    }
+
+    // A start, which is no day.
+    pub(crate) fn moment_at(&mut self, word: Word<'_>, start: Start) -> Start {
+        if start.is_day() {
+            self.wrong(word, MOMENT_EXPECTED);
+        }
+        start
+    }
+
+    // The year that a word writes.
+    pub(crate) fn year(&mut self, word: Word<'_>) -> i32 {
+        let year = read_year(word.text.as_bytes());
+        if year.is_none() {
+            self.wrong(word, "expected a year as 2024");
+        }
+        year.unwrap_or(1)
+    }
+
+    // The first day of a year that a word writes.
+    pub(crate) fn start_of_year(&mut self, word: Word<'_>) -> NaiveDate {
+        let year = self.year(word);
+        let first = NaiveDate::from_ymd_opt(year, 1, 1);
+        if first.is_none() {
+            self.no_such(word, NO_YEAR);
+        }
+        first.unwrap_or(NaiveDate::MIN)
+    }
+
+    // The number from 1 on that the option of a name has, if it is given.
+    pub(crate) fn amount_if(&mut self, name: &str) -> Option<u64> {
+        let word = self.value(name)?;
+        let count = read_decimal(word.text.as_bytes()).unwrap_or(0);
+        if count == 0 {
+            self.wrong(word, "expected a number from 1 on, of 18 digits at most");
+        }
+        Some(count)
+    }
+
+    // The weekday that a word names.
+    pub(crate) fn weekday(&mut self, word: Word<'_>) -> Weekday {
+        let weekday = weekday_named(word.text);
+        if weekday.is_none() {
+            self.wrong(word, "expected a weekday as mon");
+        }
+        weekday.unwrap_or(Weekday::Mon)
     }
 }
 
-// The day, the date-time or the instant that a word names, where that is expected.
-pub(crate) fn start_as(
-    form: InstantForm<'_>,
-    word: Word<'_>,
-    what: Wanted,
-) -> Result<Start, Fault> {
-    Ok(value!(form.read(word.text.as_bytes()), error => unread(word, error, what)))
-}
+/// What is expected in place of a word that is no day.
+pub(crate) const DAY_EXPECTED: &str = "expected a day as 2024-02-29, 2024-060 or 2024-W09-4";
 
-// The day, the date-time or the instant that a word names.
-pub(crate) fn start_of(form: InstantForm<'_>, word: Word<'_>) -> Result<Start, Fault> {
-    let what = match form {
-        InstantForm::Seconds(_) => Wanted::Instant,
-        _ => Wanted::Start,
-    };
-    start_as(form, word, what)
-}
+/// What is expected in place of a word that is no date-time.
+pub(crate) const MOMENT_EXPECTED: &str = "expected a date-time as 2024-02-29T04:30";
 
-// The day that a word names.
-pub(crate) fn day_of(form: InstantForm<'_>, word: Word<'_>) -> Result<NaiveDate, Fault> {
-    match value!(start_as(form, word, Wanted::Day)) {
-        Start::Day(date) => Ok(date),
-        Start::DateTime(_) | Start::Stamp(_) => Err(wanted(word, Wanted::Day)),
-    }
-}
+/// What is expected in place of a year that is not in the calendar.
+pub(crate) const NO_YEAR: &str = "expected a year from -262143 to +262142";
 
-// The date-time or the instant that a word names.
-pub(crate) fn moment_of(form: InstantForm<'_>, word: Word<'_>) -> Result<Start, Fault> {
-    match value!(start_as(form, word, Wanted::Moment)) {
-        Start::Day(_) => Err(wanted(word, Wanted::Moment)),
-        start => Ok(start),
-    }
-}
-
-// The year that a word writes.
-pub(crate) fn year_of(word: Word<'_>) -> Result<i32, Fault> {
-    read_year(word.text.as_bytes()).ok_or(wanted(word, Wanted::Year))
-}
-
-// The first day of a year that a word writes.
-pub(crate) fn start_of_year(word: Word<'_>) -> Result<NaiveDate, Fault> {
-    let year = value!(year_of(word));
-    NaiveDate::from_ymd_opt(year, 1, 1).ok_or(Fault::NoSuch(word.place, Cause::Outside))
-}
-
-// The number from 1 on that a word writes.
-pub(crate) fn amount_of(word: Word<'_>) -> Result<u64, Fault> {
-    match read_decimal(word.text.as_bytes()) {
-        Some(count) if count > 0 => Ok(count),
-        _ => Err(wanted(word, Wanted::Number)),
-    }
-}
-
-// The weekday that a word names.
-pub(crate) fn weekday_of(word: Word<'_>) -> Result<Weekday, Fault> {
-    weekday_named(word.text).ok_or(wanted(word, Wanted::Weekday))
-}
+/// That there is one word too many.
+pub(crate) const NO_MORE: &str = "expected no further argument";
 
 // Whether a word begins with a digit or a sign, and so was meant for a day.
 pub(crate) fn begins_as_day(word: Word<'_>) -> bool {

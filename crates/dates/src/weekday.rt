@@ -12,8 +12,9 @@ pub(crate) fn command() -> CommandRow {
     )
 }
 
-// The weekday of the day, or of that of each line; the exit status.
-pub(crate) fn answer(rt: &HostRuntime, asked: &Asked<'_>, none: &mut Reply) -> Answered {
-    *none = Reply::Nothing(Key::Weekday);
-    answer_each(rt, asked, *none, asked.word_or_lines(), Asks::Weekday)
+// The weekday of the day, or of that of each line.
+pub(crate) fn answer(asked: &mut Asked<'_>) {
+    asked.none = Reply::Nothing(Key::Weekday);
+    let date = asked.day_if(asked.word_or_lines(0));
+    answer_each(asked, date, Asks::Weekday);
 }

@@ -1,7 +1,6 @@
 //! When a time zone's clock is set.
 
 use crate::prelude::*;
-use dates_answer::TextLine;
 
 const OF_YEAR: Opt =
     option!("--year", "YEAR"; "of which year (default: all, and the rule behind them)");
@@ -17,83 +16,58 @@ pub(crate) fn command() -> CommandRow {
     )
 }
 
-// What the clock shows whenever it is set, a line each, and its rule behind them; the exit status.
-pub(crate) fn answer(rt: &HostRuntime, asked: &Asked<'_>, none: &mut Reply) -> Answered {
-    *none = Reply::NoClock;
-    let year = given!(asked.value("--year"), word, year_of(word));
-    let zone = value!(zone_of(rt, asked.word(0)));
-    answered(print_changes(rt, asked.form, &zone, year))
-}
-
-// Prints what the clock shows whenever it is set, and its rule; the exit status.
-fn print_changes(
-    rt: &HostRuntime,
-    form: AnswerForm<'_>,
-    zone: &OwnedZone,
-    year: Option<i32>,
-) -> io::Result<u8> {
-    let mut status = NONE;
+// What the clock shows whenever it is set, a line each, and its rule behind them.
+pub(crate) fn answer(asked: &mut Asked<'_>) {
+    asked.none = Reply::NoClock;
+    let year = match asked.value("--year") {
+        Some(word) => Some(asked.year(word)),
+        None => None,
+    };
+    let Some(zone) = asked.zone_of(asked.word(0)) else {
+        return;
+    };
+    asked.end_by(NONE);
     for row in zone.rows() {
-        status = status.min(print_set(rt, form, zone, row.second, year)?);
+        print_set(asked, &zone, row.second, year);
     }
-    let by_rule = match year {
-        Some(year) => print_by_rule(rt, form, zone, year)?,
-        None => print_rule(rt, form.form, zone.rule_text())?,
-    };
-    if status.min(by_rule) == NONE {
-        return print_reply(rt, form, Reply::NoClock);
-    }
-    Ok(ANSWERED)
-}
-
-// Prints the rule by which the clock is set in the years to come, if there is one; the exit status.
-fn print_rule(rt: &HostRuntime, form: OutputForm, text: &str) -> io::Result<u8> {
-    if text.is_empty() {
-        return Ok(NONE);
-    }
-    let key = Key::Rule;
-    println!(rt; "{}", TextLine { form, key, text })?;
-    Ok(ANSWERED)
-}
-
-// Prints what the clock shows when it is set at that second, unless that lies in another year than is asked for; the exit status.
-fn print_set(
-    rt: &HostRuntime,
-    form: AnswerForm<'_>,
-    zone: &OwnedZone,
-    second: i64,
-    year: Option<i32>,
-) -> io::Result<u8> {
-    let Some(shown) = shown_in(zone, instant_at(second)) else {
-        return Ok(NONE);
-    };
     match year {
-        Some(year) if shown.naive_local().date().year() != year => Ok(NONE),
-        _ => print_in(rt, form, zone, shown),
+        Some(year) => print_by_rule(asked, &zone, year),
+        None if zone.rule_text().is_empty() => {}
+        None => asked.print_text(Key::Rule, zone.rule_text()),
     }
+    asked.print_none_if_alone();
 }
 
-// Prints what the clock shows when the rule sets it in a year, behind all rows; the exit status.
-fn print_by_rule(
-    rt: &HostRuntime,
-    form: AnswerForm<'_>,
-    zone: &OwnedZone,
-    year: i32,
-) -> io::Result<u8> {
+// Prints what the clock shows when it is set at that second, unless that lies in another year than is asked for.
+fn print_set(asked: &mut Asked<'_>, zone: &OwnedZone, second: i64, year: Option<i32>) {
+    let status = asked.status;
+    match shown_in(zone, instant_at(second)) {
+        Some(shown) if is_in(shown, year) => asked.print_in(zone, shown),
+        _ => {}
+    }
+    asked.end_by(status.min(asked.status));
+}
+
+// Whether a date-time lies in a year, if one is asked for.
+fn is_in(shown: DateTime<FixedOffset>, year: Option<i32>) -> bool {
+    let shown = shown.naive_local().date().year();
+    year.unwrap_or(shown) == shown
+}
+
+// Prints what the clock shows when the rule sets it in a year, behind all rows.
+fn print_by_rule(asked: &mut Asked<'_>, zone: &OwnedZone, year: i32) {
     let Some((begins, ends)) = rule_changes(zone, year) else {
-        return Ok(NONE);
+        return;
     };
     let last = match zone.rows().last() {
         Some(row) => row.second,
         None => i64::MIN,
     };
-    let mut status = NONE;
     for second in [begins.min(ends), begins.max(ends)] {
         if last < second {
-            status = status.min(print_set(rt, form, zone, second, Some(year))?);
+            print_set(asked, zone, second, Some(year));
         }
     }
-    Ok(status)
 }
 
 // When the rule sets the clock in a year, ahead and back.

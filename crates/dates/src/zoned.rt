@@ -26,42 +26,50 @@ pub(crate) const ZONES: &str =
 // The name of the machine's own zone.
 const LOCAL: &str = "local";
 
-// The zone that a word names.
-pub(crate) fn zone_of(rt: &HostRuntime, word: Word<'_>) -> Result<OwnedZone, Fault> {
-    if word.text == LOCAL {
-        return machine_zone(rt);
-    }
-    Ok(value!(read_zone(rt, word.text), error => Fault::Word(word.place, Cause::Zone(error))))
-}
-
-// The machine's own zone.
-pub(crate) fn machine_zone(rt: &HostRuntime) -> Result<OwnedZone, Fault> {
-    Ok(value!(local_zone(rt), error => Fault::Machine(error)).zone)
-}
-
 // The zone of a name.
 fn read_zone(rt: &HostRuntime, name: &str) -> Result<OwnedZone, ZoneError> {
     system_database(rt)?.zone(rt, name)
 }
 
-/// How a command reads, moves and writes instants: in a zone, if one is named.
-#[derive(Drop)]
-pub(crate) struct Instants<'a> {
-    pub form: InstantForm<'a>,
-    pub zone: Option<OwnedZone>,
-}
+impl Asked<'_> {
+    // The zone that a word names.
+    pub(crate) fn zone_of(&mut self, word: Word<'_>) -> Option<OwnedZone> {
+        if word.text == LOCAL {
+            return self.machine_zone();
+        }
+        match read_zone(self.rt, word.text) {
+            Ok(zone) => Some(zone),
+            Err(error) => {
+                self.wrong_by(word, &error, "");
+                None
+            }
+        }
+    }
 
-// How a command takes instants, by its options.
-pub(crate) fn instants_by<'a>(rt: &HostRuntime, asked: &Asked<'a>) -> Result<Instants<'a>, Fault> {
-    let form = asked.reading;
-    let zone = given!(asked.value("--zone"), word, zone_of(rt, word));
-    Ok(Instants { form, zone })
-}
+    // The machine's own zone.
+    pub(crate) fn machine_zone(&mut self) -> Option<OwnedZone> {
+        match local_zone(self.rt) {
+            Ok(local) => Some(local.zone),
+            Err(error) => {
+                self.refuse_machine(error);
+                None
+            }
+        }
+    }
 
-impl Instants<'_> {
+    // Takes the zone by whose clock date-times are read and moved, if one is named.
+    pub(crate) fn take_zone(&mut self) {
+        if let Some(word) = self.value("--zone") {
+            self.zone = self.zone_of(word);
+        }
+    }
+
     // What a text names: a date-time without offset is an instant of the zone.
     pub(crate) fn read(&self, text: &[u8]) -> Option<Start> {
-        self.placed(self.form.read(text).ok()?)
+        match self.reading.read(text) {
+            Ok(start) => self.placed(start),
+            Err(_) => None,
+        }
     }
 
     // The day, the date-time or the instant as the zone's clock shows it, if it shows it once.
@@ -76,18 +84,26 @@ impl Instants<'_> {
     }
 
     // What a word names.
-    pub(crate) fn start_of(&self, word: Word<'_>) -> Result<Start, Fault> {
-        self.once(word, value!(start_of(self.form, word)))
+    pub(crate) fn start(&mut self, word: Word<'_>) -> Start {
+        let expected = if self.reading.is_unix {
+            "expected seconds since 1970 as 1709204400, or a date-time with its offset"
+        } else {
+            "expected a day as 2024-02-29 or a date-time as 2024-02-29T04:30"
+        };
+        let start = self.start_as(word, expected);
+        self.once(word, start)
     }
 
     // What a word names, as the zone's clock shows it, if it shows it once. A day is nothing to a zone.
-    pub(crate) fn once(&self, word: Word<'_>, start: Start) -> Result<Start, Fault> {
-        match start {
-            Start::Day(_) if self.zone.is_some() => Err(wanted(word, Wanted::Moment)),
-            _ => self
-                .placed(start)
-                .ok_or(Fault::NoSuch(word.place, Cause::NotOnce)),
+    pub(crate) fn once(&mut self, word: Word<'_>, start: Start) -> Start {
+        if self.zone.is_some() && start.is_day() {
+            self.wrong(word, MOMENT_EXPECTED);
         }
+        let placed = self.placed(start);
+        if placed.is_none() {
+            self.no_such(word, NOT_ONCE);
+        }
+        placed.unwrap_or(start)
     }
 
     // Another day at the same time of day, where there is one; the same day stays the same instant.
@@ -111,6 +127,22 @@ impl Instants<'_> {
             Start::DateTime(moment) => Some(Start::DateTime(moment.checked_add_signed(by?)?)),
             Start::Stamp(stamp) => self.placed(Start::Stamp(stamp.checked_add_signed(by?)?)),
         }
+    }
+
+    // Prints what a zone's clock shows at an instant, and the name of its time there.
+    pub(crate) fn print_in(&mut self, zone: &OwnedZone, stamp: DateTime<FixedOffset>) {
+        let Some(shown) = shown_in(zone, Some(stamp)) else {
+            self.none = Reply::NoClock;
+            self.print_nowhere(&Start::Stamp(stamp), "", PAST);
+            return;
+        };
+        if self.format.is_some() {
+            self.print(Reply::Stamp(shown));
+            return;
+        }
+        let form = self.form;
+        let name = zone.abbreviation(stamp.timestamp()).unwrap_or("");
+        self.print_line(&ClockLine { form, shown, name }, ANSWERED);
     }
 }
 
@@ -139,26 +171,4 @@ pub(crate) fn shown_in(
 ) -> Option<DateTime<FixedOffset>> {
     let lent = zone.zone();
     Some(stamp?.checked_with_timezone(&&lent)?.fixed_offset())
-}
-
-// Prints what a zone's clock shows at an instant, and the name of its time there; the exit status.
-pub(crate) fn print_in(
-    rt: &HostRuntime,
-    form: AnswerForm<'_>,
-    zone: &OwnedZone,
-    stamp: DateTime<FixedOffset>,
-) -> io::Result<u8> {
-    let Some(shown) = shown_in(zone, Some(stamp)) else {
-        let from = Start::Stamp(stamp);
-        return print_nowhere(rt, form, Reply::NoClock, ALONE, &from, "", Cause::Past);
-    };
-    if form.pattern.is_some() {
-        return print_reply(rt, form, Reply::Stamp(shown));
-    }
-    let (form, name) = (
-        form.form,
-        zone.abbreviation(stamp.timestamp()).unwrap_or(""),
-    );
-    println!(rt; "{}", ClockLine { form, shown, name })?;
-    Ok(ANSWERED)
 }

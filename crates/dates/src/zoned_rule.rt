@@ -4,21 +4,24 @@ use crate::prelude::*;
 use calendar_rules::{TimedRule, TimedRuleError, read_timed_rule};
 use zoned_rules::instant_of;
 
-// The instances by the clock of a zone, a line each; `none` where there is none. The exit status.
-pub(crate) fn answer_in(rt: &HostRuntime, asked: &Asked<'_>, zone: Word<'_>) -> Answered {
-    let rule = value!(timed_rule_of(rt, asked.word(0)));
-    let zone = value!(zone_of(rt, zone));
-    let start = value!(moment_of(asked.reading, asked.option("--start")));
+// The instances by the clock of a zone, a line each; `none` where there is none.
+pub(crate) fn answer_in(asked: &mut Asked<'_>, zone: Word<'_>) {
+    let rule = asked.timed_rule(asked.word(0));
+    let zone = asked.zone_of(zone);
+    let start = asked.moment(asked.option("--start"));
     let from = match asked.value("--from") {
-        Some(word) => value!(moment_of(asked.reading, word)),
+        Some(word) => asked.moment(word),
         None => start,
     };
-    let most = given!(asked.value("--count"), word, amount_of(word)).unwrap_or(u64::MAX);
-    let (Some(local), Some(before)) = (local_in(&zone, start), just_before(&zone, from)) else {
-        return asked.print(rt, Reply::NoClock);
+    let most = asked.amount_if("--count").unwrap_or(u64::MAX);
+    let (Some(rule), Some(zone)) = (rule, zone) else {
+        return;
     };
-    let status = print_instances(rt, asked.form, &zone, &rule, local, before, most)?;
-    asked.finish(rt, status, Reply::NoClock)
+    asked.end_by(NONE);
+    if let (Some(local), Some(before)) = (local_in(&zone, start), just_before(&zone, from)) {
+        print_instances(asked, &zone, &rule, local, before, most);
+    }
+    asked.print_none_if_alone();
 }
 
 // What the zone's clock shows at a date-time that is written, or at an instant.
@@ -44,23 +47,21 @@ fn first_shown(zone: &OwnedZone, local: NaiveDateTime) -> Option<DateTime<FixedO
     Some(instant_of(&lent, local)?.fixed_offset())
 }
 
-// Prints the instances after an instant; the exit status.
+// Prints the instances after an instant.
 fn print_instances(
-    rt: &HostRuntime,
-    form: AnswerForm<'_>,
+    asked: &mut Asked<'_>,
     zone: &OwnedZone,
     rule: &TimedRule,
     local: NaiveDateTime,
     before: DateTime<FixedOffset>,
     most: u64,
-) -> io::Result<u8> {
+) {
     let lent = zone.zone();
-    let mut status = NONE;
     let (Some(zoned), Some(start)) = (
         rule.in_zone(local, &lent),
         before.checked_with_timezone(&&lent),
     ) else {
-        return Ok(status);
+        return;
     };
     let zoned = zoned.without_count();
     let mut last = start;
@@ -68,28 +69,40 @@ fn print_instances(
         let Some(due) = zoned.next_after(last) else {
             break;
         };
-        status = print_in(rt, form, zone, due.fixed_offset())?;
+        asked.print_in(zone, due.fixed_offset());
+        if asked.is_over {
+            break;
+        }
         last = due;
     }
-    Ok(status)
 }
 
-// The rule over date-times that a word writes.
-fn timed_rule_of(rt: &HostRuntime, word: Word<'_>) -> Result<TimedRule, Fault> {
-    let text = word.text.as_bytes();
+impl Asked<'_> {
+    // The rule over date-times that a word writes.
+    fn timed_rule(&mut self, word: Word<'_>) -> Option<TimedRule> {
+        match read_rule_in(self.rt, word.text.as_bytes()) {
+            Ok(Ok(rule)) => return Some(rule),
+            Ok(Err(error)) => self.wrong(word, why_no_rule(error)),
+            Err(error) => self.fail(error),
+        }
+        None
+    }
+}
+
+// The rule over date-times that a text writes.
+fn read_rule_in(rt: &HostRuntime, text: &[u8]) -> io::Result<Result<TimedRule, TimedRuleError>> {
     let mut buffer: Vec<u8> = Vec::new(rt.alloc());
     buffer.resize(text.len().saturating_add(1), 0)?;
-    let read = read_timed_rule(text, buffer.as_mut_slice());
-    Ok(value!(read, error => Fault::Word(word.place, Cause::TimedRule(error))))
+    Ok(read_timed_rule(text, buffer.as_mut_slice()))
 }
 
-// Puts why a text is no rule over date-times behind another.
-pub(crate) fn put_timed_error(out: &mut Buffer, error: TimedRuleError) {
-    out.put(match error {
+// Why a text is no rule over date-times.
+fn why_no_rule(error: TimedRuleError) -> &'static str {
+    match error {
         TimedRuleError::Frequency => "expected FREQ once, as FREQ=DAILY",
         TimedRuleError::Part(_) => "BYHOUR, BYMINUTE or BYSECOND is there twice, or out of range",
         TimedRuleError::Days(_) => "expected a rule as FREQ=DAILY;BYHOUR=9,17",
         TimedRuleError::Until => "UNTIL: expected a date-time in UTC as 20241231T230000Z",
         TimedRuleError::NotTogether => "its parts do not go together",
-    });
+    }
 }
