@@ -14,12 +14,12 @@ import sys
 from results import LANGUAGES, TOP, Results, read
 
 PAGE = f"{TOP}/docs/layers.md"
-# The examples by the language's name in the table: the file, and how a comment begins in it.
+# The examples by the language's name in the table: the file, how a comment begins in it, and a whole one, which counts for no use.
 FILES = {
-    "C": (f"{LANGUAGES}/c/cells.c", r"/\*"),
-    "Python": (f"{LANGUAGES}/python/tests/cells.py", "#"),
-    "Rust": (f"{LANGUAGES}/rust/tests/cells.rs", "//"),
-    "JavaScript": (f"{LANGUAGES}/javascript/test/cells.js", "//"),
+    "C": (f"{LANGUAGES}/c/cells.c", r"/\*", r"(?s)/\*.*?\*/"),
+    "Python": (f"{LANGUAGES}/python/tests/cells.py", "#", "#.*"),
+    "Rust": (f"{LANGUAGES}/rust/tests/cells.rs", "//", "//.*"),
+    "JavaScript": (f"{LANGUAGES}/javascript/test/cells.js", "//", "//.*"),
 }
 
 
@@ -36,11 +36,11 @@ def cells_of(page):
 
 
 def parts_of(language, text):
-    """The examples of a language by layer: the lines of each, and what they have to print."""
+    """The examples of a language by layer: the lines of each without comments, and what they have to print."""
     comment = FILES[language][1]
     _, *pieces = re.split(rf"^ *{comment} == (.+?)(?: \*/)?\n", text, flags=re.M)
     parts = dict(zip(pieces[::2], pieces[1::2]))
-    return {layer: (it, re.findall(rf"{comment} = (.*?)(?: \*/)?$", it, re.M)) for layer, it in parts.items()}
+    return {layer: (re.sub(FILES[language][2], "", it), re.findall(rf"{comment} = (.*?)(?: \*/)?$", it, re.M)) for layer, it in parts.items()}
 
 
 def uses(name, part):
@@ -74,19 +74,31 @@ PLANTED = (
     ("| Easter | `calendar_easter` |", "| Passover | `calendar_easter` |", "Passover in Rust: there is no example"),
 )
 
+# Examples that name something in a comment alone: what stands there, what stands there instead, and what has to be said of it.
+COMMENTED = {
+    "C": ("calendar_easter(2024)", "/* calendar_easter(2024) */ 738976", "Easter in C: the example does not use calendar_easter"),
+    "Python": ("print(*BusinessCalendar.known(", "print(1)  # BusinessCalendar.known(", "holidays in Python: the example does not use BusinessCalendar.known"),
+    "Rust": ("easter(2024)", "none() // easter(2024)", "Easter in Rust: the example does not use easter"),
+    "JavaScript": ("easter(2024)", "7 // easter(2024)", "Easter in JavaScript: the example does not use easter"),
+}
+
 
 def compare(results):
     """The table and the examples, and tables that are wrong on purpose."""
-    page, texts = read(PAGE), {language: read(path) for language, (path, _) in FILES.items()}
+    page, texts = read(PAGE), {language: read(path) for language, (path, *_) in FILES.items()}
     faults = list(faults_of(page, texts))
     for it in faults:
         results.count(False, it)
     results.passed += len(cells_of(page)) - len(faults)
     for old, new, wanted in PLANTED:
         results.count(old in page and wanted in faults_of(page.replace(old, new), texts), f"a table with {new!r} is not found wrong")
-    for language, (path, _) in FILES.items():
+    for language, (path, *_) in FILES.items():
         silent = {**texts, language: re.sub(r"== Easter", "== Ester", texts[language])}
         results.count(f"Easter in {language}: there is no example" in faults_of(page, silent), f"{path} with no Easter is not found wrong")
+    for language, (old, new, wanted) in COMMENTED.items():
+        results.count(old in texts[language], f"{FILES[language][0]} has no {old!r}")
+        told = {**texts, language: texts[language].replace(old, new)}
+        results.count(wanted in faults_of(page, told), f"the comment {new!r} in {language} is not found wrong")
 
 
 def wanted_lines(language, leave_out=()):

@@ -47,11 +47,11 @@ COMMENTS = {".rt": r"//[^\n]*", ".rs": r"//[^\n]*", ".antt": r"--[^\n]*", ".c": 
 # Names that no source declares, by the reason.
 ABSENT = {
     "of Rust and its std": """From Display DoubleEndedIterator String Drop Eq const std FromIterator FromPrimitive FromStr Hash
-        to_string IntoIterator Ok Option Result Some Sum TryFrom collect fmt::Write if match requires self str u8 unsafe unwrap""",
+        to_string IntoIterator Ok Option Result Some Sum TryFrom collect fmt::Write match requires self str u8 unsafe unwrap""",
     "of the kit: its words, its tactics and its std": """IfSome_then SomeIff agree_below agree_below_at jiff_tz num_traits omega refl subst
         unfoldable view_is ensures """,
     "of pandas and Dask": "NA OutOfBoundsDatetime Client compute",
-    "of Python": "Unpickler OverflowError TypeError ValueError datetime timedelta __slots__ __getstate__",
+    "of Python": "Unpickler OverflowError TypeError ValueError datetime timedelta ZoneInfo __slots__ __getstate__",
     "of JavaScript": "BigInt Int32Array calendarName PlainTime iso8601 RangeError Temporal overflow resolvedOptions wasm-opt",
     "of earlier versions": "check_rule check_schedule Roll::Nearest",
     "of SQL, and of texts that it is given": "timestamptz STRICT IMMUTABLE STABLE nearest-isda nearest-quantlib nearest_quantlib",

@@ -97,7 +97,7 @@ def debian_has(*modules):
 def test_beside_others(results, room, wheel):
     """Columns, the accessors and the habits beside numpy, pandas and Dask, which Debian's Python may have and a fresh environment has not."""
     if not debian_has("ensurepip", "numpy", "pandas"):
-        print("not run: the tests in Python beside numpy and pandas, which Debian's Python has not")
+        print("not run: the tests in Python beside numpy and pandas, and its example of columns, since Debian's Python has not these packages")
         return
     program = install(results, room, "with_numpy", DEBIAN, wheel, "--system-site-packages")
     for name in (*BESIDE, *ALONE[1:]) if program else ():
@@ -115,6 +115,8 @@ def test_beside_others(results, room, wheel):
         test_stubs(results, room, program)
     if program and debian_has(*BESIDE["test_dask.py"]):
         test_cells(results, room, program)
+    elif program:
+        print("not run: Python's example of columns, since Debian's Python has not Dask")
     if program and debian_has("croniter", "dateutil"):
         test_peers(results, program)
 

@@ -58,6 +58,15 @@ static void fill(void *place, size_t length)
     free(made);
 }
 
+/* Whether a function tells a fault of a reader, in so many bytes. */
+static bool is_told(int32_t (*tell)(const calendar_fault *, uint8_t *, size_t), const calendar_fault *fault, size_t room)
+{
+    uint8_t *said = bytes(room);
+    int32_t written = tell(fault, said, room);
+    free(said);
+    return written > 0 && (size_t)written <= room;
+}
+
 /* A date-time of the calendar, or now and then any two numbers. */
 static calendar_date_time moment(void)
 {
@@ -94,9 +103,7 @@ static void schedule_texts(void)
     } else {
         HOLDS(memcmp(&schedule, &before, sizeof schedule) == 0);
         HOLDS(fault.byte <= fault.end && fault.end <= length);
-        uint8_t *said = bytes(99);
-        HOLDS(calendar_schedule_fault_text(&fault, said, 99) > 0);
-        free(said);
+        HOLDS(is_told(calendar_schedule_fault_text, &fault, 99));
     }
     free(given);
     fill(&fault, sizeof fault);
@@ -217,7 +224,7 @@ static void rules(void)
     uint8_t *given = rule(&length);
     calendar_fault fault = {0, 0, 0, 0};
     bool is_rule = calendar_rule_check(given, length, &fault);
-    HOLDS(is_rule ? fault.code == 0 : fault.byte <= fault.end && fault.end <= length);
+    HOLDS(is_rule ? fault.code == 0 : fault.byte <= fault.end && fault.end <= length && is_told(calendar_rule_fault_text, &fault, 64));
     int32_t start = near_day(), day = near_day(), until = near_day();
     int32_t next = calendar_rule_next(given, length, start, day), last = calendar_rule_prev(given, length, start, day);
     HOLDS(next == CALENDAR_NONE || (is_rule && next > day && calendar_rule_is_instance(given, length, start, next)));
@@ -348,43 +355,92 @@ static void patterns(void)
     free(given);
 }
 
-/* Bytes near to those of a zone: a file of version 1 with a few rows, a rule, or any letters. */
+/* Rules of zones, and texts that are none. */
+static const char *const zone_rules[] = {
+    "CET-1CEST,M3.5.0,M10.5.0/3", "EST5EDT,M3.2.0,M11.1.0", "IST-1GMT0,M10.5.0,M3.5.0/1", "<-03>3<-02>,M3.5.0/-2,M10.5.0/-1", "HST10", "UTC0",
+    "XXX3EDT4,0/0,J365/23", "AAA-24", "A5", "AAA5BBB,J0,1", "AAA5BBB,J1/99:00:59,364/-167", "EST5EDT", "",
+};
+
+static const char *zone_rule(void)
+{
+    return zone_rules[any() % (sizeof zone_rules / sizeof *zone_rules)];
+}
+
+static uint8_t *copy_of(const char *given, size_t *length)
+{
+    *length = strlen(given);
+    uint8_t *made = bytes(*length);
+    memcpy(made, given, *length);
+    return made;
+}
+
+/* Writes the lowest bytes of a number, the highest of them first. */
+static void number(uint8_t *place, int64_t value, size_t size)
+{
+    for (size_t i = 0; i < size; i++) {
+        place[i] = (uint8_t)((uint64_t)value >> 8 * (size - 1 - i));
+    }
+}
+
+/* Writes a header of TZif and its data, with some rows from a time on. Offsets are zero or some hours, and now and then a time does not
+ * rise. The bytes that it took. */
+static size_t block(uint8_t *place, char version, size_t size, size_t rows, size_t kinds, int64_t from)
+{
+    uint8_t *at = place + 44;
+    memset(place, 0, 44);
+    memcpy(place, "TZif", 4);
+    place[4] = (uint8_t)version;
+    number(place + 32, (int64_t)rows, 4);
+    number(place + 36, (int64_t)kinds, 4);
+    number(place + 40, 4, 4);
+    for (size_t i = 0; i < rows; i++, at += size) {
+        from += any() % 16 ? (int64_t)(any() % 20000000) + 200000 : -(int64_t)(any() % 1000);
+        number(at, from, size);
+    }
+    for (size_t i = 0; i < rows; i++) {
+        *at++ = (uint8_t)(any() % (any() % 64 ? kinds : kinds + 1));
+    }
+    for (size_t i = 0; i < kinds; i++, at += 6) {
+        int64_t hours = any() % 2 ? (int64_t)(any() % 3) - 1 : (int64_t)(any() % 53) - 26;
+        number(at, any() % 64 ? hours * 3600 : (int64_t)any(), 4);
+        at[4] = (uint8_t)(any() % 2);
+        at[5] = 0;
+    }
+    memcpy(at, "ABC", 4);
+    return (size_t)(at + 4 - place);
+}
+
+/* A file of TZif: of version 1, or of a later one, whose second block has times of eight bytes and a footer between newlines. */
+static uint8_t *zone_file(size_t *length)
+{
+    static const char versions[] = {0, '2', '3', '4', '5'};
+    uint8_t made[2048];
+    size_t rows = any() % 64 ? any() % 6 : any() % 60, kinds = any() % 3 + 1;
+    char version = versions[any() % 16 ? any() % 4 : 4];
+    int64_t from = any() % 2 ? 0 : (int64_t)(any() % 4000000000u) - 2000000000;
+    size_t end = block(made, version, 4, version ? any() % 2 : rows, kinds, from / 4);
+    if (version) {
+        end += block(made + end, version, 8, rows, kinds, any() % 8 ? from : (int64_t)any() / 4);
+        end += (size_t)snprintf((char *)made + end, 64, "\n%s%s", zone_rule(), any() % 16 ? "\n" : "");
+    }
+    /* (now and then it ends too early, or goes on) */
+    *length = any() % 16 ? end : any() % (end + 9);
+    uint8_t *copy = bytes(*length);
+    memcpy(copy, made, *length < end ? *length : end);
+    return copy;
+}
+
+/* Bytes near to those of a zone: a file, a rule, or any letters. */
 static uint8_t *zone(size_t *length)
 {
-    static const char *const rules[] = {
-        "CET-1CEST,M3.5.0,M10.5.0/3", "EST5EDT,M3.2.0,M11.1.0", "IST-1GMT0,M10.5.0,M3.5.0/1", "<-03>3<-02>,M3.5.0/-2,M10.5.0/-1", "HST10",
-        "XXX3EDT4,0/0,J365/23", "AAA-24", "A5", "AAA5BBB,J0,1", "AAA5BBB,J1/99:00:59,364/-167",
-    };
     uint8_t *made;
-    if (any() % 4 == 0) {
+    if (any() % 8 == 0) {
         *length = any() % 60;
         made = text(*length);
-    } else if (any() % 2) {
-        const char *given = rules[any() % (sizeof rules / sizeof *rules)];
-        *length = strlen(given);
-        made = bytes(*length);
-        memcpy(made, given, *length);
+    } else if (any() % 4 == 0) {
+        made = copy_of(zone_rule(), length);
     } else {
-        size_t rows = any() % 5, kinds = any() % 3 + 1;
-        *length = 44 + rows * 5 + kinds * 6 + 4;
-        made = bytes(*length);
-        memset(made, 0, 44);
-        memcpy(made, "TZif", 4);
-        made[35] = (uint8_t)rows;
-        made[39] = (uint8_t)kinds;
-        made[43] = 4;
-        for (size_t i = 0; i < rows; i++) {
-            uint8_t *time = made + 44 + i * 4;
-            time[0] = (uint8_t)(i * 20);
-            made[44 + rows * 4 + i] = (uint8_t)(any() % kinds);
-        }
-        for (size_t i = 0; i < kinds; i++) {
-            uint8_t *kind = made + 44 + rows * 5 + i * 6;
-            memset(kind, any() % 2 ? 0 : 255, 2);
-            kind[4] = (uint8_t)(any() % 2);
-            kind[5] = 0;
-        }
-        memcpy(made + *length - 4, "ABC", 4);
+        made = zone_file(length);
     }
     if (*length && any() % 8 == 0) {
         made[any() % *length] ^= (uint8_t)(1 << any() % 8);
@@ -398,7 +454,7 @@ static void zones(void)
     uint8_t *given = zone(&length);
     calendar_fault fault = {0, 0, 0, 0};
     bool is_zone = calendar_zone_check(given, length, &fault);
-    HOLDS(is_zone ? fault.code == 0 : fault.code && fault.byte <= fault.end && fault.end <= length);
+    HOLDS(is_zone ? fault.code == 0 : fault.code && fault.byte <= fault.end && fault.end <= length && is_told(calendar_zone_fault_text, &fault, 64));
     int64_t at = any() % 8 ? (int64_t)(any() % 5000000000u) - 1000000000 : (int64_t)any();
     int32_t offset = calendar_zone_offset_at(given, length, at);
     HOLDS((offset != CALENDAR_NONE) == is_zone);

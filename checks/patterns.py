@@ -11,7 +11,8 @@ first is newer, and chrono only reads the last. Of the other two Debian's chrono
 Python agree: how many lines differ is printed. Python writes the seconds of an offset by `%z`, so it is asked at whole minutes alone.
 Bytes that are no pattern are read by a regular expression, and each one and each two visible bytes behind a `%` are asked for.
 `rt try` runs a small program unproved, in a copy of the crates: it answers the lines, and what differs is printed. A second run of the same lines with one answer changed has to find that answer. The table of patterns
-in docs/chrono.md is asked with them. Each round has as many lines of its own, by the next seed: `--lines 200000 --rounds 5` are a million.
+in docs/chrono.md is asked with them, and each row of the table of specifiers in the source: its examples are what the library and this file
+write. Where the row says which specifiers stand for one, they have to write the same. The table has each specifier once. Each round has as many lines of its own, by the next seed: `--lines 200000 --rounds 5` are a million.
 GNU date is asked for 20,000 in a round at most.
 """
 import argparse
@@ -57,6 +58,11 @@ OF_GNU = "|".join(f"%{it}" for it in [*"YCyqmdejuwGgVUWHkIlMSBbhAapPFDRTcxXr%", 
 # The page with a table of patterns and their texts, how many it has, and the date-time that they are of.
 PAGE, SHOWN, MOMENT = "docs/chrono.md", 10, (738_945, 32_707, 250_000_000)
 ROW = re.compile(r"`(%[^`]*)` \| `([^`]*)` \|")
+# The source with the table of specifiers, a row of it, the text of a code span, and the date-time that its examples are of.
+SOURCE, SPECIFIERS_ROW, SPAN = "crates/chrono_pattern/src/pattern.rt", re.compile(r"^    /// \| (`%.*) \| (.*) \| (`.*`) \|$", re.M), re.compile("`([^`]*)`")
+EXAMPLE = (738_948, 32_707, 250_000_000, 19_800)
+# All specifiers, with no padding before a number.
+ALL = {f"%{it}" for it in [*NUMBERS, *OTHERS, *"sz", ":z", "::z", ":::z", "#z", *(point + it + "f" for point in ("", ".") for it in "369"), ".f", "n"]}
 PROGRAM = r'''//! Writes date-times by patterns, a line each.
 #![tactic(auto)]
 
@@ -250,6 +256,25 @@ def of_page():
     return [(*MOMENT, 0, pattern) for pattern, _ in rows], [text for _, text in rows]
 
 
+def of_source():
+    """The specifiers of the source's table as questions, with what they stand for, and the examples of their texts there."""
+    with open(f"{TOP}/{SOURCE}", encoding="utf-8") as it:
+        rows = SPECIFIERS_ROW.findall(it.read())
+    found, shown = [], []
+    for specifiers, words, examples in rows:
+        codes, texts, same = SPAN.findall(specifiers), SPAN.findall(examples), SPAN.findall(words)
+        if len(codes) != len(texts):
+            sys.exit(f"{SOURCE}: {len(texts)} examples of {specifiers}")
+        found += codes
+        # (a line feed would end the line of an answer)
+        shown += [(code, text.replace("\\t", "\t")) for code, text in zip(codes, texts) if code != "%n"]
+        if same and re.sub(r"`[^`]*`|[(].*[)]|[, ]", "", words) == "":
+            shown += zip(same, texts, strict=True)
+    if sorted(found) != sorted(ALL):
+        sys.exit(f"{SOURCE}: the table has not each specifier once: {sorted(set(found) ^ ALL)}")
+    return [((*EXAMPLE, pattern), text) for pattern, text in shown]
+
+
 def draw_weeks(draw, count):
     """Random days of these centuries, to be written by their weeks of the year."""
     return [(draw.randrange(700_000, 760_000), 0, 0, 0, "%U %W") for _ in range(count)]
@@ -266,6 +291,12 @@ def both(question):
     told = answer(Moment(day, second, fraction, offset), pattern)
     if told.startswith(("Cut ", "Unknown ")):
         return told
+    return with_plain(question, told)
+
+
+def with_plain(question, told):
+    """The text with the offset, and behind it the text without one."""
+    day, second, fraction, _, pattern = question
     return f"{told}|{'none' if needs_offset(pattern) else answer(Moment(day, second, fraction), pattern)}"
 
 
@@ -357,6 +388,7 @@ def answers_by_others(room, chrono, draw, questions, wanted):
 def main():
     options = options_of(__doc__)
     shown, texts = of_page()
+    rows = of_source()
     unlike = [f"{PAGE}: {it}" for it in differing([line_of(it) for it in shown], texts, [answer(Moment(*it[:3]), it[4]) for it in shown])]
     with tempfile.TemporaryDirectory(prefix="patterns-") as room:
         chrono = chrono_program(room)
@@ -365,6 +397,8 @@ def main():
         def run_round(own, draw, count):
             drawn = [question(draw) for _ in range(count)]
             questions, wanted = drawn + shown, [both(it) for it in drawn] + [f"{it}|{it}" for it in texts]
+            questions += [it for it, _ in rows]
+            wanted += [with_plain(it, text) for it, text in rows]
             wrong = unlike + answers_by_others(own, chrono, draw, questions, wanted)
             each = [(*MOMENT, 0, it) for it in short_patterns()]
             lines = [line_of(it) for it in questions + each]

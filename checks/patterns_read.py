@@ -4,8 +4,8 @@
     checks/patterns_read.py [--seed N] [--lines N] [--rounds N]      (seed 1, 20,000 lines and one round, if left out)
 
 A text is one that its pattern writes, often with a byte changed, left out or put in. It is read whole, and its front alone: as a date, as
-a date-time and as one with its offset. The wanted answer is this file's own. Where it is a date, its fields are compared with all dates
-that fit, by their names. Python's strptime has to read the same date, and the same date-time with its offset, wherever it has all
+a time of day, as a date-time and as one with its offset. The wanted answer is this file's own. Where it is a date, its fields are compared
+with all dates that fit, by their names. Where the specifiers name no such value, nothing may be read. Python's strptime has to read the same date, and the same date-time with its offset, wherever it has all
 specifiers of a pattern and reads the text. Debian's chrono has to read the same, or nothing where nothing is wanted. All lines are asked of it.
 Where it answers otherwise, one of `DIFFERENCES` has to say why, and it has to do so at the line of each of these. `rt try` runs a small program unproved, in a copy of the crates. A second run of the same lines with one answer changed
 has to find that answer. Each round has as many lines of its own, by the next seed.
@@ -50,22 +50,39 @@ fn main(rt: HostRuntime) -> io::Result<()> {
                     },
                     Err(error) => print!(rt; "= {:?} {}", error.cause, error.byte)?,
                 }
+                match pattern.parse_date(text.as_bytes()) {
+                    Ok(it) => print!(rt; "; {it}")?,
+                    Err(error) => print!(rt; "; {:?} {}", error.cause, error.byte)?,
+                }
                 match pattern.parse_date_and_remainder(text.as_bytes()) {
-                    Ok((date, rest)) => print!(rt; "; {date} + {}", rest.len())?,
+                    Ok((it, rest)) => print!(rt; "; {it} + {}", rest.len())?,
+                    Err(error) => print!(rt; "; {:?} {}", error.cause, error.byte)?,
+                }
+                match pattern.parse_time(text.as_bytes()) {
+                    Ok(it) => print!(rt; "; {it:?}")?,
+                    Err(error) => print!(rt; "; {:?} {}", error.cause, error.byte)?,
+                }
+                match pattern.parse_time_and_remainder(text.as_bytes()) {
+                    Ok((it, rest)) => print!(rt; "; {it:?} + {}", rest.len())?,
                     Err(error) => print!(rt; "; {:?} {}", error.cause, error.byte)?,
                 }
                 match pattern.parse_date_time(text.as_bytes()) {
-                    Ok(moment) => print!(rt; "; {moment:?}")?,
+                    Ok(it) => print!(rt; "; {it:?}")?,
+                    Err(error) => print!(rt; "; {:?} {}", error.cause, error.byte)?,
+                }
+                match pattern.parse_date_time_and_remainder(text.as_bytes()) {
+                    Ok((it, rest)) => print!(rt; "; {it:?} + {}", rest.len())?,
                     Err(error) => print!(rt; "; {:?} {}", error.cause, error.byte)?,
                 }
                 match pattern.parse_zoned(text.as_bytes()) {
-                    Ok(moment) => print!(rt; "; {moment:?}")?,
+                    Ok(it) => print!(rt; "; {it:?}")?,
                     Err(error) => print!(rt; "; {:?} {}", error.cause, error.byte)?,
                 }
                 match pattern.parse_zoned_and_remainder(text.as_bytes()) {
-                    Ok((moment, rest)) => println!(rt; "; {moment:?} + {}", rest.len())?,
-                    Err(error) => println!(rt; "; {:?} {}", error.cause, error.byte)?,
+                    Ok((it, rest)) => print!(rt; "; {it:?} + {}", rest.len())?,
+                    Err(error) => print!(rt; "; {:?} {}", error.cause, error.byte)?,
                 }
+                println!(rt; "")?
             }
             Err(_) => println!(rt; "= no pattern")?,
         }
@@ -270,6 +287,40 @@ class Reader:
                 at += 1
 
 
+def names_in(pattern):
+    """The parts that each text of a pattern gives. A fraction with a point may be left out."""
+    names = set()
+    for _, code, other, form in re.findall(SPECIFIER.pattern, pattern):
+        if other in GROUPS or other in SINGLES:
+            names |= names_in(GROUPS.get(other) or SINGLES[other])
+        else:
+            names |= names_by(code or other or form)
+    return names
+
+
+def names_by(code):
+    """The parts that each text of a specifier gives, of one that stands for no others."""
+    several = {"H": {"half", "hour"}, "k": {"half", "hour"}, "I": {"hour"}, "l": {"hour"}, "w": {"weekday"}, "s": {"stamp"}, "p": {"half"}, "P": {"half"}, "Z": set(), "%": set()}
+    words = {"B": {"month"}, "b": {"month"}, "A": {"weekday"}, "a": {"weekday"}}
+    if code in PARTS:
+        return {PARTS[code][0]}
+    if code.endswith("z"):
+        return {"offset"}
+    if code[0] in ".369":
+        return set() if code[0] == "." else {"nanos"}
+    return several.get(code) or words.get(code, set())
+
+
+def suffices(names):
+    """Whether parts suffice for a date, a time of day, a date-time, and one with its offset."""
+    year = {"year", "place"} & names
+    week = "weekday" in names and {"from_sunday", "from_monday"} & names
+    date = bool(year and ({"month", "day"} <= names or "ordinal" in names or week)) or {"isoyear", "isoweek", "weekday"} <= names
+    time = {"half", "hour", "minute"} <= names and ("second" in names or "nanos" not in names)
+    moment = "stamp" in names or (date and time)
+    return date, time, moment, "stamp" in names or (moment and "offset" in names)
+
+
 def by_names(parts):
     """The dates that a set of parts that suffices names; none if no set does."""
     year = parts.get("year")
@@ -320,6 +371,15 @@ def date_of(parts):
     return written(right[0]) if right else "Impossible"
 
 
+def time_of(parts):
+    """The time of day that fits parts, or why there is none."""
+    if not suffices(parts.keys())[1]:
+        return "NotEnough"
+    second = parts.get("second", 0)
+    at = (parts["half"] * 12 + parts["hour"]) * 3600 + parts["minute"] * 60 + min(second, 59)
+    return shown(at, parts.get("nanos", 0) + NANOS * (second == 60)).partition("T")[2]
+
+
 def shown(second, fraction):
     """A local date-time by its second from 1970 and its fraction."""
     day, at = divmod(second, 86_400)
@@ -367,26 +427,33 @@ def zoned_of(parts):
 
 
 def wanted_of(pattern, text):
-    """The date of a whole text, or what is wrong; and the date of its front with how many bytes are behind it, or what is wrong with that.
-
-    Then the same of the date-time and of the one with its offset, and the front of that.
+    """The date of the parts of a whole text, or what is wrong with it. Then the date, the time of day, the date-time and the one with its offset,
+    each of the whole text and of its front, with how many bytes are behind it.
     """
+    may = suffices(names_in(pattern))
     reader = Reader(text)
     try:
         reader.pattern(pattern)
     except Wrong as wrong:
-        return (str(wrong),) * 5
+        return (str(wrong), *(str(wrong) if it else "NotEnough 0" for it in may for _ in range(2)))
     found = moment_of(reader.parts, 0)
-    date, moment, zoned = date_of(reader.parts), found if isinstance(found, str) else shown(*found), zoned_of(reader.parts)
+    told = date_of(reader.parts), time_of(reader.parts), found if isinstance(found, str) else shown(*found), zoned_of(reader.parts)
     left = len(text) - reader.at
-    front, zoned_front = (f"{it} + {left}" if DATE.match(it) else f"{it} {reader.at}" for it in (date, zoned))
-    if left:
-        late = f"TooLong {reader.at}"
-        return late, front, late, late, zoned_front
-    as_python(pattern, text, date, zoned)
-    return date, front, *(it if DATE.match(it) else f"{it} {reader.at}" for it in (moment, zoned)), zoned_front
+    late = f"TooLong {reader.at}"
+    answers = [late if left else told[0]]
+    for it, named in zip(told, may):
+        is_value = DATE.match(it)
+        whole = late if left else it if is_value else f"{it} {reader.at}"
+        front = f"{it} + {left}" if is_value else f"{it} {reader.at}"
+        answers += [whole, front] if named else ["NotEnough 0"] * 2
+        assert named or it == "NotEnough", (pattern, text, told)
+    if not left:
+        as_python(pattern, text, told[0], told[3])
+    return tuple(answers)
 
 
+# The place of the date-time with its offset in the answers of a line.
+ZONED_PLACE = 7
 # What a date begins with.
 DATE = re.compile("[-+0-9]")
 
@@ -409,6 +476,11 @@ PATTERNS = (
     "%Y-%m-%dT%T%.f", "%F %I:%M %p", "%F %H%M%S%3f", "%q %F", "%F %w", "%B %d %Y %A", "%y%j", "%d%m%y %H", "%Y %b", "%g %V %u", "%b %d", "%F%n%T", "%Y %m %d %f",
     "%Y %U %a", "%Y-W%W-%u", "%y%W%w", "%U %F", "%c", "%v", "%x %X", "%F %r", "%r %v",
 )
+# Those of times of day, and some that name none.
+TIME_PATTERNS = (
+    "%H:%M:%S", "%T%.f", "%I:%M %p", "%l:%M:%S %P", "%k:%M", "%k%M%S", "%T.%6f", "%T %9f", "%T%.6f", "%R", "%R%.f", "%R%f", "%R%3f", "%X", "%r", "%h %k %M", "%H", "%M:%S", "%I %p", "%l %M",
+    "%h %d %Y %l:%M %P", "%F %k:%M:%S%.9f", "%R%.f %F", "%R%.3f %F %z",
+)
 # Those of date-times with their offset, or with the seconds from 1970.
 ZONED_PATTERNS = (
     "%F %T %z", "%F %R%:z", "%Y-%m-%d %H:%M:%S %z", "%FT%T%.f%:z", "%d.%m.%Y %H:%M %::z", "%F %T %Z", "%F %T %:::z", "%F %R %#z", "%+", "%s", "%s %z", "%s %F", "%s %S %:z", "%s%.f",
@@ -418,9 +490,9 @@ ZONED_PATTERNS = (
 
 def question(draw):
     """A random line: a pattern, and a text that it writes, often spoilt."""
-    pattern = draw.choice(PATTERNS + ZONED_PATTERNS)
+    pattern = draw.choice(PATTERNS + TIME_PATTERNS + ZONED_PATTERNS)
     if draw.random() < 0.3:
-        pattern = "".join(draw.choice(("%Y", "%m", "%d", "%j", "%y", "%C", "%b", "%B", "%a", "%A", "%e", "%u", "%w", "%G", "%V", "%U", "%W", "%H", "%I", "%p", "%M", "%-d", "%_m", " ", "-", "/", "x")) for _ in range(draw.randrange(2, 9)))
+        pattern = "".join(draw.choice(("%Y", "%m", "%d", "%j", "%y", "%C", "%b", "%B", "%a", "%A", "%e", "%u", "%w", "%G", "%V", "%U", "%W", "%H", "%I", "%p", "%M", "%k", "%l", "%P", "%h", "%S", "%6f", "%9f", "%.f", "%-d", "%_m", " ", "-", "/", "x")) for _ in range(draw.randrange(2, 9)))
     day = draw.choice((draw.randrange(719_163, 755_000), draw.randrange(600_000, 800_000), draw.randrange(FIRST, LAST + 1)))
     fraction, second = draw.choice((0, 500_000_000, draw.randrange(NANOS))), draw.choice((draw.randrange(86_400), 60 * draw.randrange(1440) + 59))
     if second % 60 == 59 and draw.random() < 0.5:
@@ -503,7 +575,7 @@ def read_by_chrono(chrono, questions, answers):
     read = [it.split(" ") for it in by_chrono(chrono, questions)]
     for place, what in enumerate(("date", "zoned date-time")):
         for question, told, answer in zip(questions, read, answers):
-            line = Line(question, place == 1, answer[(0, 3)[place]], told[place])
+            line = Line(question, place == 1, answer[(0, ZONED_PLACE)[place]], told[place])
             if line.told == (line.wanted if DATE.match(line.wanted) else "!"):
                 continue
             found = [it for it, (holds, _) in DIFFERENCES.items() if holds(line)]
@@ -528,7 +600,7 @@ def main():
             answers = [wanted_of(*it) for it in questions]
             wrong = read_by_chrono(chrono, questions, answers) if chrono else []
             lines = [line_of(it) for it in questions]
-            return lines, answers_in_parts(own, folder, lines, PART), ["; ".join(it) for it in answers], wrong
+            return lines, answers_in_parts(own, folder, lines, PART // 5), ["; ".join(it) for it in answers], wrong
 
         run_rounds(options, room, run_round)
 

@@ -7,7 +7,7 @@ from . import CALENDAR, HIGHER, LAYERS, LICENCES, version
 # What each library has, as pkg-config says it.
 DESCRIPTIONS = {
     CALENDAR: "The proleptic Gregorian calendar, by functions that are proved",
-    LAYERS: "Schedules, recurrence rules, open days and holidays, by functions that are proved",
+    LAYERS: "Schedules, recurrence rules, open days, holidays, patterns and time zones, by functions that are proved",
 }
 
 # (it links the static library, so that a program runs without the shared one)

@@ -37,7 +37,8 @@ _dates()
     week:--now) COMPREPLY=($(compgen -W $'' -- "$word")) ;;
     week:--parse) COMPREPLY=($(compgen -W $'' -- "$word")) ;;
     week:--order) COMPREPLY=($(compgen -W $'dmy\nmdy\n' -- "$word")) ;;
-    week:*) COMPREPLY=($(compgen -W $'--now\n--parse\n--order\n--json\n--help\n' -- "$word")) ;;
+    week:--format) COMPREPLY=($(compgen -W $'' -- "$word")) ;;
+    week:*) COMPREPLY=($(compgen -W $'--now\n--parse\n--order\n--format\n--long\n--json\n--help\n' -- "$word")) ;;
     weekday:--now) COMPREPLY=($(compgen -W $'' -- "$word")) ;;
     weekday:--parse) COMPREPLY=($(compgen -W $'' -- "$word")) ;;
     weekday:--order) COMPREPLY=($(compgen -W $'dmy\nmdy\n' -- "$word")) ;;

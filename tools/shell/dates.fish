@@ -36,6 +36,8 @@ complete -c dates -n __fish_use_subcommand -a week -d 'print the first and the l
 complete -c dates -n '__fish_seen_subcommand_from week' -l now -r -a ''
 complete -c dates -n '__fish_seen_subcommand_from week' -l parse -r -a ''
 complete -c dates -n '__fish_seen_subcommand_from week' -l order -r -a 'dmy mdy '
+complete -c dates -n '__fish_seen_subcommand_from week' -l format -r -a ''
+complete -c dates -n '__fish_seen_subcommand_from week' -l long
 complete -c dates -n '__fish_seen_subcommand_from week' -l json
 complete -c dates -n '__fish_seen_subcommand_from week' -l help
 complete -c dates -n __fish_use_subcommand -a weekday -d 'print the weekday of a day'
