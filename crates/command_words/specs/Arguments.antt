@@ -22,7 +22,7 @@ seen w = (w.place, w.text.now)
 
 -- an option with its value
 abbrev pub pair : GivenOption → Opt × Seen
-pair g = (g.option, seen g.value)
+pair g = (g.option.now, seen g.value)
 
 -- what words have: operands, and options with their values, each in their order
 abbrev pub Got : Type 0
@@ -40,7 +40,7 @@ pub data Mode : Type 0 where
 
 abbrev pub mode_of : modes.Mode → Mode
 mode_of mode.Free = free
-mode_of (mode.Begun o w) = begun o (seen w)
+mode_of (mode.Begun o w) = begun o.now (seen w)
 mode_of mode.Ended = ended
 
 -- the word begins as an option does; what stands in front of its first `=`, and behind it

@@ -30,14 +30,14 @@ impl<'a> Arguments<'a> {
     }
 
     /// Returns the first option of a table that has to be given and is not.
-    pub fn missing(&self, table: &'static [Opt]) -> Option<Opt>
-        ensures { result ≡ missing (map pair self.now.options.items) table.now }
+    pub fn missing(&self, table: &'static [Opt]) -> Option<&'static Opt>
+        ensures { option_map (λ o. o.now) result ≡ missing (map pair self.now.options.items) table.now }
     {
         let [option, others @ ..] = table else {
             return None;
         };
         if option.required && !is_given(self.options.as_slice(), option.name) {
-            return Some(*option);
+            return Some(option);
         }
         self.missing(others)
     }

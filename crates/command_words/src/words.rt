@@ -20,7 +20,7 @@ pub struct Word<'a> {
 #[derive(Clone, Copy)]
 pub struct GivenOption<'a> {
     /// The option.
-    pub option: Opt,
+    pub option: &'static Opt,
     /// Its value, with an empty text for a flag.
     pub value: Word<'a>,
 }
@@ -64,7 +64,7 @@ pub(crate) enum Mode<'a> {
     // As an option where it begins with `--`.
     Free,
     // As the value of the option that this word begins.
-    Begun(Opt, Word<'a>),
+    Begun(&'static Opt, Word<'a>),
     // As an operand.
     Ended,
 }
@@ -145,11 +145,11 @@ fn read_option<'a>(table: &'static [Opt], found: &mut Arguments<'a>, word: Word<
 // Puts an option behind the others, with what stands behind its `=`, or begins it.
 fn put_option<'a>(
     found: &mut Arguments<'a>,
-    option: Opt,
+    option: &'static Opt,
     word: Word<'a>,
     value: Option<&'a str>,
 ) -> Step<'a>
-    ensures { IfOk result (λ r. IsStep (attached option (got found.old.operands.items found.old.options.items) (seen word.entry) (option_map (λ v. v.now) value.entry)) r (got found.new.operands.items found.new.options.items)) }
+    ensures { IfOk result (λ r. IsStep (attached option.now (got found.old.operands.items found.old.options.items) (seen word.entry) (option_map (λ v. v.now) value.entry)) r (got found.new.operands.items found.new.options.items)) }
 {
     if !option.repeated && is_given(found.options.as_slice(), option.name) {
         let why = Why::Twice;
@@ -166,10 +166,14 @@ fn put_option<'a>(
 }
 
 // Puts an option behind the others with a value, if it may have that.
-fn put_value<'a>(found: &mut Arguments<'a>, option: Opt, value: Word<'a>) -> Step<'a>
-    ensures { IfOk result (λ r. IsStep (valued option (got found.old.operands.items found.old.options.items) (seen value.entry)) r (got found.new.operands.items found.new.options.items)) }
+fn put_value<'a>(
+    found: &mut Arguments<'a>,
+    option: &'static Opt,
+    value: Word<'a>,
+) -> Step<'a>
+    ensures { IfOk result (λ r. IsStep (valued option.now (got found.old.operands.items found.old.options.items) (seen value.entry)) r (got found.new.operands.items found.new.options.items)) }
 {
-    if may_be(&option, value.text) {
+    if may_be(option, value.text) {
         found.options.push(GivenOption { option, value })?;
         return Ok(Ok(Mode::Free));
     }
@@ -192,14 +196,14 @@ pub(crate) fn is_given(options: &[GivenOption<'_>], name: &str) -> bool
 }
 
 // The option with that name.
-pub(crate) fn option_named(table: &'static [Opt], name: &str) -> Option<Opt>
-    ensures { result ≡ named name.now table.now }
+pub(crate) fn option_named(table: &'static [Opt], name: &str) -> Option<&'static Opt>
+    ensures { option_map (λ o. o.now) result ≡ named name.now table.now }
 {
     let [option, others @ ..] = table else {
         return None;
     };
     if name == option.name {
-        return Some(*option);
+        return Some(option);
     }
     option_named(others, name)
 }
