@@ -80,9 +80,9 @@ pub fn put_program_help(out: &mut Buffer, program: &Program<'_>) {
 }
 
 // The commands that have a name, and what each does.
-fn put_commands(out: &mut Buffer, commands: &[CommandRow]) {
+fn put_commands(out: &mut Buffer, commands: &[&'static CommandRow]) {
     for command in commands {
-        let CommandRow { name, help, .. } = *command;
+        let CommandRow { name, help, .. } = **command;
         if !name.is_empty() {
             put!(out, "  ", name);
             put_spaces(out, name.len(), 9);

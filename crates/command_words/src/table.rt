@@ -63,7 +63,7 @@ pub struct Program<'a> {
     /// What else there is to know.
     pub more: &'static str,
     /// Its commands.
-    pub commands: &'a [CommandRow],
+    pub commands: &'a [&'static CommandRow],
     /// The options that stand alone, as `--version`.
     pub alone: &'static [Opt],
 }

@@ -3,7 +3,7 @@
 use crate::prelude::*;
 use dates_answer::moved;
 
-pub(crate) fn command() -> CommandRow {
+pub(crate) fn command() -> &'static CommandRow {
     row!(
         "add", &[DAY_OR_LINES, operand!("SPAN"; many: true)], 
         &[WEEKEND, CALENDAR, HOLIDAYS, ZONED, NOW, UNIX, PARSE, ORDER, FORMAT, LONG, JSON, HELP];

@@ -19,7 +19,7 @@ pub(crate) struct Asked<'a> {
     /// What runs the program.
     pub rt: &'a HostRuntime,
     /// The command.
-    pub command: CommandRow,
+    pub command: &'static CommandRow,
     /// The operands and the options.
     pub words: Arguments<'a>,
     /// Whether answers are texts or JSON.
@@ -45,7 +45,7 @@ pub(crate) const NO_WORD: Word<'static> = Word { place: 0, text: "" };
 
 impl<'a> Asked<'a> {
     // A command that is asked nothing so far.
-    pub(crate) fn new(rt: &'a HostRuntime, command: CommandRow) -> Asked<'a> {
+    pub(crate) fn new(rt: &'a HostRuntime, command: &'static CommandRow) -> Asked<'a> {
         let (operands, options) = (Vec::new(rt.alloc()), Vec::new(rt.alloc()));
         Asked {
             rt,

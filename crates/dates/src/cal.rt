@@ -11,7 +11,7 @@ const FIRST: Opt = option!(
     values: WEEKDAYS, default: "mon"
 );
 
-pub(crate) fn command() -> CommandRow {
+pub(crate) fn command() -> &'static CommandRow {
     row!(
         "cal", &[operand!("MONTH|YEAR|DAY"; required: false)],
         &[FIRST, NOW, WEEKEND, CALENDAR, HOLIDAYS, JSON, HELP];

@@ -3,7 +3,7 @@
 use crate::prelude::*;
 use dates_answer::WrongLine;
 
-pub(crate) fn command() -> CommandRow {
+pub(crate) fn command() -> &'static CommandRow {
     row!(
         "check", &[operand!("FILE"; required: false)], &[PARSE, ORDER, JSON, HELP];
         help: "print the lines that are no days, and why",

@@ -23,7 +23,7 @@ pub(crate) const OPTIONS: &[Opt] = &[
 ];
 
 // What the program does without the name of a command.
-pub(crate) fn command() -> CommandRow {
+pub(crate) fn command() -> &'static CommandRow {
     row!(
         "", &[DAY_OR_LINES], OPTIONS;
         help: "print a day by all its names",

@@ -8,7 +8,7 @@ pub(crate) const UNITS: &[&str] = &["d", "w", "m", "mo", "y", "b", "ymd", "h", "
 
 const UNIT: Operand = operand!("UNIT"; keyword: "in", values: UNITS, required: false);
 
-pub(crate) fn command() -> CommandRow {
+pub(crate) fn command() -> &'static CommandRow {
     row!(
         "diff", &[DAY, DAY_OR_LINES, UNIT],
         &[WEEKEND, CALENDAR, HOLIDAYS, ZONED, NOW, UNIX, PARSE, ORDER, JSON, HELP];

@@ -31,7 +31,7 @@ const BY_CLOCK: Opt = option!("--zone", "ZONE"; "by the clock of which time zone
 // The command that goes back.
 const PREV: &str = "prev";
 
-pub(crate) fn next() -> CommandRow {
+pub(crate) fn next() -> &'static CommandRow {
     row!(
         "next", &[operand!("CRON")], &[AFTER, HOW_MANY, BY_CLOCK, NOW, UNIX, PARSE, ORDER, FORMAT, LONG, JSON, HELP];
         help: "print when a schedule is due next",
@@ -40,16 +40,13 @@ pub(crate) fn next() -> CommandRow {
     )
 }
 
-pub(crate) fn prev() -> CommandRow {
-    CommandRow {
-        name: PREV,
-        options: &[
-            BEFORE, HOW_MANY, BY_CLOCK, NOW, UNIX, PARSE, ORDER, FORMAT, LONG, JSON, HELP,
-        ],
+pub(crate) fn prev() -> &'static CommandRow {
+    row!(
+        PREV, &[operand!("CRON")], &[BEFORE, HOW_MANY, BY_CLOCK, NOW, UNIX, PARSE, ORDER, FORMAT, LONG, JSON, HELP];
         help: "print when a schedule was due before",
-        example: "$ dates prev '0 0 L * *' --from 2024-03-15T00:00\n2024-02-29T00:00:00",
-        ..next()
-    }
+        more: MORE,
+        example: "$ dates prev '0 0 L * *' --from 2024-03-15T00:00\n2024-02-29T00:00:00"
+    )
 }
 
 // The moments at which the schedule is due, on or back, a line each; `none` where there are fewer.

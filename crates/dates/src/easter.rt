@@ -2,7 +2,7 @@
 
 use crate::prelude::*;
 
-pub(crate) fn command() -> CommandRow {
+pub(crate) fn command() -> &'static CommandRow {
     row!(
         "easter", &[YEAR], &[FORMAT, LONG, JSON, HELP];
         help: "print Easter Sunday of a year",

@@ -6,29 +6,32 @@ use crate::prelude::*;
 /// The periods that have a first and a last day.
 pub(crate) const PERIODS: &[&str] = &["week", "month", "quarter", "year"];
 
-pub(crate) fn first() -> CommandRow {
+pub(crate) fn first() -> &'static CommandRow {
     row!(
         "first", &[operand!("PERIOD"; values: PERIODS), DAY_OR_LINES],
         &[NOW, PARSE, ORDER, FORMAT, LONG, JSON, HELP];
         help: "print the first day of the week, month, quarter or year",
-        more: "A PERIOD is week, month, quarter or year. A week begins on Monday.\n\
-            With - in place of the day, or none, it answers each line of standard input.",
+        more: MORE,
         example: "$ dates first quarter 2024-02-29\n2024-01-01"
     )
 }
 
-pub(crate) fn last() -> CommandRow {
-    CommandRow {
-        name: LAST,
+pub(crate) fn last() -> &'static CommandRow {
+    row!(
+        LAST, &[operand!("PERIOD"; values: PERIODS), DAY_OR_LINES],
+        &[NOW, PARSE, ORDER, FORMAT, LONG, JSON, HELP];
         help: "print the last day of the week, month, quarter or year",
-        example: "$ dates last month 2024-02-14\n2024-02-29",
-        ..first()
-    }
+        more: MORE,
+        example: "$ dates last month 2024-02-14\n2024-02-29"
+    )
 }
+
+const MORE: &str = "A PERIOD is week, month, quarter or year. A week begins on Monday.\n\
+    With - in place of the day, or none, it answers each line of standard input.";
 
 const LAST: &str = "last";
 
-pub(crate) fn round() -> CommandRow {
+pub(crate) fn round() -> &'static CommandRow {
     row!(
         "round", &[DAY, operand!("WEEKDAY"; values: WEEKDAYS)],
         &[NOW, PARSE, ORDER, FORMAT, LONG, JSON, HELP];

@@ -5,7 +5,7 @@ use chrono_datetime::Month;
 use chrono_rules::{End, Frequency, NumberSet, PlaceSet, Rule};
 use zoned_cron::Schedule;
 
-pub(crate) fn command() -> CommandRow {
+pub(crate) fn command() -> &'static CommandRow {
     row!(
         "explain", &[operand!("CRON|RRULE")], PLAIN;
         help: "tell a schedule or a rule in plain English",

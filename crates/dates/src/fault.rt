@@ -65,7 +65,7 @@ impl Asked<'_> {
         }
     }
 
-    // The begin of what is said of a word.
+    // The beginning of what is said of a word.
     pub(crate) fn blame(&self, word: Word<'_>) -> Buffer {
         let mut said = Buffer::new(self.rt.alloc());
         said.put("dates: ");
@@ -153,7 +153,7 @@ impl Asked<'_> {
             value,
             " is missing; usage: "
         );
-        put_usage(&mut said, NAME, &self.command);
+        put_usage(&mut said, NAME, self.command);
         self.refuse(&said);
     }
 
@@ -170,7 +170,7 @@ impl Asked<'_> {
             Why::Unknown => {
                 let mut said = self.blame(word);
                 said.put(": no such option");
-                let near = near_option(self.rt, &self.command, word.text);
+                let near = near_option(self.rt, self.command, word.text);
                 self.refuse_near(said, near);
             }
             Why::Twice => self.wrong(word, "expected each option once"),
@@ -265,7 +265,7 @@ impl fmt::Display for Escape {
 // The name of a command, or of a day, that is most like a word.
 fn near_command(rt: &HostRuntime, text: &str) -> Result<Option<&'static str>, AllocError> {
     let mut names: Vec<&'static str> = Vec::new(rt.alloc());
-    for command in &commands() {
+    for command in commands() {
         if !command.name.is_empty() {
             names.push(command.name)?;
         }

@@ -13,7 +13,7 @@ const PATTERNS: &str =
     With - in place of the last argument, or without it, it answers each line of\n\
     standard input.";
 
-pub(crate) fn format() -> CommandRow {
+pub(crate) fn format() -> &'static CommandRow {
     row!(
         "format", &[PATTERN, DAY_OR_LINES], &[ZONED, NOW, UNIX, PARSE, ORDER, JSON, HELP];
         help: "print a day or a date-time by a pattern",
@@ -22,7 +22,7 @@ pub(crate) fn format() -> CommandRow {
     )
 }
 
-pub(crate) fn parse() -> CommandRow {
+pub(crate) fn parse() -> &'static CommandRow {
     row!(
         "parse", &[PATTERN, operand!("TEXT"; required: false)], &[FORMAT, LONG, JSON, HELP];
         help: "read a day or a date-time by a pattern",

@@ -13,7 +13,7 @@ const IN: Opt = option!("--in", "MONTH"; "those of a month as 2024-02, or of a y
 
 const ON: Opt = option!("--on", "DAYS"; "those on weekdays, as sat or sat,sun");
 
-pub(crate) fn grep() -> CommandRow {
+pub(crate) fn grep() -> &'static CommandRow {
     row!(
         "grep", &[operand!("FILE"; required: false)], &[BEFORE, AFTER, IN, ON, NOW, PARSE, ORDER, HELP];
         help: "print the lines whose day is looked for",
@@ -22,14 +22,13 @@ pub(crate) fn grep() -> CommandRow {
     )
 }
 
-pub(crate) fn sort() -> CommandRow {
-    CommandRow {
-        name: SORT,
-        options: &[NOW, PARSE, ORDER, HELP],
+pub(crate) fn sort() -> &'static CommandRow {
+    row!(
+        SORT, &[operand!("FILE"; required: false)], &[NOW, PARSE, ORDER, HELP];
         help: "print lines in the order of their days",
-        example: "$ printf 'food 2024-03-02\\nrent 2024-02-28\\n' | dates sort\nrent 2024-02-28\nfood 2024-03-02",
-        ..grep()
-    }
+        more: LINES,
+        example: "$ printf 'food 2024-03-02\\nrent 2024-02-28\\n' | dates sort\nrent 2024-02-28\nfood 2024-03-02"
+    )
 }
 
 const SORT: &str = "sort";

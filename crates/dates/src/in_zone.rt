@@ -7,7 +7,7 @@ const FROM_ZONE: Opt = option!(
     "whose local time a date-time without offset is\n(default: that of the first ZONE)"
 );
 
-pub(crate) fn command() -> CommandRow {
+pub(crate) fn command() -> &'static CommandRow {
     row!(
         "in", &[ZONE, operand!("TIME")], &[FROM_ZONE, NOW, UNIX, PARSE, ORDER, FORMAT, LONG, JSON, HELP];
         help: "print what a time zone's clock shows",

@@ -2,7 +2,7 @@
 
 use crate::prelude::*;
 
-pub(crate) fn command() -> CommandRow {
+pub(crate) fn command() -> &'static CommandRow {
     row!(
         "leap", &[YEAR], PLAIN;
         help: "print whether a year is a leap year",

@@ -13,7 +13,7 @@ macro_rules! put {
 // The row of a command: its name, its operands and its options, and what help says of it.
 macro_rules! row {
     ($name:expr, $operands:expr, $options:expr; $($field:ident: $text:expr),*) => {
-        CommandRow { name: $name, operands: $operands, options: $options, $($field: $text),* }
+        &CommandRow { name: $name, operands: $operands, options: $options, $($field: $text),* }
     };
 }
 

@@ -30,7 +30,7 @@ impl Now {
 impl Asked<'_> {
     // Takes what the clock shows, if a word names a day by it.
     pub(crate) fn take_clock(&mut self) {
-        if !asks_clock(&self.command, &self.words) {
+        if !asks_clock(self.command, &self.words) {
             return;
         }
         let zone_word = self.value("--zone");

@@ -5,7 +5,7 @@ use crate::prelude::*;
 // The command that prints the day alone.
 const TODAY: &str = "today";
 
-pub(crate) fn now() -> CommandRow {
+pub(crate) fn now() -> &'static CommandRow {
     row!(
         "now", &[], &[IN_ZONE, NOW, UNIX, FORMAT, LONG, JSON, HELP];
         help: "print what time it is, to the second",
@@ -14,14 +14,13 @@ pub(crate) fn now() -> CommandRow {
     )
 }
 
-pub(crate) fn today() -> CommandRow {
-    CommandRow {
-        name: TODAY,
-        options: &[IN_ZONE, NOW, FORMAT, LONG, JSON, HELP],
+pub(crate) fn today() -> &'static CommandRow {
+    row!(
+        TODAY, &[], &[IN_ZONE, NOW, FORMAT, LONG, JSON, HELP];
         help: "print what day it is",
-        example: "$ dates today --zone Asia/Tokyo | wc -c\n11",
-        ..now()
-    }
+        more: ZONES,
+        example: "$ dates today --zone Asia/Tokyo | wc -c\n11"
+    )
 }
 
 // The day, or the second, that the zone's clock shows now.

@@ -3,7 +3,7 @@
 use crate::each::{Asks, answer_each};
 use crate::prelude::*;
 
-pub(crate) fn command() -> CommandRow {
+pub(crate) fn command() -> &'static CommandRow {
     row!(
         "open", &[DAY_OR_LINES], &[WEEKEND, CALENDAR, HOLIDAYS, NOW, PARSE, ORDER, JSON, HELP];
         help: "print whether a day is open",

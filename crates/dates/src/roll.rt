@@ -14,7 +14,7 @@ pub(crate) const CONVENTIONS: &[&str] = &[
     "unadjusted",
 ];
 
-pub(crate) fn command() -> CommandRow {
+pub(crate) fn command() -> &'static CommandRow {
     row!(
         "roll", &[DAY_OR_LINES, operand!("CONVENTION"; values: CONVENTIONS)],
         &[WEEKEND, CALENDAR, HOLIDAYS, NOW, PARSE, ORDER, FORMAT, LONG, JSON, HELP];

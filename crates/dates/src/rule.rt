@@ -22,7 +22,7 @@ const HOW_MANY: Opt = option!(
     "--count", "N"; "how many at most\n(default: all, to the end of the rule or the calendar)"
 );
 
-pub(crate) fn command() -> CommandRow {
+pub(crate) fn command() -> &'static CommandRow {
     row!(
         "rule", &[operand!("RRULE")], 
         &[START, FROM, HOW_MANY, EXDATE, RDATE, BY_CLOCK, NOW, PARSE, ORDER, FORMAT, LONG, JSON, HELP];

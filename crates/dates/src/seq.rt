@@ -9,7 +9,7 @@ const SKIP: Opt = option!("--skip", "DAYS"; "weekdays that are left out, as sat,
 
 const HOW_MANY: Opt = option!("--count", "N"; "how many at most (default: all)");
 
-pub(crate) fn command() -> CommandRow {
+pub(crate) fn command() -> &'static CommandRow {
     row!(
         "seq", &[DAY, DAY_OR_LINES, operand!("SPAN"; required: false)],
         &[SKIP, HOW_MANY, NOW, PARSE, ORDER, FORMAT, LONG, JSON, HELP];

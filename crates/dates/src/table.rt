@@ -65,7 +65,7 @@ macro_rules! answer_named {
 const ROWS: usize = each_command!(count_rows);
 
 // The rows of all commands. Each comes from a function, so that no proof reads all of them at once.
-pub(crate) fn commands() -> [CommandRow; ROWS] {
+pub(crate) fn commands() -> [&'static CommandRow; ROWS] {
     each_command!(list_rows)
 }
 
@@ -78,7 +78,7 @@ fn answer(asked: &mut Asked<'_>) {
 pub(crate) const NAME: &str = "dates";
 
 /// The program with its commands.
-pub(crate) fn program(commands: &[CommandRow]) -> Program<'_> {
+pub(crate) fn program<'a>(commands: &'a [&'static CommandRow]) -> Program<'a> {
     Program {
         name: NAME,
         help: "answer what one asks of dates",
@@ -120,10 +120,10 @@ pub(crate) fn answer_arguments<'a>(rt: &'a HostRuntime, arguments: &'a [String])
 }
 
 // The command with that name, and a day where there is none.
-fn command_named(name: &str) -> CommandRow {
-    for command in &commands() {
+fn command_named(name: &str) -> &'static CommandRow {
+    for command in commands() {
         if command.name == name {
-            return *command;
+            return command;
         }
     }
     crate::day::command()
@@ -195,11 +195,11 @@ impl<'a> Asked<'a> {
 
     // Ends where an operand or an option is missing, or an operand is one too many.
     fn check_count(&mut self) {
-        if let Some(place) = self.words.missing_operand(&self.command) {
+        if let Some(place) = self.words.missing_operand(self.command) {
             self.missing_operand(place);
         } else if let Some(option) = self.words.missing(self.command.options) {
             self.missing(option.name, option.value);
-        } else if let Some(extra) = self.words.extra_operand(&self.command) {
+        } else if let Some(extra) = self.words.extra_operand(self.command) {
             self.check_first(self.word(0));
             self.wrong(extra, NO_MORE);
         }
@@ -207,9 +207,9 @@ impl<'a> Asked<'a> {
 
     // Takes the patterns by which the command prints and reads.
     fn take_patterns(&mut self) {
-        let format = pattern_word(&self.command, &self.words, FORMAT);
+        let format = pattern_word(self.command, &self.words, FORMAT);
         self.format = self.pattern_if(format);
-        let parse = pattern_word(&self.command, &self.words, PARSE);
+        let parse = pattern_word(self.command, &self.words, PARSE);
         self.reading.pattern = self.reading_if(parse);
     }
 
@@ -244,7 +244,7 @@ fn print_help(asked: &mut Asked<'_>) {
     if asked.command.name.is_empty() {
         put_program_help(&mut page, &program(&rows));
     } else {
-        put_command_help(&mut page, &program(&rows), &asked.command);
+        put_command_help(&mut page, &program(&rows), asked.command);
     }
     asked.print_page(&page);
 }

@@ -6,7 +6,7 @@ use crate::prelude::*;
 /// The names of tests.
 pub(crate) const TESTS: &[&str] = &["-lt", "-le", "-eq", "-ne", "-ge", "-gt"];
 
-pub(crate) fn command() -> CommandRow {
+pub(crate) fn command() -> &'static CommandRow {
     row!(
         "test", &[DAY, operand!("TEST"; values: TESTS), DAY], &[ZONED, NOW, UNIX, PARSE, ORDER, JSON, HELP];
         help: "tell by the exit status which day is earlier",

@@ -4,7 +4,7 @@ use crate::each::{Asks, answer_each};
 use crate::prelude::*;
 use dates_answer::Quoted;
 
-pub(crate) fn command() -> CommandRow {
+pub(crate) fn command() -> &'static CommandRow {
     row!(
         "week", &[DAY_OR_LINES], &[NOW, PARSE, ORDER, FORMAT, LONG, JSON, HELP];
         help: "print the first and the last day of a week",

@@ -3,7 +3,7 @@
 use crate::each::{Asks, answer_each};
 use crate::prelude::*;
 
-pub(crate) fn command() -> CommandRow {
+pub(crate) fn command() -> &'static CommandRow {
     row!(
         "weekday", &[DAY_OR_LINES], &[NOW, PARSE, ORDER, JSON, HELP];
         help: "print the weekday of a day",

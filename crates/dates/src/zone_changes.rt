@@ -5,7 +5,7 @@ use crate::prelude::*;
 const OF_YEAR: Opt =
     option!("--year", "YEAR"; "of which year (default: all, and the rule behind them)");
 
-pub(crate) fn command() -> CommandRow {
+pub(crate) fn command() -> &'static CommandRow {
     row!(
         "zone", &[ZONE], &[OF_YEAR, FORMAT, LONG, JSON, HELP];
         help: "print when a time zone's clock is set",

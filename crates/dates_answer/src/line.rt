@@ -1,7 +1,7 @@
 //! Lines of answers, as texts or as objects of JSON (RFC 8259).
 ghost use Rattle.std.specs.Prelude.{◌≡◌, Some};
 ghost use Rattle.std.specs.Fmt.{WritesOnOk};
-ghost use Rattle.dates_answer.specs.Lines.{reply_object, reply_text, day_object, key_text, line_text, names_object, numbers_in_object, parts_text};
+ghost use Rattle.dates_answer.specs.Lines.{reply_object, reply_text, day_object, key_text, line_text, months_days_text, names_object, numbers_in_object, parts_text};
 
 use crate::form::OutputForm;
 use crate::names::{DayNames, OrdinalName, WeekName};
@@ -141,14 +141,35 @@ impl fmt::Display for Parts {
             months,
             days,
         } = *self;
+        let rest = MonthsDays { months, days };
         match (years, months, days) {
-            (0, 0, _) => write!(f, "{days}d"),
-            (0, _, 0) => write!(f, "{months}m"),
-            (0, _, _) => write!(f, "{months}m {days}d"),
+            (0, _, _) => write!(f, "{rest}"),
             (_, 0, 0) => write!(f, "{years}y"),
-            (_, 0, _) => write!(f, "{years}y {days}d"),
-            (_, _, 0) => write!(f, "{years}y {months}m"),
-            _ => write!(f, "{years}y {months}m {days}d"),
+            _ => write!(f, "{years}y {rest}"),
+        }
+    }
+}
+
+/// Months and days behind years.
+#[derive(Clone, Copy)]
+pub struct MonthsDays {
+    /// The months.
+    pub months: i64,
+    /// The days.
+    pub days: i64,
+}
+
+impl fmt::Display for MonthsDays {
+    ghost output = { λ it. Some (months_days_text it.months it.days) };
+
+    /// Writes months and days as `2m 3d`: one that is 0 is left out, and both are `0d`.
+    #[tactic(auto, unfolding(crate::specs::Lines::months_days_text))]
+    fn fmt<W: fmt::Write>(&self, f: &mut fmt::Formatter<W>) -> fmt::Result {
+        let MonthsDays { months, days } = *self;
+        match (months, days) {
+            (0, _) => write!(f, "{days}d"),
+            (_, 0) => write!(f, "{months}m"),
+            _ => write!(f, "{months}m {days}d"),
         }
     }
 }

@@ -1,6 +1,6 @@
 //! A row of a sheet, as it is printed.
 ghost use Rattle.std.specs.Prelude.{Some};
-ghost use Rattle.dates_answer.specs.Sheets.{cell_text, row_text};
+ghost use Rattle.dates_answer.specs.Sheets.{cell_text, label_text, row_text};
 
 use std::fmt;
 
@@ -48,11 +48,28 @@ impl fmt::Display for SheetRow {
 
     /// Writes the week and the cells.
     fn fmt<W: fmt::Write>(&self, f: &mut fmt::Formatter<W>) -> fmt::Result {
+        let week = WeekLabel { week: self.week };
         let [a, b, c, d, e, g, h] = self.cells;
+        write!(f, "{week} {a}{b}{c}{d}{e}{g}{h}")
+    }
+}
+
+/// What stands in front of a row, as `W09`.
+#[derive(Clone, Copy)]
+pub struct WeekLabel {
+    /// The number of the row's ISO week.
+    pub week: Option<u32>,
+}
+
+impl fmt::Display for WeekLabel {
+    ghost output = { λ label. Some (label_text label.week) };
+
+    /// Writes the week behind `W`, or spaces.
+    fn fmt<W: fmt::Write>(&self, f: &mut fmt::Formatter<W>) -> fmt::Result {
         match self.week {
-            None => write!(f, "    {a}{b}{c}{d}{e}{g}{h}"),
-            Some(week) if week < 10 => write!(f, "W0{week} {a}{b}{c}{d}{e}{g}{h}"),
-            Some(week) => write!(f, "W{week} {a}{b}{c}{d}{e}{g}{h}"),
+            None => f.write_str("   "),
+            Some(week) if week < 10 => write!(f, "W0{week}"),
+            Some(week) => write!(f, "W{week}"),
         }
     }
 }
