@@ -1,4 +1,5 @@
--- Which texts a pattern reads: pieces in a row, one for each item. Nothing here says how a reader finds them.
+-- Which texts a pattern reads: pieces in a row, one for each item. How long a name is, how long the name of UTC is, and how a part is put to
+-- others is said by the definitions of the reader.
 use Rattle.std.specs.Prelude.{◌≡◌, ℕ, ◌+◌, ◌-◌, ◌*◌, ◌^◌, ◌<◌, ◌⊎◌, min, Bool, true, false, if◌then◌else◌, List, [], ◌∷◌, ◌++◌, length, take, ℤ, pos, Option, Some, None, Ok}
 use Rattle.std.specs.List.{list_all}
 use Rattle.std.specs.Str.{byte}

@@ -124,7 +124,7 @@ pub fn known_errors()
 /// - a year below 0, and a year of four digits with digits behind it;
 /// - midnight on the clock of twelve hours, and a leap second with its fraction;
 /// - Sunday by its number and by its name;
-/// - the greatest numbers: second 60, day 366 of the year, ISO week 53, and week 0 of the year, which is the least.
+/// - the greatest numbers: second 60, day 366 of the year, ISO week 53, quarter 4, and week 0 of the year, which is the least.
 pub fn known_readings()
     ensures date { text_read (codes "%d %b %Y") (codes "9 feb  2024")
         ≡ Ok (record no_parts { day = Some (pos 9); month = Some (pos 2); year = Some (pos 2024) }) }
@@ -142,12 +142,14 @@ pub fn known_readings()
     ensures last_day { text_read (codes "%j") (codes "366") ≡ Ok (record no_parts { ordinal = Some (pos 366) }) }
     ensures last_week { text_read (codes "%V") (codes "53") ≡ Ok (record no_parts { isoweek = Some (pos 53) }) }
     ensures week_zero { text_read (codes "%U %W") (codes "00 0") ≡ Ok (record no_parts { week_from_sun = Some (pos 0); week_from_mon = Some (pos 0) }) }
+    ensures last_quarter { text_read (codes "%q") (codes "4") ≡ Ok (record no_parts { quarter = Some (pos 4) }) }
 {}
 
 /// States where known texts are wrong, by the bytes that are left:
 ///
 /// - a second value of a field, also in a group;
 /// - numbers out of range: month 13, day 32, second 61, hour 24, minute 60, day 0 and 367 of the year, ISO week 54, and week 54 of the year;
+/// - quarters 0 and 5, and a point with no digit behind it;
 /// - hour 00 of the clock of twelve hours, and Sunday as 7 by `%w`, since neither is written so;
 /// - another byte than that of the pattern, another word, and no digit;
 /// - an end that comes too soon, and one that comes too late.
@@ -166,6 +168,8 @@ pub fn known_reading_errors()
     ensures day_of_year { text_read (codes "%j") (codes "367") ≡ Err (record { cause = OutOfRange; left = 3 }) }
     ensures iso_week { text_read (codes "W%V") (codes "W54") ≡ Err (record { cause = OutOfRange; left = 2 }) }
     ensures week { text_read (codes "%U") (codes "54") ≡ Err (record { cause = OutOfRange; left = 2 }) }
+    ensures quarter_zero { text_read (codes "%q") (codes "0") ≡ Err (record { cause = OutOfRange; left = 1 }) }
+    ensures quarter { text_read (codes "%q") (codes "5") ≡ Err (record { cause = OutOfRange; left = 1 }) }
     ensures half_hour { text_read (codes "%I") (codes "00") ≡ Err (record { cause = OutOfRange; left = 2 }) }
     ensures sunday { text_read (codes "%w") (codes "7") ≡ Err (record { cause = OutOfRange; left = 1 }) }
     ensures slash { text_read (codes "%F") (codes "2024/02/29") ≡ Err (record { cause = Invalid; left = 6 }) }
@@ -174,6 +178,8 @@ pub fn known_reading_errors()
     ensures no_weekday { text_read (codes "%a") (codes "Foo") ≡ Err (record { cause = Invalid; left = 3 }) }
     ensures no_digit { text_read (codes "%H") (codes "x") ≡ Err (record { cause = Invalid; left = 1 }) }
     ensures no_minute { text_read (codes "%R") (codes "09:") ≡ Err (record { cause = TooShort; left = 0 }) }
+    ensures no_fraction { text_read (codes "%S%.f") (codes "05.") ≡ Err (record { cause = TooShort; left = 0 }) }
+    ensures no_digit_of_fraction { text_read (codes "%S%.f") (codes "05.x") ≡ Err (record { cause = Invalid; left = 1 }) }
     ensures second_behind { text_read (codes "%R") (codes "09:30:15") ≡ Err (record { cause = TooLong; left = 3 }) }
 {}
 
@@ -261,7 +267,8 @@ pub fn texts_are_read_by_their_pieces()
 ///
 /// - sixty minutes, a whole day, and minutes that are missing;
 /// - an offset with no sign, and one that contradicts another;
-/// - a second that no date has.
+/// - a second that no date has, and one of 19 digits;
+/// - `%+` with another byte than `T` or a blank between the date and the time, and with no time.
 pub fn known_reading_errors_of_offsets()
     ensures sixty { text_read (codes "%z") (codes "+0960") ≡ Err (record { cause = OutOfRange; left = 2 }) }
     ensures day { text_read (codes "%z") (codes "-2400") ≡ Err (record { cause = OutOfRange; left = 5 }) }
@@ -271,6 +278,9 @@ pub fn known_reading_errors_of_offsets()
     ensures sign { text_read (codes "%:::z") (codes "09") ≡ Err (record { cause = Invalid; left = 2 }) }
     ensures twice { text_read (codes "%z%z") (codes "+0930-0930") ≡ Err (record { cause = Impossible; left = 5 }) }
     ensures late { text_read (codes "%s") (codes "8210266876800") ≡ Err (record { cause = OutOfRange; left = 13 }) }
+    ensures digits { text_read (codes "%s") (codes "1234567890123456789") ≡ Err (record { cause = OutOfRange; left = 19 }) }
+    ensures other_between { text_read (codes "%+") (codes "2024-02-29x09:30:05Z") ≡ Err (record { cause = Invalid; left = 10 }) }
+    ensures none_between { text_read (codes "%+") (codes "2024-02-29") ≡ Err (record { cause = TooShort; left = 0 }) }
 {}
 
 /// States that the specifiers of a pattern tell what its texts name, before any text is read:
@@ -433,7 +443,8 @@ pub fn separable_patterns_read_back()
         → names_zoned (named_parts bytes) ≡ true → tells_zoned (named_parts bytes) m x ≡ true → IsZonedBy bytes (text_at_offset bytes m x) m x }
 {}
 
-/// States that what a separable pattern loses it loses for good: the value that its text gives writes the same text again.
+/// States that what a separable pattern loses of a year or of a fraction it loses for good: the value that its text gives writes the same
+/// text again. An offset has to be one that the pattern keeps.
 ///
 /// So `%d.%m.%y` of a date of 1900 gives one of 2000, with the same text, and `%T%.3f` loses the microseconds alone. The pattern writes the same
 /// of `as_written bytes m`: of the date-time with as many digits of its fraction as the pattern has. It keeps that one whole, as the law above says.

@@ -269,8 +269,10 @@ impl<'a> Pattern<'a> {
         self.names.date_time
     }
 
-    /// Returns whether the pattern is separable for the years 0 to 9999. Then each of its texts shows where every item ends, and it reads back
-    /// what it writes. The law `separable_patterns_read_back` says what that is.
+    /// Returns whether the pattern is separable for the years 0 to 9999. Then each of its texts shows where every item ends.
+    ///
+    /// The law `separable_patterns_read_back` says which values it then reads back. A fraction needs its second: `%R%.f` is separable, and a
+    /// text of it with a fraction names no time.
     ///
     /// Such a pattern has no digit behind a number with fewer digits than are read at most. So `%Y%m%d` is separable, and `%Y%-m%d` is not.
     /// No pattern with `%Z` is, since `%Z` reads all bytes up to a blank, also those of what stands behind it.

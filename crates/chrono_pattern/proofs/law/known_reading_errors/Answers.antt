@@ -102,3 +102,19 @@ returns-clause-no_half c = refl
 pub returns-clause-no_weekday : goal.returns-clause-no_weekday
 unfolding read_from literal_read number_read number_put signed_read digits_read class_len put digits_of natural_of word_read month_read weekday_read half_read subsecond_read places_read month_of_letters weekday_of_letters opened_step unpadded_step date_number_at time_number_at word_at group_at group_read
 returns-clause-no_weekday c = refl
+
+pub returns-clause-quarter_zero : goal.returns-clause-quarter_zero
+unfolding read_from literal_read number_read number_put signed_read digits_read class_len put digits_of natural_of word_read month_read weekday_read half_read subsecond_read places_read month_of_letters weekday_of_letters opened_step unpadded_step date_number_at time_number_at word_at group_at group_read
+returns-clause-quarter_zero c = refl
+
+pub returns-clause-quarter : goal.returns-clause-quarter
+unfolding read_from literal_read number_read number_put signed_read digits_read class_len put digits_of natural_of word_read month_read weekday_read half_read subsecond_read places_read month_of_letters weekday_of_letters opened_step unpadded_step date_number_at time_number_at word_at group_at group_read
+returns-clause-quarter c = refl
+
+pub returns-clause-no_fraction : goal.returns-clause-no_fraction
+unfolding read_from literal_read number_read number_put signed_read digits_read class_len put digits_of natural_of word_read month_read weekday_read half_read subsecond_read places_read month_of_letters weekday_of_letters opened_step unpadded_step date_number_at time_number_at word_at group_at group_read
+returns-clause-no_fraction c = refl
+
+pub returns-clause-no_digit_of_fraction : goal.returns-clause-no_digit_of_fraction
+unfolding read_from literal_read number_read number_put signed_read digits_read class_len put digits_of natural_of word_read month_read weekday_read half_read subsecond_read places_read month_of_letters weekday_of_letters opened_step unpadded_step date_number_at time_number_at word_at group_at group_read
+returns-clause-no_digit_of_fraction c = refl

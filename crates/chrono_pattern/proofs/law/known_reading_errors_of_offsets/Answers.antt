@@ -41,3 +41,15 @@ returns-clause-empty c = refl
 pub returns-clause-letter : goal.returns-clause-letter
 unfolding read_from literal_read number_read number_put signed_read digits_read class_len put digits_of natural_of group_read subsecond_read places_read iso_read two_taken minutes_taken size_taken signed_offset_read utc_or_offset offset_read put_stamp stamp_digits signed_stamp opened_step unpadded_step date_number_at time_number_at word_at group_at
 returns-clause-letter c = refl
+
+pub returns-clause-digits : goal.returns-clause-digits
+unfolding read_from literal_read number_read number_put signed_read digits_read class_len put digits_of natural_of group_read subsecond_read places_read iso_read two_taken minutes_taken size_taken signed_offset_read utc_or_offset offset_read put_stamp stamp_digits signed_stamp opened_step unpadded_step date_number_at time_number_at word_at group_at
+returns-clause-digits c = refl
+
+pub returns-clause-other_between : goal.returns-clause-other_between
+unfolding read_from literal_read number_read number_put signed_read digits_read class_len put digits_of natural_of group_read subsecond_read places_read iso_read two_taken minutes_taken size_taken signed_offset_read utc_or_offset offset_read put_stamp stamp_digits signed_stamp opened_step unpadded_step date_number_at time_number_at word_at group_at
+returns-clause-other_between c = refl
+
+pub returns-clause-none_between : goal.returns-clause-none_between
+unfolding read_from literal_read number_read number_put signed_read digits_read class_len put digits_of natural_of group_read subsecond_read places_read iso_read two_taken minutes_taken size_taken signed_offset_read utc_or_offset offset_read put_stamp stamp_digits signed_stamp opened_step unpadded_step date_number_at time_number_at word_at group_at
+returns-clause-none_between c = refl

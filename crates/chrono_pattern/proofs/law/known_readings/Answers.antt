@@ -53,3 +53,7 @@ returns-clause-week_zero c = refl
 pub returns-clause-blanks : goal.returns-clause-blanks
 unfolding read_from literal_read number_read number_put signed_read digits_read class_len put digits_of natural_of word_read month_read weekday_read half_read subsecond_read places_read month_of_letters weekday_of_letters opened_step unpadded_step date_number_at time_number_at word_at group_at
 returns-clause-blanks c = refl
+
+pub returns-clause-last_quarter : goal.returns-clause-last_quarter
+unfolding read_from literal_read number_read number_put signed_read digits_read class_len put digits_of natural_of word_read month_read weekday_read half_read subsecond_read places_read month_of_letters weekday_of_letters opened_step unpadded_step date_number_at time_number_at word_at group_at
+returns-clause-last_quarter c = refl
