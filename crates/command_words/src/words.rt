@@ -166,11 +166,7 @@ fn put_option<'a>(
 }
 
 // Puts an option behind the others with a value, if it may have that.
-fn put_value<'a>(
-    found: &mut Arguments<'a>,
-    option: &'static Opt,
-    value: Word<'a>,
-) -> Step<'a>
+fn put_value<'a>(found: &mut Arguments<'a>, option: &'static Opt, value: Word<'a>) -> Step<'a>
     ensures { IfOk result (λ r. IsStep (valued option.now (got found.old.operands.items found.old.options.items) (seen value.entry)) r (got found.new.operands.items found.new.options.items)) }
 {
     if may_be(option, value.text) {
