@@ -349,7 +349,7 @@ impl Daylight {
     }
 
     // The same where no change is near, by the mean year of the second. `None` says nothing.
-    #[inline]
+    #[inline(always)]
     fn hold_far(&self, standard: FixedOffset, second: i64) -> Option<Hold>
         requires first { pos 0 ≤ℤ second }
         requires last { second ≤ℤ pos 12_622_867_200 }

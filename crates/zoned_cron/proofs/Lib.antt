@@ -7,6 +7,7 @@ mod Stretches
 mod FirstPlanned
 mod HeldInstants
 mod Settled
+mod ShownOnce
 mod Laws
 mod DayFirings
 mod GapDays

@@ -82,16 +82,21 @@ settled_only ahead l u h shows = λ v. (
   λ e. subst (λ (x : ℤ). Shows ahead l x) (sym e) shows,
 )
 
-pub settled_fires : (s : FieldSets) (ahead : ℤ → ℤ) (p : Policy) (l u : ℤ) → IsEpochSecond u → IsSettled ahead u → Shows ahead l u → IsPlanned s l → Fires s ahead p u
-settled_fires s ahead p l u date settled shows planned =
-    let local : (u +ℤ ahead u) ≡ epoch_second planned.moment = shows ∙ sym planned.second in
+-- where the clock shows a planned local time at one instant alone, the schedule fires there
+pub only_fires : (s : FieldSets) (ahead : ℤ → ℤ) (p : Policy) (l u : ℤ) → IsEpochSecond u → IsOffset (ahead u) → IsOnly (Shows ahead l) u → IsPlanned s l → Fires s ahead p u
+only_fires s ahead p l u date near only planned =
+    let here : IsOnly (Shows ahead (epoch_second planned.moment)) u = subst (λ (x : ℤ). IsOnly (Shows ahead x) u) (sym planned.second) only in
+    let local : (u +ℤ ahead u) ≡ epoch_second planned.moment = (here u).1 refl in
     record {
-      instant = record { utc = date; local = subst (λ (x : ℤ). IsEpochSecond x) (sym local) (IsEpochSecond-moment planned.moment planned.exists); near = settled.near u };
+      instant = record { utc = date; local = subst (λ (x : ℤ). IsEpochSecond x) (sym local) (IsEpochSecond-moment planned.moment planned.exists); near = near };
       planned = planned.moment;
       exists = planned.exists;
       due = planned.due;
-      takes = inl (only_taken p.fold ahead (epoch_second planned.moment) u (settled_only ahead (epoch_second planned.moment) u settled local));
+      takes = inl (only_taken p.fold ahead (epoch_second planned.moment) u here);
     }
+
+pub settled_fires : (s : FieldSets) (ahead : ℤ → ℤ) (p : Policy) (l u : ℤ) → IsEpochSecond u → IsSettled ahead u → Shows ahead l u → IsPlanned s l → Fires s ahead p u
+settled_fires s ahead p l u date settled shows planned = only_fires s ahead p l u date (settled.near u) (settled_only ahead l u settled shows) planned
 
 -- and no earlier instant shows as much
 pub settled_least : (ahead : ℤ → ℤ) (l c u : ℤ) → IsSettled ahead c → Shows ahead l c → l ≤ℤ (u +ℤ ahead u) → c ≤ℤ u
@@ -144,6 +149,16 @@ first_there s ahead p from until start local l c holds begun long is later plann
 pub first_least : (s : FieldSets) (ahead : ℤ → ℤ) (p : Policy) (from until start local l c : ℤ) → HoldsUntil ahead from until → (from +ℤ pos 172_800) ≤ℤ start → (start +ℤ pos 172_800) ≤ℤ until → local ≡ (start +ℤ ahead from) → ((k : ℤ) → local <ℤ k → IsPlanned s k → l ≤ℤ k) → Shows ahead l c → IsSettled ahead c → (u : ℤ) → start <ℤ u → Fires s ahead p u → c ≤ℤ u
 first_least s ahead p from until start local l c holds begun long is least shows settled u later f =
     settled_least ahead l c u settled shows (all_reach s ahead p from until start local l holds settled.near (omega (arith, ints, begun)) long is least u later f)
+
+-- nothing fires in a stretch before the instant at which it shows the next planned time
+pub least_in_stretch : (s : FieldSets) (ahead : ℤ → ℤ) (p : Policy) (until start local l c : ℤ) → HoldsUntil ahead start until → ((v : ℤ) → IsOffset (ahead v)) → local ≡ (start +ℤ ahead start) → ((k : ℤ) → local <ℤ k → IsPlanned s k → l ≤ℤ k) → c ≡ (l -ℤ ahead start) → c <ℤ until → (u : ℤ) → start <ℤ u → Fires s ahead p u → c ≤ℤ u
+least_in_stretch s ahead p until start local l c holds offsets is least at within u later f =
+    by_lt_z u c
+    (λ lt.
+    let before : u <ℤ until = omega (arith, ints, lt, within) in
+    let more : l ≤ℤ (u +ℤ ahead u) = reaches s ahead p start local u (Some l) is least f (shows_more ahead start until u holds offsets later (inl before)) in
+    omega (arith, ints, at, more, holds u (omega (arith, ints, later)) before))
+    (λ ge. ge)
 
 -- an instant at the offset of the stretch, in it and far from its ends
 pub near_shows : (ahead : ℤ → ℤ) (from until l c : ℤ) → HoldsUntil ahead from until → c ≡ (l -ℤ ahead from) → from ≤ℤ c → c <ℤ until → Shows ahead l c

@@ -88,7 +88,7 @@ pub(crate) fn begun_by(utc: NaiveDateTime) -> i64
 }
 
 // The instant at which a clock shows the local second, where it is so far ahead.
-fn before(local: i64, offset: FixedOffset) -> i64
+pub(crate) fn before(local: i64, offset: FixedOffset) -> i64
     requires { IsEpochSecond local }
     ensures value { result ≡ local -ℤ offset }
     ensures near { IsOffset offset }

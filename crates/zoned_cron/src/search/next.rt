@@ -7,11 +7,11 @@ ghost use Rattle.zoned_cron.specs.Private.{IsAtLeast, IsHeld, IsInDates, IsNextI
 
 use crate::schedule::ZonedSchedule;
 use crate::search::held::Held;
-use crate::search::instants::{DAY, LAST_SECOND, settled_instant};
+use crate::search::instants::{DAY, LAST_SECOND, before, settled_instant};
 use chrono_datetime::NaiveDateTime;
 use chrono_datetime::law::{date_times_exist, first_date_time};
 use chrono_instant::{FromTimestamp, Timestamp};
-use chrono_zoned::{AddOffset, DateTime, InZone, TimeZone};
+use chrono_zoned::{AddOffset, DateTime, InZone, MappedLocalTime, TimeZone};
 
 impl<Z: TimeZone> ZonedSchedule<Z> {
     // The first instant after `start` at which the schedule fires, as a second from 1 January 1970.
@@ -39,11 +39,46 @@ impl<Z: TimeZone> ZonedSchedule<Z> {
         if let Some(found) = self.first_settled(start, held) {
             return Some(found);
         }
+        self.first_near(start)
+    }
+
+    // The same, where a change may be near.
+    #[inline(never)]
+    fn first_near(&self, start: NaiveDateTime) -> Option<DateTime<Z>>
+        ensures { IsNextFiring Z.ahead self.now start result }
+    {
+        if let Some(found) = self.first_shown_once(start) {
+            return Some(found);
+        }
         self.first_searched(start)
     }
 
+    // The same, where the clock keeps its offset from the start until the instant, and shows the planned local time only there. `None` says
+    // nothing.
+    fn first_shown_once(&self, start: NaiveDateTime) -> Option<DateTime<Z>>
+        ensures { IfSome result (λ d. IsNextFiring Z.ahead self.now start (Some d)) }
+    {
+        date_times_exist(start);
+        let stretch = self.zone.stretch_from(start.timestamp());
+        let Some(local) = start.checked_add_offset(stretch.offset) else {
+            return None;
+        };
+        let Some(planned) = self.schedule.next_after(local) else {
+            return None;
+        };
+        date_times_exist(planned);
+        if stretch.until <= before(planned.timestamp(), stretch.offset) {
+            return None;
+        }
+        match self.zone.offset_from_local_datetime(&planned) {
+            MappedLocalTime::Single(_) => {
+                DateTime::from_local_and_offset(planned, stretch.offset, self.zone)
+            }
+            _ => None,
+        }
+    }
+
     // The same, from stretch to stretch.
-    #[inline(never)]
     fn first_searched(&self, start: NaiveDateTime) -> Option<DateTime<Z>>
         ensures { IsNextFiring Z.ahead self.now start result }
     {
