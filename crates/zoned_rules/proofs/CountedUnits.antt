@@ -1,5 +1,5 @@
 -- Which units of the clock INTERVAL leaves out.
-use Rattle.std.proofs.Common.{◌≡◌, ◌==◌, ℕ, zero, suc, ◌%◌, ◌<◌, ◌≤◌, cond, ap, ◌∙◌, refl, arith, ℤ, pos, ◌+ℤ◌, ◌-ℤ◌, ◌*ℤ◌, ◌≤ℤ◌, ◌<ℤ◌, unsigned_abs}
+use Rattle.std.proofs.Common.{◌≡◌, ◌==◌, ℕ, zero, suc, ◌%◌, ◌<◌, ◌≤◌, cond, ap, ◌∙◌, refl, arith, ℤ, pos, neg_ℤ, ◌+ℤ◌, ◌-ℤ◌, ◌*ℤ◌, ◌≤ℤ◌, ◌<ℤ◌, unsigned_abs, of_z, to_z, w64}
 use Rattle.std.specs.Int.{int_rem_euclid}
 use Rattle.std.proofs.lemmas.Bool.{ne_eqb}
 use Rattle.std.proofs.lemmas.Int.{by_lt_z, ints}
@@ -94,3 +94,17 @@ unfolding units_behind
 units_behind-one r n k few =
     let apart : ℤ = unit_number r.steps.unit n k -ℤ unit_number r.steps.unit r.start.date r.start.time.second in
     ap (λ s. unsigned_abs (int_rem_euclid apart (pos s))) (one_interval r.steps.interval few) ∙ omega (arith, rem-less apart 1 (omega arith))
+
+-- ---- how far two units lie apart
+
+abbrev IsUnitNumber : ℤ → Type 0
+IsUnitNumber z = (neg_ℤ (pos 10_000_000_000_000) ≤ℤ z) × (z ≤ℤ pos 10_000_000_000_000)
+
+apart_again : (a b : ℤ) → IsUnitNumber a → IsUnitNumber b → to_z w64 (of_z w64 (to_z w64 (of_z w64 a) -ℤ to_z w64 (of_z w64 b))) ≡ (a -ℤ b)
+apart_again a b one other = omega (arith, casts, one.0, one.1, other.0, other.1)
+
+pub apart_low : (a b : ℤ) → IsUnitNumber a → IsUnitNumber b → neg_ℤ (pos 20_000_000_000_000) ≤ℤ to_z w64 (of_z w64 (to_z w64 (of_z w64 a) -ℤ to_z w64 (of_z w64 b)))
+apart_low a b one other = let is = apart_again a b one other in omega (arith, ints, is, one.0, other.1)
+
+pub apart_high : (a b : ℤ) → IsUnitNumber a → IsUnitNumber b → to_z w64 (of_z w64 (to_z w64 (of_z w64 a) -ℤ to_z w64 (of_z w64 b))) ≤ℤ pos 20_000_000_000_000
+apart_high a b one other = let is = apart_again a b one other in omega (arith, ints, is, one.1, other.0)

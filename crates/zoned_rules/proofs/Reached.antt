@@ -1,5 +1,5 @@
 -- What a search over local times has reached.
-use Rattle.std.proofs.Common.{◌≡◌, ◌⊎◌, inl, inr, ℤ, pos, ◌+ℤ◌, ◌-ℤ◌, ◌≤ℤ◌, ◌<ℤ◌, Option, Some, None, IsSomeAnd, arith, subst}
+use Rattle.std.proofs.Common.{◌≡◌, ◌⊎◌, inl, inr, ℤ, pos, ◌+ℤ◌, ◌-ℤ◌, ◌≤ℤ◌, ◌<ℤ◌, Option, Some, None, IsSomeAnd, arith, subst, sym}
 use Rattle.std.proofs.lemmas.Int.{by_lt_z, ints}
 use Rattle.chrono_datetime.specs.Moment.{Moment}
 use Rattle.chrono_instant.specs.Instants.{epoch_second}
@@ -124,3 +124,9 @@ renamed_reach r ahead after l x y is h = subst (λ (k : ℤ). ReachesAt r ahead 
 
 pub renamed_reach_back : (r : LocalParts) (ahead : ℤ → ℤ) (end l x y : ℤ) → x ≡ y → ReachesBackAt r ahead end l (Some x) → ReachesBackAt r ahead end l (Some y)
 renamed_reach_back r ahead end l x y is h = subst (λ (k : ℤ). ReachesBackAt r ahead end l (Some k)) is h
+
+pub found_there : (r : LocalParts) (ahead : ℤ → ℤ) (after here x X : ℤ) → here ≡ after → X ≡ x → (here <ℤ x) × IsStoodFor r ahead x → (after <ℤ X) × IsStoodFor r ahead X
+found_there r ahead after here x X is is_x found = (omega (arith, ints, is, is_x, found.0), subst (λ (k : ℤ). IsStoodFor r ahead k) (sym is_x) found.1)
+
+pub found_there_back : (r : LocalParts) (ahead : ℤ → ℤ) (end here x X : ℤ) → here ≡ end → X ≡ x → (x <ℤ here) × IsStoodFor r ahead x → (X <ℤ end) × IsStoodFor r ahead X
+found_there_back r ahead end here x X is is_x found = (omega (arith, ints, is, is_x, found.0), subst (λ (k : ℤ). IsStoodFor r ahead k) (sym is_x) found.1)

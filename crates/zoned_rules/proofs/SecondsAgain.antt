@@ -1,5 +1,5 @@
 -- Seconds that come back as they, and what they are compared with.
-use Rattle.std.proofs.Common.{◌≡◌, true, false, IsTrue, IsFalse, int_le, ℤ, pos, neg_ℤ, ◌+ℤ◌, ◌-ℤ◌, ◌≤ℤ◌, ◌<ℤ◌, of_z, to_z, w64, arith, refl}
+use Rattle.std.proofs.Common.{◌≡◌, true, false, IsTrue, IsFalse, int_le, ℤ, pos, neg_ℤ, ◌+ℤ◌, ◌-ℤ◌, ◌≤ℤ◌, ◌<ℤ◌, ◌<◌, unsigned_abs, of_z, to_z, w64, arith, refl}
 use Rattle.std.specs.Int.RustNames.{int_lt}
 use Rattle.std.proofs.lemmas.Int.{ints}
 use Rattle.chrono_datetime.proofs.Signed.{casts}
@@ -79,5 +79,82 @@ far_high n N date is = omega (arith, ints, date.1, is)
 pub at_least : (n N u : ℤ) → N ≡ n → n ≤ℤ u → u ≤ℤ n → N ≡ u
 at_least n N u is le ge = omega (arith, ints, is, le, ge)
 
+pub found_behind : (start S s n N : ℤ) → S ≡ start → S ≤ℤ s → s <ℤ n → N ≡ n → start <ℤ N
+found_behind start S s n N is le later is_n = omega (arith, ints, is, le, later, is_n)
+
 pub found_before : (end E s n N : ℤ) → E ≡ end → s ≤ℤ E → n <ℤ s → N ≡ n → N <ℤ end
 found_before end E s n N is le earlier is_n = omega (arith, ints, is, le, earlier, is_n)
+
+-- ---- a second that was found, and the last one
+
+pub last_again : (last : ℤ) → neg_ℤ (pos 8_334_601_228_801) ≤ℤ last → last ≤ℤ pos 8_210_266_876_799 → to_z w64 (of_z w64 last) ≡ last
+last_again last low high = carried last last refl (omega (arith, ints, low), omega (arith, ints, high))
+
+pub later_again : (start here found F : ℤ) → here ≡ start → F ≡ found → here <ℤ found → start <ℤ F
+later_again start here found F is is_found later = omega (arith, ints, is, is_found, later)
+
+pub no_later_than : (last L found F : ℤ) → L ≡ last → F ≡ found → int_lt L F ≡ false → found ≤ℤ last
+no_later_than last L found F is is_found not = omega (arith, ints, is, is_found, not)
+
+-- ---- what a clock shows at a second, and a local time that it would show at another
+
+shown_again : (shown : ℤ) → neg_ℤ (pos 8_334_601_488_000) ≤ℤ shown → shown ≤ℤ pos 8_210_267_049_599 → to_z w64 (of_z w64 shown) ≡ shown
+shown_again shown low high = carried shown shown refl (omega (arith, ints, low), omega (arith, ints, high))
+
+pub shown_behind : (after here shown offset u l : ℤ) → here ≡ after → shown ≡ (here +ℤ offset) → neg_ℤ (pos 8_334_601_488_000) ≤ℤ shown → shown ≤ℤ pos 8_210_267_049_599 → (u +ℤ offset) ≡ l → after <ℤ u → to_z w64 (of_z w64 (to_z w64 (of_z w64 shown) +ℤ pos 1)) ≤ℤ l
+shown_behind after here shown offset u l is is_shown low high by later =
+    let back = shown_again shown low high in
+    let next : to_z w64 (of_z w64 (to_z w64 (of_z w64 shown) +ℤ pos 1)) ≡ (shown +ℤ pos 1) = carried (to_z w64 (of_z w64 shown) +ℤ pos 1) (shown +ℤ pos 1) (omega (arith, ints, back)) (omega (arith, ints, low), omega (arith, ints, high)) in
+    omega (arith, ints, is, is_shown, by, later, next)
+
+pub shown_before : (end here shown offset u l : ℤ) → here ≡ end → shown ≡ (here +ℤ offset) → neg_ℤ (pos 8_334_601_488_000) ≤ℤ shown → shown ≤ℤ pos 8_210_267_049_599 → (u +ℤ offset) ≡ l → u <ℤ end → l <ℤ to_z w64 (of_z w64 shown)
+shown_before end here shown offset u l is is_shown low high by earlier =
+    let back = shown_again shown low high in
+    omega (arith, ints, is, is_shown, by, earlier, back)
+
+pub never_both : (a b : ℤ) → a <ℤ b → b ≤ℤ a → ⊥
+never_both a b lt ge = omega (arith, ints, lt, ge)
+
+-- ---- the second that a local time stands for
+
+pub stands_low : (l u U : ℤ) → U ≡ u → IsEpochSecond l → (l -ℤ pos 86_400) <ℤ u → neg_ℤ (pos 8_334_601_315_200) ≤ℤ U
+stands_low l u U is date low = omega (arith, ints, is, date.0, low)
+
+pub stands_high : (l u U : ℤ) → U ≡ u → IsEpochSecond l → u <ℤ (l +ℤ pos 86_400) → U ≤ℤ pos 8_210_266_963_199
+stands_high l u U is date high = omega (arith, ints, is, date.1, high)
+
+pub lies_behind : (after here x X : ℤ) → here ≡ after → X ≡ x → int_lt here X ≡ true → after <ℤ X
+lies_behind after here x X is is_x lt = omega (arith, ints, is, is_x, lt)
+
+pub lies_before : (end here x X : ℤ) → here ≡ end → X ≡ x → int_lt X here ≡ true → X <ℤ end
+lies_before end here x X is is_x lt = omega (arith, ints, is, is_x, lt)
+
+-- ---- a day before a second, and a day behind one
+
+pub day_before : (after here : ℤ) → here ≡ after → neg_ℤ (pos 8_334_601_400_000) ≤ℤ after → after ≤ℤ pos 8_210_266_963_199 → to_z w64 (of_z w64 (here -ℤ pos 86_400)) ≡ (after -ℤ pos 86_400)
+day_before after here is low high = carried (here -ℤ pos 86_400) (after -ℤ pos 86_400) (omega (arith, ints, is)) (omega (arith, ints, low), omega (arith, ints, high))
+
+pub day_behind : (end here : ℤ) → here ≡ end → neg_ℤ (pos 8_334_601_228_800) ≤ℤ end → end ≤ℤ pos 8_210_266_876_800 → to_z w64 (of_z w64 (here +ℤ pos 86_400)) ≡ (end +ℤ pos 86_400)
+day_behind end here is low high = carried (here +ℤ pos 86_400) (end +ℤ pos 86_400) (omega (arith, ints, is)) (omega (arith, ints, low), omega (arith, ints, high))
+
+-- ---- the local times that are left to a search
+
+pub fewer_ahead : (l next : ℤ) → l <ℤ next → IsEpochSecond next → unsigned_abs (pos 8_210_266_876_799 -ℤ next) < unsigned_abs (pos 8_210_266_876_799 -ℤ l)
+fewer_ahead l next later date = omega (arith, casts, later, date.1)
+
+pub fewer_back : (l previous : ℤ) → previous <ℤ l → IsEpochSecond previous → unsigned_abs (previous +ℤ pos 8_334_601_228_801) < unsigned_abs (l +ℤ pos 8_334_601_228_801)
+fewer_back l previous earlier date = omega (arith, casts, earlier, date.0)
+
+-- ---- a second that is listed
+
+pub at_most : (x X : ℤ) → X ≡ x → x ≤ℤ X
+at_most x X is = omega (arith, ints, is)
+
+pub at_least_it : (x X : ℤ) → X ≡ x → X ≤ℤ x
+at_least_it x X is = omega (arith, ints, is)
+
+pub lies_not_behind : (after here x X : ℤ) → here ≡ after → X ≡ x → int_lt here X ≡ false → after <ℤ x → ⊥
+lies_not_behind after here x X is is_x not later = omega (arith, ints, is, is_x, not, later)
+
+pub lies_not_before : (end here x X : ℤ) → here ≡ end → X ≡ x → int_lt X here ≡ false → x <ℤ end → ⊥
+lies_not_before end here x X is is_x not earlier = omega (arith, ints, is, is_x, not, earlier)

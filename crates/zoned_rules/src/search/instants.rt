@@ -150,7 +150,10 @@ impl<Z: TimeZone> ZonedRule<Z> {
     {
         let stretch = self.zone.stretch_from(end - FOUR_DAYS);
         let offset = i64::from(stretch.offset.local_minus_utc());
-        if stretch.until < end || end + offset <= BEFORE_FIRST_SECOND {
+        if stretch.until < end {
+            return None;
+        }
+        if end + offset <= BEFORE_FIRST_SECOND {
             return None;
         }
         let Some(local) = self.local.last_until(end + offset) else {

@@ -1,10 +1,23 @@
-use Rattle.std.proofs.Common.{◌≡◌, rules, true, ℤ, pos, ◌≤ℤ◌, ◌<ℤ◌, of_z, to_z, w64, ap, subst, sym, ◌∙◌}
+use Rattle.std.proofs.Common.{◌≡◌, rules, true, false, ℤ, pos, ◌≤ℤ◌, ◌<ℤ◌, of_z, to_z, w64, ap, subst, sym, ◌∙◌}
 use Rattle.std.proofs.lemmas.Bool.{both_ways}
 use Rattle.std.proofs.lemmas.Int.{by_lt_z, to_z-of_z}
-use Rattle.zoned_rules.specs.ZonedSets.{lists_second}
+use Rattle.zoned_rules.specs.ZonedSets.{IsIncluded, lists_second}
 use Rattle.zoned_rules.proofs.PublicCalls.{back_there}
-use Rattle.zoned_rules.proofs.SecondsAgain.{at_least, far_low, next_low}
+use Rattle.zoned_rules.proofs.SecondsAgain.{at_least, far_low, found_behind, next_low}
 use Rattle.zoned_rules.proofs.zoned_recurrence.ZonedRecurrence.first_member.Goals as goal
+
+pub returns-then-not-lists-clause-member : goal.returns-then-not-lists-clause-member
+returns-then-not-lists-clause-member g c =
+    let r = c.args.self.now.rule.local in
+    let ahead = g.Z.TimeZone.ahead c.args.self.now.rule.zone in
+    let bound = c.args.self.now.rule.bound in
+    let next = c.in-Some.next in
+    let ok = c.in-Some.ensures.included in
+    let is : to_z w64 (of_z w64 next) ≡ next = back_there ahead next ok.1.has_dates in
+    let kept : lists_second c.args.self.now.exceptions.now (to_z w64 (of_z w64 next)) ≡ false = search rules in (
+      found_behind c.args.start (to_z w64 (of_z w64 c.args.start)) (to_z w64 c.loop-next.second-bits) next (to_z w64 (of_z w64 next)) (to_z-of_z w64 c.args.start c.ranges.start) c.loop-next.invariant.0 ok.0 is,
+      record { included = subst (IsIncluded r ahead bound c.args.self.now.dates.now) (sym is) ok.1; kept = kept },
+    )
 
 pub returns-then-not-lists-clause-least : goal.returns-then-not-lists-clause-least
 returns-then-not-lists-clause-least g c = λ u later f.

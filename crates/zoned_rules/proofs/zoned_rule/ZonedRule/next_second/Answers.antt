@@ -1,6 +1,8 @@
-use Rattle.std.proofs.Common.{◌≡◌, ℤ, of_z, to_z, w64, arith, subst, sym}
-use Rattle.chrono_datetime.proofs.Signed.{casts}
+use Rattle.std.proofs.Common.{ℤ, of_z, to_z, w64, subst, sym}
+use Rattle.std.proofs.lemmas.Int.{to_z-of_z}
 use Rattle.zoned_rules.specs.Recurs.{RecursWithin}
+use Rattle.zoned_rules.proofs.PublicCalls.{back_there}
+use Rattle.zoned_rules.proofs.SecondsAgain.{last_again, later_again, no_later_than}
 use Rattle.zoned_rules.proofs.zoned_rule.ZonedRule.next_second.Goals as goal
 
 pub returns-clause-recurs : goal.returns-clause-recurs
@@ -9,9 +11,9 @@ returns-clause-recurs g c =
     let ahead = g.Z.TimeZone.ahead c.args.self.now.zone in
     let found = c.in_ok-found.found in
     let ok = c.in_ok-found.ensures.recurs in
-    let date = ok.1.recurs.dates.utc in
-    let is : to_z w64 (of_z w64 found) ≡ found = omega (arith, casts, date) in (
-      omega (arith, casts, is, ok.0, c.requires),
+    let last = c.last_second in
+    let is = back_there ahead found ok.1.recurs.dates in (
+      later_again c.args.start (to_z w64 (of_z w64 c.args.start)) found _ (to_z-of_z w64 c.args.start c.ranges.start) is ok.0,
       subst (λ (x : ℤ). RecursWithin r ahead c.args.self.now.bound x) (sym is)
-          (record { recurs = ok.1; within = c.last_second.ensures.inside found ok.1 (omega (arith, casts, date, c.if-last_second-found.false, c.last_second.ensures.low, c.last_second.ensures.high)) }),
+          (record { recurs = ok.1; within = last.ensures.inside found ok.1 (no_later_than last.result _ found _ (last_again last.result last.ensures.low last.ensures.high) is c.if-last_second-found.false) }),
     )
