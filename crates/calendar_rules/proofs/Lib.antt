@@ -1,3 +1,4 @@
 mod ClockParts
 mod TimedReads
 mod InstantLists
+mod RuleFits

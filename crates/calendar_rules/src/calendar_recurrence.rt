@@ -1,10 +1,11 @@
 //! The recurrence that the text of a calendar means in a zone.
-ghost use Rattle.std.specs.Prelude.{◌≡◌, ◌<◌, IfOk, IfSome, length};
+ghost use Rattle.std.specs.Prelude.{◌≡◌, ◌≤◌, ◌<◌, IfErr, IfNone, IfOk, IfSome, length};
 ghost use Rattle.calendar_text.specs.Lines.{text_in};
 ghost use Rattle.calendar_text.specs.TextParts.{parts_read};
 ghost use Rattle.calendar_text.specs.declared.calendar_time.CalendarTime.TheVariants.{Local};
 ghost use Rattle.calendar_rules.specs.Private.{IsShorter};
-ghost use Rattle.calendar_rules.specs.Recurrences.{IsRuleOf, MeansRecurrence, start_alone};
+ghost use Rattle.chrono_datetime.specs.Moment.{Moment};
+ghost use Rattle.calendar_rules.specs.Recurrences.{IsRuleOf, MeansNoneWithin, MeansRecurrence, start_alone};
 
 use crate::instant_list::put_instants;
 use crate::recurrence_error::CalendarRuleError;
@@ -48,7 +49,9 @@ pub fn recurrence_of<'a, Z: TimeZone>(
     exceptions: &'a mut [DateTime<Z>],
 ) -> Result<ZonedRecurrence<'a, Z>, CalendarRuleError>
     requires { IsShorter (text_in calendar.rule) (length buffer.old) }
-    ensures { IfOk result (MeansRecurrence Z.ahead zone (parts_read calendar.entry)) }
+    ensures means { IfOk result (MeansRecurrence Z.ahead zone (parts_read calendar.entry)) }
+    ensures within { IfOk result (λ s. (length s.dates.now ≤ length dates.old) × (length s.exceptions.now ≤ length exceptions.old)) }
+    ensures none { IfErr result (λ _. MeansNoneWithin Z.ahead zone (parts_read calendar.entry) (length dates.old) (length exceptions.old)) }
 {
     let Some(start) = local_start(calendar.start) else {
         return Err(CalendarRuleError::NotLocal);
@@ -71,7 +74,8 @@ pub fn recurrence_of<'a, Z: TimeZone>(
 
 // The local time that a time is, if it is one.
 fn local_start(time: CalendarTime) -> Option<NaiveDateTime>
-    ensures { IfSome result (λ m. time ≡ Local m) }
+    ensures some { IfSome result (λ m. time ≡ Local m) }
+    ensures none { IfNone result ((m : Moment) → time ≡ Local m → ⊥) }
 {
     match time {
         CalendarTime::Local(local) => Some(local),
@@ -82,7 +86,8 @@ fn local_start(time: CalendarTime) -> Option<NaiveDateTime>
 // The rule that the text of a calendar has, or the start alone.
 fn rule_of(text: Option<&[u8]>, buffer: &mut [u8]) -> Result<TimedRule, TimedRuleError>
     requires { IsShorter (text_in text) (length buffer.old) }
-    ensures { IfOk result (IsRuleOf (text_in text.entry)) }
+    ensures rule { IfOk result (IsRuleOf (text_in text.entry)) }
+    ensures none { IfErr result (λ _. (r : TimedRule) → ¬ IsRuleOf (text_in text.entry) r) }
 {
     match text {
         Some(text) => read_timed_rule(text, buffer),
