@@ -4,7 +4,7 @@
     checks/layers_c.py [ROUNDS]
 
 It takes or builds the static library as checks/languages.py does. Compared are the functions of the header, with results and parameters, the structs and their fields, and the symbols of the
-library. languages/c/test_layers.c is compiled by each compiler that is found, and run plainly, under valgrind and with
+library. The test in C has to use each constant of the header, beside what the library makes of it. languages/c/test_layers.c is compiled by each compiler that is found, and run plainly, under valgrind and with
 sanitizers. checks/layers_random.c calls each function with random arguments, 2,000 rounds or so many, in the same three ways.
 """
 import os
@@ -92,6 +92,12 @@ def structs_of_crate(text):
             for name, fields in re.findall(head, text, re.S)}
 
 
+def constants_of_header(text):
+    """The names of all numbers of the header."""
+    listed = ",".join(re.findall(r"\benum \{(.*?)\};", text, re.S)) + ",".join(re.findall(r"^#define (\w+) ", text, re.M))
+    return re.findall(r"\bCALENDAR_\w+", listed)
+
+
 def compare(results, what, ours, theirs):
     """Counts each name, and tells of one that differs."""
     for name in sorted({*ours, *theirs}):
@@ -111,6 +117,8 @@ def compare_all(results, library):
     for name in declared:
         results.count(f"{name}(" in test, f"test_layers.c does not call {name}")
         results.count(f"{name}(" in random, f"layers_random.c does not call {name}")
+    for name in constants_of_header(text):
+        results.count(re.search(rf"\b{name}\b", test), f"test_layers.c does not use {name}")
 
 
 def run_program(results, room, library, source, words):

@@ -162,7 +162,8 @@ int32_t calendar_rule_prev(const uint8_t *text, size_t length, int32_t start, in
 bool calendar_rule_is_instance(const uint8_t *text, size_t length, int32_t start, int32_t day);
 
 /* Writes the instances on `from` and later, up to until, in order, and returns how many it wrote. It writes at most room. The other
- * elements stay as they were. Begin again from the day after the last one if it wrote room of them. */
+ * elements stay as they were. Begin again from the day after the last one if it wrote room of them. Each call counts a rule with COUNT
+ * from its start, so give twice as much room each time. */
 size_t calendar_rule_instances(const uint8_t *text, size_t length, int32_t start, int32_t from, int32_t until, int32_t *out, size_t room);
 
 /* ---- open days

@@ -256,6 +256,29 @@ static void open_days(void)
     IS(calendar_roll(WEEKEND, easter, 2, CALENDAR_NONE, 1), CALENDAR_NONE);
 }
 
+/* Where each roll takes Saturday 9, Tuesday 12 and Sunday 31 March and Monday 1 April 2024: no two of them agree on all. */
+static void rolls(void)
+{
+    const int32_t holidays[] = {738957, 738974, 738977}, days[] = {738954, 738957, 738976, 738977};
+    const struct {
+        uint32_t roll;
+        int32_t to[4];
+    } rows[] = {
+        {CALENDAR_ROLL_UNADJUSTED, {738954, 738957, 738976, 738977}},
+        {CALENDAR_ROLL_FOLLOWING, {738956, 738958, 738978, 738978}},
+        {CALENDAR_ROLL_PRECEDING, {738953, 738956, 738973, 738973}},
+        {CALENDAR_ROLL_MODIFIED_FOLLOWING, {738956, 738958, 738973, 738978}},
+        {CALENDAR_ROLL_MODIFIED_PRECEDING, {738953, 738956, 738973, 738978}},
+        {CALENDAR_ROLL_NEAREST_ISDA, {738953, 738956, 738978, 738978}},
+        {CALENDAR_ROLL_NEAREST_QUANTLIB, {738953, 738958, 738978, 738978}},
+    };
+    for (size_t i = 0; i < sizeof rows / sizeof rows[0]; i++) {
+        for (size_t at = 0; at < 4; at++) {
+            IS(calendar_roll(WEEKEND, holidays, 3, days[at], rows[i].roll), rows[i].to[at]);
+        }
+    }
+}
+
 static void many_holidays(void)
 {
     int32_t holidays[CALENDAR_MOST_HOLIDAYS + 1];
@@ -559,6 +582,117 @@ static void schedules_in_zones(void)
     NO_MOMENT(calendar_zone_schedule_prev(&hourly, bytes_of(berlin), length, moment(8210266876799, 0)));
 }
 
+/* A code of a fault, what the library says of it, and a text with that fault, if a text can have it alone. */
+typedef struct {
+    uint32_t code;
+    const char *sentence, *text;
+} Code;
+
+static const Code codes_of_schedules[] = {
+    {CALENDAR_SCHEDULE_EMPTY, "byte 0: nothing stands there", ""},
+    {CALENDAR_SCHEDULE_TOO_FEW_FIELDS, "byte 0: fewer than five fields", "*"},
+    {CALENDAR_SCHEDULE_TOO_MANY_FIELDS, "byte 0: more than five fields", "* * * * * *"},
+    {CALENDAR_SCHEDULE_UNKNOWN_NICKNAME, "byte 0: an unknown nickname", "@nightly"},
+    {CALENDAR_SCHEDULE_INTERVAL, "byte 0: an interval, which is no schedule", "@every 1h"},
+    {CALENDAR_SCHEDULE_REBOOT, "byte 0: the start of a machine, which is no schedule", "@reboot"},
+    {CALENDAR_SCHEDULE_TIME_ZONE, "byte 0: a time zone, which no schedule has", "CRON_TZ=UTC * * * * *"},
+    {CALENDAR_SCHEDULE_UNKNOWN_NAME, "byte 0: an unknown name", "* * * foo *"},
+    {CALENDAR_SCHEDULE_LONG_NAME, "byte 0: a name of more than three letters", "* * * march *"},
+    {CALENDAR_SCHEDULE_NOT_A_NUMBER, "byte 0: no number of one digit or two", "100 * * * *"},
+    {CALENDAR_SCHEDULE_OUT_OF_RANGE, "byte 0: a number that is out of range", "60 * * * *"},
+    {CALENDAR_SCHEDULE_RANGE_TURNED_ROUND, "byte 0: a range whose end is below its beginning", "5-3 * * * *"},
+    {CALENDAR_SCHEDULE_STEP_OF_ZERO, "byte 0: a step of 0", "*/0 * * * *"},
+    {CALENDAR_SCHEDULE_STEP_OF_NUMBER, "byte 0: a step behind a number alone", "5/3 * * * *"},
+};
+
+static const Code codes_of_rules[] = {
+    {CALENDAR_RULE_UNKNOWN, "unknown part", "FREQ=DAILY;BYEASTER=1"},
+    {CALENDAR_RULE_OF_HOURS, "BYHOUR: not in rules over days", "FREQ=DAILY;BYHOUR=9"},
+    {CALENDAR_RULE_OF_MINUTES, "BYMINUTE: not in rules over days", "FREQ=DAILY;BYMINUTE=9"},
+    {CALENDAR_RULE_OF_SECONDS, "BYSECOND: not in rules over days", "FREQ=DAILY;BYSECOND=9"},
+    {CALENDAR_RULE_EXTENSION, "an X- part, which is not read", "FREQ=DAILY;X-A=9"},
+    {CALENDAR_RULE_OF_CALENDARS, "RSCALE: not in rules of RFC 5545", "FREQ=DAILY;RSCALE=CHINESE"},
+    {CALENDAR_RULE_OF_SKIPS, "SKIP: not in rules of RFC 5545", "FREQ=DAILY;SKIP=OMIT"},
+    {CALENDAR_RULE_BLANK, "a blank", "FREQ=DAILY; COUNT=9"},
+    {CALENDAR_RULE_MISSING, "missing", "COUNT=9"},
+    {CALENDAR_RULE_TWICE, "stands twice", "FREQ=DAILY;COUNT=9;COUNT=9"},
+    {CALENDAR_RULE_EMPTY, "empty", ""},
+    {CALENDAR_RULE_NOT_A_FREQUENCY, "not DAILY, WEEKLY, MONTHLY or YEARLY", "FREQ=FORTNIGHTLY"},
+    {CALENDAR_RULE_NOT_A_NUMBER, "not a number", "FREQ=DAILY;COUNT=x"},
+    {CALENDAR_RULE_RANGE, "a range; list each with commas", "FREQ=DAILY;BYMONTH=1-3"},
+    {CALENDAR_RULE_OUT_OF_RANGE, "number out of range", "FREQ=DAILY;BYMONTH=13"},
+    {CALENDAR_RULE_NOT_A_DATE, "not a date as 19971224", "FREQ=DAILY;UNTIL=20240230"},
+    {CALENDAR_RULE_WITH_TIME, "a time stands behind the date", "FREQ=DAILY;UNTIL=20240229T000000Z"},
+    {CALENDAR_RULE_NOT_A_WEEKDAY, "not a weekday as MO", "FREQ=DAILY;BYDAY=XX"},
+    {CALENDAR_RULE_BESIDE_COUNT, "does not go with COUNT", "FREQ=DAILY;COUNT=9;UNTIL=20240229"},
+    {CALENDAR_RULE_NUMBERS_BESIDE_WEEKS, "number does not go with BYWEEKNO", "FREQ=YEARLY;BYWEEKNO=9;BYDAY=1MO"},
+    {CALENDAR_RULE_ALONE, "needs another BY part", "FREQ=DAILY;BYSETPOS=1"},
+    {CALENDAR_RULE_NOT_WITH_DAILY, "does not go with DAILY", "FREQ=DAILY;BYWEEKNO=9"},
+    {CALENDAR_RULE_NOT_WITH_WEEKLY, "does not go with WEEKLY", "FREQ=WEEKLY;BYMONTHDAY=9"},
+    {CALENDAR_RULE_NOT_WITH_MONTHLY, "does not go with MONTHLY", "FREQ=MONTHLY;BYWEEKNO=9"},
+    {CALENDAR_RULE_NOT_WITH_YEARLY, "does not go with YEARLY", NULL},
+    {CALENDAR_RULE_NUMBERS_NOT_WITH_DAILY, "number does not go with DAILY", "FREQ=DAILY;BYDAY=1MO"},
+    {CALENDAR_RULE_NUMBERS_NOT_WITH_WEEKLY, "number does not go with WEEKLY", "FREQ=WEEKLY;BYDAY=1MO"},
+    {CALENDAR_RULE_NUMBERS_NOT_WITH_MONTHLY, "number does not go with MONTHLY", NULL},
+    {CALENDAR_RULE_NUMBERS_NOT_WITH_YEARLY, "number does not go with YEARLY", NULL},
+};
+
+static const Code codes_of_zones[] = {
+    {CALENDAR_ZONE_NO_HEADER, "no header of a TZif file stands there", NULL},
+    {CALENDAR_ZONE_UNKNOWN_VERSION, "an unknown version of TZif", NULL},
+    {CALENDAR_ZONE_CUT_OFF, "the file is cut off", "TZif"},
+    {CALENDAR_ZONE_WRONG_COUNTS, "the counts of the header are wrong", NULL},
+    {CALENDAR_ZONE_LEAP_SECONDS, "the file counts leap seconds", NULL},
+    {CALENDAR_ZONE_WRONG_FOOTER, "the footer is wrong", NULL},
+    {CALENDAR_ZONE_NO_FIRST_KIND, "no local time is named to begin with", NULL},
+    {CALENDAR_ZONE_NO_ROW, "a row names no local time", NULL},
+    {CALENDAR_ZONE_TOO_MANY_ROWS, "more than 512 rows", NULL},
+    {CALENDAR_ZONE_NO_NAME, "a name of three letters or more is missing", "5"},
+    {CALENDAR_ZONE_NO_OFFSET, "an offset is missing", "EST"},
+    {CALENDAR_ZONE_OFFSET_OF_DAY, "the offset is a day or more", "XXX24"},
+    {CALENDAR_ZONE_NO_DAYS, "the days of daylight time are missing", "EST5EDT"},
+    {CALENDAR_ZONE_NO_CHANGE, "no day stands there on which the clock is set", "EST5EDT,M3.2.0,M13.1.0"},
+    {CALENDAR_ZONE_UNORDERED, "a row does not follow the one before it", NULL},
+    {CALENDAR_ZONE_NOT_JOINED, "the rule does not go on from the last row", NULL},
+};
+
+typedef int32_t Sayer(const calendar_fault *fault, uint8_t *text, size_t room);
+typedef bool Checker(const char *text, calendar_fault *fault);
+
+static bool is_schedule(const char *text, calendar_fault *fault)
+{
+    calendar_schedule schedule;
+    return reads(text, &schedule, fault);
+}
+
+static bool is_zone(const char *text, calendar_fault *fault)
+{
+    return calendar_zone_check(bytes_of(text), strlen(text), fault);
+}
+
+/* Each code has its sentence, and each text its code. */
+static void test_codes(const Code *codes, size_t length, Sayer *say, Checker *check)
+{
+    for (size_t i = 0; i < length; i++) {
+        const char *sentence = codes[i].sentence;
+        calendar_fault fault = {codes[i].code, 0, 0, 0};
+        uint8_t said[99];
+        bool is_said = say(&fault, said, sizeof said) == (int32_t)strlen(sentence) && memcmp(said, sentence, strlen(sentence)) == 0;
+        count(is_said, __LINE__, sentence);
+        fault.code = 0;
+        if (codes[i].text) {
+            count(!check(codes[i].text, &fault) && fault.code == codes[i].code, __LINE__, codes[i].text);
+        }
+    }
+}
+
+static void all_codes(void)
+{
+    test_codes(codes_of_schedules, sizeof codes_of_schedules / sizeof codes_of_schedules[0], calendar_schedule_fault_text, is_schedule);
+    test_codes(codes_of_rules, sizeof codes_of_rules / sizeof codes_of_rules[0], calendar_rule_fault_text, is_rule);
+    test_codes(codes_of_zones, sizeof codes_of_zones / sizeof codes_of_zones[0], calendar_zone_fault_text, is_zone);
+}
+
 static void versions(void)
 {
     uint8_t text[16];
@@ -577,6 +711,7 @@ int main(void)
     texts_of_rules();
     days_of_rules();
     open_days();
+    rolls();
     many_holidays();
     holidays();
     columns();
@@ -585,6 +720,7 @@ int main(void)
     files_of_zones();
     schedules_in_zones();
     day_counts();
+    all_codes();
     printf("%d passed, %d failed\n", passed, failed);
     return failed != 0;
 }

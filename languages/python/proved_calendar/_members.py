@@ -17,6 +17,8 @@ from .time_of_day import Time, attributes
 _DAYS = ("Mon", "Tue", "Wed", "Thu", "Fri", "Sat", "Sun")
 _MONTHS = ("Jan", "Feb", "Mar", "Apr", "May", "Jun", "Jul", "Aug", "Sep", "Oct", "Nov", "Dec")
 _EPOCH = _calendar.DateTime(1970, 1, 1)
+# What stands for an argument that is left out.
+_LEFT: Any = ...
 
 # Directives that C's library lacks, or that it writes otherwise for some years.
 _OWN = re.compile("%([%fzZYGyCF])")
@@ -75,6 +77,17 @@ def _shown(date: Any, clock: str) -> str:
     return f"{_DAYS[date.weekday()]} {_MONTHS[date.month - 1]} {date.day:2} {clock} {_year_text(date.year)}"
 
 
+def _day_of(date: Any) -> _calendar.Date:
+    """The Date of a date or of a date-time, of this package or of datetime."""
+    if isinstance(date, _calendar.Date):
+        return date
+    if isinstance(date, _calendar.DateTime):
+        return date.date
+    if isinstance(date, datetime.date):
+        return _calendar.Date.from_date(date.date() if isinstance(date, datetime.datetime) else date)
+    raise TypeError(f"a Date or a datetime.date is wanted, not {type(date).__name__}")
+
+
 class Date:
     @classmethod
     def today(cls: Any) -> Any:
@@ -120,20 +133,22 @@ class DateTime:
         return cls(_calendar.Date.from_iso_week(year, week, day))
 
     @classmethod
-    def combine(cls: Any, date: Any, time: Any, tzinfo: Any = None) -> Any:
-        """Returns the date-time of a date, or of the date of a date-time, and a Time, in a time zone if one is given.
+    def combine(cls: Any, date: Any, time: Any, tzinfo: Any = _LEFT) -> Any:
+        """Returns the date-time of a date, or of the date of a date-time, and a time, in a time zone if one is given.
 
         >>> DateTime.combine(Date(2024, 2, 29), Time(12, 30)) == DateTime(2024, 2, 29, 12, 30)
         True
+
+        Each may be datetime's. The zone of a datetime.time is taken if no other is given, and its fold always.
         """
-        if isinstance(date, _calendar.DateTime):
-            date = date.date
-        if not isinstance(date, _calendar.Date):
-            raise TypeError(f"a Date is wanted, not {type(date).__name__}")
+        fold, zone = 0, None
+        if isinstance(time, datetime.time):
+            fold, zone, time = time.fold, time.tzinfo, Time.from_time(time.replace(tzinfo=None))
         if not isinstance(time, Time):
-            raise TypeError(f"a Time is wanted, not {type(time).__name__}")
-        zone = {"tzinfo": tzinfo} if tzinfo is not None else {}
-        return cls(date, time.hour, time.minute, time.second, nanosecond=time.nanosecond, **zone)
+            raise TypeError(f"a Time or a datetime.time is wanted, not {type(time).__name__}")
+        zoning = {"tzinfo": zone if tzinfo is _LEFT else tzinfo, "fold": fold or None}
+        given = {name: it for name, it in zoning.items() if it is not None}
+        return cls(_day_of(date), time.hour, time.minute, time.second, nanosecond=time.nanosecond, **given)
 
     @classmethod
     def now(cls: Any, tz: Any = None) -> Any:
@@ -190,6 +205,23 @@ class DateTime:
     def tzname(self) -> Any:
         """Returns the name of the time zone's time, such as CEST, or None without a time zone."""
         return asked(self, "tzname")
+
+    def round(self: Any, length: Any, /) -> Any:
+        """Returns the date-time at the nearest multiple of a length after midnight, and of two at the later one.
+
+        >>> print(DateTime(2024, 2, 29, 12, 34, 56).round(Duration(minutes=15)))
+        2024-02-29T12:30:00
+
+        The length is a Duration or a timedelta that divides a day. What the clock shows is rounded, and the time zone and the fold stay. A
+        leap second is rounded as the end of the second before it.
+        """
+        span = (length if isinstance(length, _calendar.Duration) else _calendar.Duration.from_timedelta(length)).nanoseconds
+        if span <= 0 or _calendar.Duration(days=1).nanoseconds % span:
+            raise ValueError(f"{length}: a length that divides a day is wanted")
+        passed = 10**9 * self.second_of_day + min(self.nanos, 10**9 - 1)
+        past_midnight = _calendar.Duration(nanoseconds=(2 * passed + span) // (2 * span) * span)
+        moment = self.replace(hour=0, minute=0, second=0, nanosecond=0) + past_midnight
+        return moment.replace(fold=self.fold) if self.fold else moment
 
     def timestamp(self: Any) -> float:
         """Returns the POSIX timestamp. Without a time zone it is that of the local time, by the fold where that comes twice."""

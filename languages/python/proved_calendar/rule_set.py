@@ -28,6 +28,10 @@ def _ours(it: Any) -> Any:
 _CYCLE, _YEAR = 146_097, 366
 
 
+def _has_count(rule: Any) -> bool:
+    return re.search("COUNT=", rule.text, re.I) is not None
+
+
 def _is_endless(rule: Any) -> bool:
     return not re.search("COUNT=|UNTIL=", rule.text, re.I)
 
@@ -74,6 +78,26 @@ class _Stretch:
         return type(rule.start).fromordinal(self.begin) if self.is_over and _is_endless(rule) and dt.toordinal() > self.begin else dt
 
 
+class _LeftOut:
+    """The days that a set leaves out, which are asked about in order, from one on.
+
+    A rule with COUNT is counted from its start whenever it is asked. So its instances are walked along.
+    """
+
+    def __init__(self, of: Any, first: Any, inc: bool) -> None:
+        counted = [it for it in of.except_rules if _has_count(it)]
+        self._rules = [it for it in of.except_rules if not _has_count(it)]
+        self._dates = set(of.except_dates)
+        self._walk: Iterator[Any] = iter(heapq.merge(*(it if first is None else it.xafter(first, inc=inc) for it in counted)))
+        self._next = next(self._walk, None)
+
+    def has(self, it: Any) -> bool:
+        """Whether a day is left out."""
+        while self._next is not None and self._next < it:
+            self._next = next(self._walk, None)
+        return it == self._next or it in self._dates or any(it in rule for rule in self._rules)
+
+
 class RuleSet(Generic[_Instance]):
     """The instances of some rules and some dates (RDATE), but for those of other rules and dates (EXDATE).
 
@@ -118,21 +142,22 @@ class RuleSet(Generic[_Instance]):
     def _is_left_out(self, it: Any) -> bool:
         return it in self.except_dates or any(it in rule for rule in self.except_rules)
 
-    def _merged(self, walks: Iterable[Iterable[Any]], dates: Iterable[Any]) -> Iterator[_Instance]:
+    def _merged(self, walks: Iterable[Iterable[Any]], dates: Iterable[Any], left_out: _LeftOut) -> Iterator[_Instance]:
         """What walks over the rules and some dates, all in order, give together, each once."""
         stretch = _Stretch(self.rules, self.except_rules)
         for it, _ in itertools.groupby(heapq.merge(*map(stretch.walk, self.rules, walks), dates)):
-            if not stretch.has(it) and not self._is_left_out(it):
+            if not stretch.has(it) and not left_out.has(it):
                 yield it
 
     def __iter__(self) -> Iterator[_Instance]:
-        return self._merged(self.rules, self.dates)
+        return self._merged(self.rules, self.dates, _LeftOut(self, None, True))
 
     def xafter(self, dt: Any, count: int | None = None, inc: bool = False) -> Iterator[_Instance]:
         """Returns an iterator over the instances after dt, with inc also at it, and at most count of them."""
         most = None if count is None else max(operator.index(count), 0)
         later = [it for it in self.dates if it > dt or (inc and it == dt)]
-        return itertools.islice(self._merged([rule.xafter(dt, inc=inc) for rule in self.rules], later), most)
+        walks = [rule.xafter(dt, inc=inc) for rule in self.rules]
+        return itertools.islice(self._merged(walks, later, _LeftOut(self, dt, inc)), most)
 
     def after(self, dt: Any, inc: bool = False) -> _Instance | None:
         """Returns the first instance after dt, with inc also at it, or None if there is none."""

@@ -331,13 +331,20 @@ static PyObject *date_add(PyObject *left, PyObject *right)
     return is_date(left) ? moved_by(left, right, 1) : moved_by(right, left, 1);
 }
 
+/* Whether it is a Date or a datetime.date, and no datetime.datetime. */
+static bool is_day(PyObject *it)
+{
+    return is_date(it) || (is_python_date(it) && !is_python_datetime(it));
+}
+
 static PyObject *date_subtract(PyObject *left, PyObject *right)
 {
+    int32_t day, base;
+    if (is_day(left) && is_day(right)) {
+        return take_date(left, &day) && take_date(right, &base) ? PyLong_FromLong((long)day - base) : NULL;
+    }
     if (!is_date(left)) {
         Py_RETURN_NOTIMPLEMENTED;
-    }
-    if (is_date(right)) {
-        return PyLong_FromLong((long)number_of(left) - number_of(right));
     }
     return moved_by(left, right, -1);
 }
@@ -568,7 +575,7 @@ PyDoc_STRVAR(documentation,
 ">>> Date(2024, 2, 29) + 1\nDate(2024, 3, 1)\n\n"
 "The year before year 1 is year 0 (ISO 8601). A date is one number, by which it is compared and hashed. Its text is\n"
 "YYYY-MM-DD. In the years 1 to 9999 number, names and text are those of datetime.date. A Date is equal to the\n"
-"datetime.date of the same day, with the same hash.\n\n"
+"datetime.date of the same day, with the same hash. A difference is a whole number of days, also from or to a datetime.date.\n\n"
 "An invalid date raises ValueError, which names the part. A move outside the calendar raises OverflowError.\n"
 "Patterns work: case Date(2024, month, day).");
 

@@ -532,32 +532,49 @@ static PyObject *since_in_zones(PyObject *left, PyObject *right)
         PyErr_SetString(PyExc_TypeError, "one of the date-times has a time zone, and the other has none");
         return NULL;
     }
-    PyObject *since = duration_of(duration_type, calendar_date_time_since(moment_of(left), moment_of(right)));
+    PyObject *shown = duration_of(duration_type, calendar_date_time_since(moment_of(left), moment_of(right)));
     if (!have[0]) {
-        return since;
+        return shown;
     }
     PyObject *one = duration_of(duration_type, offsets[0]), *other = duration_of(duration_type, offsets[1]);
     PyObject *between = one && other ? PyNumber_Subtract(one, other) : NULL;
-    PyObject *result = since && between ? PyNumber_Subtract(since, between) : NULL;
-    Py_XDECREF(since);
+    PyObject *result = shown && between ? PyNumber_Subtract(shown, between) : NULL;
+    Py_XDECREF(shown);
     Py_XDECREF(one);
     Py_XDECREF(other);
     Py_XDECREF(between);
     return result;
 }
 
-static PyObject *date_time_subtract(PyObject *left, PyObject *right)
+/* The time between two date-times. */
+static PyObject *since(PyObject *left, PyObject *right)
 {
-    if (!is_date_time(left)) {
-        Py_RETURN_NOTIMPLEMENTED;
-    }
-    if (is_date_time(right) && zoning_of(left).zone == zoning_of(right).zone) {
+    if (zoning_of(left).zone == zoning_of(right).zone) {
         return duration_of(duration_type, calendar_date_time_since(moment_of(left), moment_of(right)));
     }
-    if (is_date_time(right)) {
-        return since_in_zones(left, right);
+    return since_in_zones(left, right);
+}
+
+/* The same, if one of them is a datetime.datetime. */
+static PyObject *since_of_python(PyObject *left, PyObject *right)
+{
+    PyObject *one = is_date_time(left) ? Py_NewRef(left) : from_datetime((PyObject *)date_time_type, left);
+    PyObject *other = is_date_time(right) ? Py_NewRef(right) : from_datetime((PyObject *)date_time_type, right);
+    PyObject *found = one && other ? since(one, other) : NULL;
+    Py_XDECREF(one);
+    Py_XDECREF(other);
+    return found;
+}
+
+static PyObject *date_time_subtract(PyObject *left, PyObject *right)
+{
+    if (is_date_time(left) && is_date_time(right)) {
+        return since(left, right);
     }
-    return moved_by(left, right, true);
+    if (is_python_datetime(left) || is_python_datetime(right)) {
+        return since_of_python(left, right);
+    }
+    return is_date_time(left) ? moved_by(left, right, true) : Py_NewRef(Py_NotImplemented);
 }
 
 /* ---- texts */
@@ -1106,6 +1123,7 @@ PyDoc_STRVAR(documentation,
 ">>> print(DateTime(Date(2016, 12, 31), 23, 59, 60) + Duration(seconds=1))\n2017-01-01T00:00:00\n\n"
 "The time can be in a leap second, the second 60 of a minute. A move from there counts this leap second and no other.\n"
 "Date-times are compared by date, then by time of day.\n\n"
+"A difference is a Duration, also from or to a datetime.datetime. With different time zones it is that of the instants.\n"
 "In a difference a leap second counts if one of the two is in it and has the smaller second of the day. So the sign of the\n"
 "difference is the order on one date, but not always across two. For example, 2017-01-01T00:00:00 is -0.5 seconds from\n"
 "2016-12-31T23:59:60.5, which is earlier.");

@@ -1,8 +1,6 @@
 /* rule.c: the type Rule, which is a recurrence rule with a start, and the iterator over its instances. */
 #include "package.h"
 
-#include <string.h>
-
 static PyTypeObject *rule_type, *iterator_type;
 
 /* A recurrence rule by its text, which stays as long as the object for it, and the day of its start. If `is_timed` is set, each
@@ -17,17 +15,21 @@ typedef struct {
     uint32_t second, nanos;
 } Rule;
 
-enum { FIRST_FILL = 2, FILLED = 64, COUNTED = 1024 };
+/* How many instances are found at once: few at first, since the caller may want no more, then twice as many each time, up to a bound. Each call
+ * counts a rule with COUNT from its start, and one by one no more than the days of twice 400 years. The bound is near to those of 400 years.
+ * So all calls together count few instances for each one that they find. */
+enum { FIRST_FILL = 2, FILLED = 1024, FIRST_FILL_OF_COUNT = 64, FILLED_OF_COUNT = 1 << 17 };
 
-/* The instances that are still to come: those that are found already, the day on which to go on, and how many may follow, or -1. */
+/* The instances that are still to come: those that are found already, of which there are `count` in memory of its own, the day on which to
+ * go on, and how many may follow, or -1. */
 typedef struct {
     PyObject_HEAD
     PyObject *rule;
     int32_t from, until;
     int64_t most;
-    size_t place, count, room;
+    size_t place, count, room, bound;
     bool is_filling;
-    int32_t found[FILLED];
+    int32_t *found;
 } Instances;
 
 static Signature of_rule = {.call = "Rule", .count = 2, .needed = 2, .places = 2, .names = {"text", "start"}};
@@ -246,41 +248,70 @@ static int rule_contains(PyObject *self, PyObject *it)
 
 /* ---- all instances, one after another */
 
+/* Whether a rule has COUNT. */
+static bool has_count(const Rule *of)
+{
+    static const char name[] = "COUNT=";
+    for (size_t at = 0, same = 0; at < of->length; at++) {
+        int byte = of->bytes[at], letter = 'a' <= byte && byte <= 'z' ? byte - 'a' + 'A' : byte;
+        same = letter == name[same] ? same + 1 : letter == name[0];
+        if (!name[same]) {
+            return true;
+        }
+    }
+    return false;
+}
+
 static PyObject *instances_from(PyObject *rule, int32_t from, int32_t until, int64_t most)
 {
     Instances *self = PyObject_New(Instances, iterator_type);
+    bool is_counted = has_count((Rule *)rule);
     if (self) {
         self->rule = Py_NewRef(rule);
         self->from = from;
         self->until = until;
         self->most = most;
         self->place = self->count = 0;
-        self->room = FIRST_FILL;
+        self->room = is_counted ? FIRST_FILL_OF_COUNT : FIRST_FILL;
+        self->bound = is_counted ? FILLED_OF_COUNT : FILLED;
         self->is_filling = false;
+        self->found = NULL;
     }
     return (PyObject *)self;
 }
 
-/* Finds the instances that come next: few at first, since the caller may want no more. */
+/* Makes room for the instances that come next, and hears signals, such as that of Ctrl-C. */
+static bool is_ready(Instances *of)
+{
+    int32_t *found = PyErr_CheckSignals() < 0 ? NULL : PyMem_Realloc(of->found, of->room * sizeof found[0]);
+    if (!found && !PyErr_Occurred()) {
+        PyErr_NoMemory();
+    }
+    of->found = found ? found : of->found;
+    return found;
+}
+
+/* Finds the instances that come next. The last ones are found where they are fewer than there is room for. */
 static bool fill(Instances *of)
 {
-    int32_t found[FILLED];
     if (of->is_filling) {
         PyErr_SetString(PyExc_ValueError, "another thread is using the iterator");
         return false;
     }
     of->is_filling = true;
-    size_t count = of->from <= of->until ? instances_of((Rule *)of->rule, of->from, of->until, found, of->room) : 0;
-    of->is_filling = false;
-    memcpy(of->found, found, count * sizeof found[0]);
-    of->place = 0;
-    of->count = count;
-    if (count > 0) {
-        of->from = found[count - 1] + 1;
+    bool is_one = is_ready(of);
+    of->place = of->count = 0;
+    if (is_one && of->from <= of->until) {
+        of->count = instances_of((Rule *)of->rule, of->from, of->until, of->found, of->room);
     }
-    /* (fewer than asked for are the last ones) */
-    of->room = count < of->room ? 0 : of->room < FILLED ? 2 * of->room : FILLED;
-    return count > 0;
+    if (of->count > 0) {
+        of->from = of->found[of->count - 1] + 1;
+    }
+    if (is_one) {
+        of->room = of->count < of->room ? 0 : 2 * of->room < of->bound ? 2 * of->room : of->bound;
+    }
+    of->is_filling = false;
+    return of->count > 0;
 }
 
 static PyObject *instances_next(PyObject *self)
@@ -302,6 +333,7 @@ static void instances_free(PyObject *self)
 {
     PyTypeObject *kind = Py_TYPE(self);
     Py_DECREF(((Instances *)self)->rule);
+    PyMem_Free(((Instances *)self)->found);
     PyObject_Free(self);
     Py_DECREF(kind);
 }
@@ -344,41 +376,41 @@ static PyObject *rule_between(PyObject *self, PyObject *const *arguments, Py_ssi
 
 /* ---- as a sequence */
 
-/* The day of an instance by its place, from 0, and how many there are up to there; CALENDAR_NONE if there are fewer, or after an
- * error. A signal, such as that of Ctrl-C, ends a long count. */
-static int32_t day_at(const Rule *of, int64_t place, int64_t *passed)
+/* The day of an instance by its place, from 0, and how many there are up to there; CALENDAR_NONE if there are fewer, or after an error. */
+static int32_t day_at(PyObject *self, int64_t place, int64_t *passed)
 {
-    int32_t days[COUNTED], from = of->start;
-    size_t count = COUNTED;
+    Instances *walk = (Instances *)instances_from(self, ((Rule *)self)->start, CALENDAR_MAX, -1);
+    int32_t day = CALENDAR_NONE;
     *passed = 0;
-    while (count == COUNTED) {
-        count = instances_of(of, from, CALENDAR_MAX, days, COUNTED);
-        if (place - *passed < (int64_t)count) {
-            return days[place - *passed];
+    while (walk && day == CALENDAR_NONE && walk->room > 0 && fill(walk)) {
+        if (place - *passed < (int64_t)walk->count) {
+            day = walk->found[place - *passed];
         }
-        *passed += (int64_t)count;
-        from = count > 0 ? days[count - 1] + 1 : from;
-        if (PyErr_CheckSignals() < 0) {
-            return CALENDAR_NONE;
-        }
+        *passed += (int64_t)walk->count;
     }
-    return CALENDAR_NONE;
+    Py_XDECREF(walk);
+    return day;
 }
 
 static PyObject *rule_count(PyObject *self, PyObject *unused)
 {
     int64_t count;
     (void)unused;
-    day_at((Rule *)self, INT64_MAX, &count);
+    day_at(self, INT64_MAX, &count);
     return PyErr_Occurred() ? NULL : PyLong_FromLongLong(count);
 }
 
-/* The day of an instance by its place from the end, from 0. */
-static int32_t day_from_end(const Rule *of, int64_t place)
+/* The day of an instance by its place from the end, from 0. A rule with COUNT is listed from its start, as each step back would count it. */
+static int32_t day_from_end(PyObject *self, int64_t place)
 {
-    int32_t day = last_on(of, CALENDAR_MAX);
+    int64_t count;
+    if (has_count((Rule *)self)) {
+        day_at(self, INT64_MAX, &count);
+        return place < count && !PyErr_Occurred() ? day_at(self, count - 1 - place, &count) : CALENDAR_NONE;
+    }
+    int32_t day = last_on((Rule *)self, CALENDAR_MAX);
     while (place > 0 && day != CALENDAR_NONE && PyErr_CheckSignals() == 0) {
-        day = last_on(of, day - 1);
+        day = last_on((Rule *)self, day - 1);
         place--;
     }
     return day;
@@ -396,7 +428,7 @@ static PyObject *rule_item(PyObject *self, PyObject *key)
     if (!read_whole(key, &place)) {
         return NULL;
     }
-    int32_t day = place < 0 ? day_from_end((Rule *)self, -(place + 1)) : day_at((Rule *)self, place, &passed);
+    int32_t day = place < 0 ? day_from_end(self, -(place + 1)) : day_at(self, place, &passed);
     if (PyErr_Occurred()) {
         return NULL;
     }

@@ -232,6 +232,15 @@ static size_t due_in_zone(const Moments *of, const uint8_t *zone, size_t length,
     return of->room;
 }
 
+/* Whether no signal, such as that of Ctrl-C, ends the list. Its handler cannot use the iterator. */
+static bool goes_on(Moments *of)
+{
+    of->is_filling = true;
+    bool is_stopped = PyErr_CheckSignals() < 0;
+    of->is_filling = false;
+    return !is_stopped;
+}
+
 /* Finds the moments that come next: few at first, since the caller may want no more. Other threads run meanwhile. */
 static bool fill(Moments *of)
 {
@@ -239,6 +248,9 @@ static bool fill(Moments *of)
     size_t count, length = 0;
     if (of->is_filling) {
         PyErr_SetString(PyExc_ValueError, "another thread is using the iterator");
+        return false;
+    }
+    if (!goes_on(of)) {
         return false;
     }
     of->is_filling = true;

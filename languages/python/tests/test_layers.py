@@ -4,9 +4,12 @@ habits of their values; and what wrong texts and arguments raise."""
 import copy
 import datetime
 import gc
+import itertools
 import pickle
+import signal
 import sys
 import threading
+import time
 import unittest
 from fractions import Fraction
 
@@ -15,6 +18,70 @@ from proved_calendar import BusinessCalendar, Date, DateTime, Duration, Pattern,
 MON, TUE, WED, THU, FRI, SAT, SUN = Weekday
 GOOD_FRIDAY, EASTER_MONDAY = Date(2024, 3, 29), Date(2024, 4, 1)
 EASTER = BusinessCalendar([GOOD_FRIDAY, EASTER_MONDAY])
+
+
+def seconds_of(call):
+    """The least processor time of three calls."""
+    spent = []
+    for _ in range(3):
+        began = time.process_time()
+        call()
+        spent.append(time.process_time() - began)
+    return min(spent)
+
+
+class Stopped(Exception):
+    """What the handler of a signal raises."""
+
+
+def stop(*unused):
+    raise Stopped
+
+
+class Signals(unittest.TestCase):
+    def test_long_lists(self):
+        """A signal ends a long list soon, and not only when the list is done."""
+        last = JANUARY + 600_000
+        rule, timed = Rule("FREQ=DAILY", JANUARY), Rule("FREQ=DAILY;COUNT=600000", DateTime(JANUARY, 12))
+        minutely, until = Schedule("* * * * *"), DateTime(JANUARY) + Duration(minutes=600_000)
+        before = signal.signal(signal.SIGPROF, stop)
+        try:
+            for call in (
+                lambda: rule.between(JANUARY, last), lambda: rule[:600_000], lambda: list(timed),
+                lambda: list(minutely.iterate(DateTime(JANUARY), until)),
+            ):
+                whole, began = seconds_of(call), time.process_time()
+                signal.setitimer(signal.ITIMER_PROF, whole / 20)
+                self.assertRaises(Stopped, call)
+                self.assertLess(time.process_time() - began, whole / 2)
+        finally:
+            signal.setitimer(signal.ITIMER_PROF, 0)
+            signal.signal(signal.SIGPROF, before)
+
+    def test_after_a_signal(self):
+        """An iterator goes on where a signal ended it. The handler cannot use it."""
+        said = []
+
+        def use(*unused):
+            try:
+                next(instances)
+            except ValueError as it:
+                said.append(str(it))
+            stop()
+
+        until = DateTime(JANUARY) + Duration(minutes=600_000)
+        days, minutes = Rule("FREQ=DAILY;COUNT=600000", JANUARY), Schedule("* * * * *").iterate(DateTime(JANUARY), until)
+        before = signal.signal(signal.SIGPROF, use)
+        try:
+            for instances, last, step in ((iter(days), JANUARY + 599_999, 1), (minutes, until, Duration(minutes=1))):
+                signal.setitimer(signal.ITIMER_PROF, 0.002)
+                self.assertRaises(Stopped, list, instances)
+                left = list(instances)
+                self.assertEqual((left[0] + step * (len(left) - 1), left[-1]), (last, last))
+        finally:
+            signal.setitimer(signal.ITIMER_PROF, 0)
+            signal.signal(signal.SIGPROF, before)
+        self.assertEqual(said, 2 * ["another thread is using the iterator"])
 
 
 class Schedules(unittest.TestCase):
@@ -238,6 +305,11 @@ class Rules(unittest.TestCase):
         instances = iter(rule)
         self.assertIs(iter(instances), instances)
         self.assertRaises(TypeError, type(instances))
+        counted = Rule("FREQ=DAILY;COUNT=3000", JANUARY)
+        for place in (0, 63, 1023, 1024, 2045, 2046, 2999, -1, -1024, -3000):
+            self.assertEqual(counted[place], days[place], place)
+        for place in (3000, -3001):
+            self.assertRaises(IndexError, lambda: counted[place])
         # (up to the end of the calendar)
         self.assertEqual(Rule("FREQ=YEARLY", Date(262140, 5, 1)).count(), 3)
         self.assertEqual(Rule("FREQ=DAILY", Date.max)[-1], Date.max)
@@ -278,6 +350,21 @@ class Rules(unittest.TestCase):
         self.assertRaises(AttributeError, setattr, FRIDAYS, "text", "")
 
 
+    def test_long_count(self):
+        """A rule with COUNT is listed almost as fast as one with UNTIL, however long it is."""
+        days = 50_000
+        until = Rule(f"FREQ=DAILY;UNTIL={JANUARY + (days - 1):%Y%m%d}", JANUARY)
+        rule, small = Rule(f"FREQ=DAILY;COUNT={days}", JANUARY), Rule(f"count={days};freq=daily", JANUARY)
+        self.assertEqual([*rule], [*until])
+        for counted, other in (
+            (lambda: [*rule], lambda: [*until]), (lambda: [*small], lambda: [*until]), (rule.count, until.count),
+            (lambda: rule[days - 1], lambda: until[days - 1]), (lambda: [*rule.xafter(JANUARY)], lambda: [*until.xafter(JANUARY)]),
+            (lambda: rule[-1000:], lambda: until[-1000:]), (lambda: rule[-1000], lambda: [*until]),
+            (lambda: RuleSet([until], except_rules=[rule]).count(), lambda: RuleSet([until], except_rules=[until]).count()),
+        ):
+            self.assertLess(seconds_of(counted), 5 * seconds_of(other) + 0.001)
+
+
 class RuleSets(unittest.TestCase):
     def test_instances(self):
         daily, mondays = Rule("FREQ=DAILY;COUNT=20", JANUARY), Rule("FREQ=WEEKLY;BYDAY=MO", JANUARY)
@@ -303,6 +390,10 @@ class RuleSets(unittest.TestCase):
             self.assertEqual([*made.xafter(JANUARY, count)], [])
         for wrong in (lambda: made.xafter(JANUARY, 1.0), lambda: made[1.0], lambda: made["1"]):
             self.assertRaises(TypeError, wrong)
+        left_out = RuleSet([mondays, daily], [extra], [Rule("FREQ=DAILY;COUNT=3", JANUARY + 5), Rule("FREQ=DAILY;COUNT=2", JANUARY)])
+        kept = [it for it in sorted({*daily, *mondays.between(JANUARY, extra, inc=True), extra}) if it - JANUARY not in (0, 1, 5, 6, 7)]
+        self.assertEqual(left_out.between(JANUARY, extra, inc=True), kept)
+        self.assertEqual([*left_out.xafter(kept[4], 3)], kept[5:8])
         few = RuleSet([daily], except_dates=[it.to_date() for it in daily][:15])
         self.assertEqual((few.count(), few[-1], few[-2:], few.before(Date(2024, 1, 16))), (5, Date(2024, 1, 20), [*few][-2:], None))
         self.assertRaises(IndexError, lambda: few[5])

@@ -11,6 +11,7 @@ import random
 import sys
 import time
 import unittest
+import zoneinfo
 from datetime import timedelta
 from fractions import Fraction
 
@@ -353,6 +354,13 @@ class Times(Cases):
             moment = DateTime.combine(Date(2024, 2, 29), ours)
             self.assertEqual((moment.time, moment.date), (ours, Date(2024, 2, 29)))
             self.assertEqual(DateTime.combine(moment, ours), datetime.datetime.combine(datetime.date(2024, 2, 29), theirs))
+            date, zone = self.a_date(), self.chance.choice((None, datetime.timezone.utc, datetime.timezone(timedelta(hours=5))))
+            zoned = theirs.replace(tzinfo=zone, fold=self.chance.randrange(2))
+            for ours in (Date.from_date(date), date, DateTime.from_datetime(self.a_moment()), self.a_moment()):
+                day = ours if isinstance(ours, datetime.date) else ours.to_date() if isinstance(ours, Date) else ours.date.to_date()
+                for given in ({}, {"tzinfo": None}, {"tzinfo": datetime.timezone.utc}):
+                    made, wanted = DateTime.combine(ours, zoned, **given), datetime.datetime.combine(day, zoned, **given)
+                    self.assertEqual((made, made.tzinfo, made.fold), (wanted, wanted.tzinfo, wanted.fold))
         leap = Time(23, 59, 60, nanosecond=5)
         self.assertEqual((leap.second, leap.second_of_day, str(leap)), (60, 86_399, "23:59:60.000000005"))
         self.assertRaises(ValueError, leap.to_time)
@@ -432,6 +440,60 @@ class Equal(Cases):
             self.assertEqual(hash(DateTime.from_datetime(stamp)), hash(stamp))
             self.assertEqual(Duration.from_timedelta(length), length)
             self.assertEqual(hash(Duration.from_timedelta(length)), hash(length))
+
+
+class Differences(Cases):
+    def test_dates(self):
+        for _ in range(COUNT):
+            date, base = self.a_date(), self.a_date()
+            days = (date - base).days
+            ours, other = Date.from_date(date), Date.from_date(base)
+            self.assertEqual((ours - other, ours - base, date - other), (days, days, days))
+            self.assertIs(type(date - other), int)
+        for wrong in (self.a_moment(), DateTime.min, "2024-02-29"):
+            self.assertRaises(TypeError, lambda: ours - wrong)
+            self.assertRaises(TypeError, lambda: wrong - ours)
+
+    def test_moments(self):
+        east, west = (datetime.timezone(timedelta(hours=it)) for it in (5, -8))
+        for _ in range(COUNT):
+            moment, base = self.a_moment(), self.a_moment()
+            for one, other in ((None, None), (east, east), (east, west), (west, datetime.timezone.utc)):
+                left, right = moment.replace(tzinfo=one), base.replace(tzinfo=other)
+                ours, theirs = DateTime.from_datetime(left), DateTime.from_datetime(right)
+                for found in (ours - theirs, ours - right, left - theirs):
+                    self.assertEqual((found, type(found)), (left - right, Duration))
+        for left, right in ((ours, base), (moment, theirs)):
+            self.assertRaises(TypeError, lambda: left - right)
+        leap = DateTime(2016, 12, 31, 23, 59, 60, nanosecond=5)
+        self.assertEqual(leap - datetime.datetime(2016, 12, 31, 23, 59, 59), Duration(seconds=1, nanoseconds=5))
+        self.assertEqual(datetime.datetime(2017, 1, 1) - leap, DateTime(2017, 1, 1) - leap)
+        for wrong in (datetime.date(2024, 2, 29), Date.min, datetime.time(), 1):
+            self.assertRaises(TypeError, lambda: leap - wrong)
+            self.assertRaises(TypeError, lambda: wrong - leap)
+
+
+class Rounding(Cases):
+    def test_round(self):
+        berlin, lengths = zoneinfo.ZoneInfo("Europe/Berlin"), [timedelta(microseconds=it) for it in (1, 2_500, 10**6, 9 * 10**8, 36 * 10**8, 864 * 10**8)]
+        for _ in range(COUNT):
+            theirs, length = self.a_moment().replace(tzinfo=self.chance.choice((None, berlin))), self.chance.choice(lengths)
+            if theirs.year < 9999:
+                midnight = theirs.replace(hour=0, minute=0, second=0, microsecond=0)
+                wanted = midnight + math.floor((theirs - midnight) / length + Fraction(1, 2)) * length
+                for of in (length, Duration.from_timedelta(length)):
+                    found = DateTime.from_datetime(theirs).round(of)
+                    self.assertEqual((found, found.tzinfo), (wanted, wanted.tzinfo))
+        half = DateTime(2024, 2, 29, 12, 7, 30)
+        self.assertEqual([str(it.round(timedelta(minutes=15)).time) for it in (half, half - Duration(nanoseconds=1))], ["12:15:00", "12:00:00"])
+        self.assertEqual(DateTime(2016, 12, 31, 23, 59, 60, 900_000).round(Duration(seconds=1)), DateTime(2017, 1, 1))
+        twice = DateTime(2024, 10, 27, 2, 20, tzinfo=berlin)
+        self.assertEqual([str(twice.replace(fold=it).round(Duration(hours=1))) for it in (0, 1)], ["2024-10-27T02:00:00+02:00", "2024-10-27T02:00:00+01:00"])
+        for wrong in (Duration(), Duration(hours=-1), Duration(hours=7), timedelta(days=2)):
+            self.assertRaises(ValueError, half.round, wrong)
+        for wrong in (1, None, "hour", half):
+            self.assertRaises(TypeError, half.round, wrong)
+        self.assertRaises(OverflowError, DateTime.max.round, Duration(days=1))
 
 
 class Months(Cases):

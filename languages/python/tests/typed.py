@@ -15,7 +15,7 @@ class Day(Date):
 day: Date = Date(2024, 2, 29) + 1
 same: Date = 1 + Date.fromisoformat("2024-02-28")
 before: Date = day - datetime.timedelta(1) - Duration(days=1)
-apart: int = day - before
+apart: int = (day - before) + (day - datetime.date(2024, 2, 29)) + (datetime.date(2024, 2, 29) - day)
 own: Day = Day.fromordinal(1).replace(day=2) + 3
 weekday: Weekday = day.isoweekday()
 year, week, of_week = day.isocalendar()
@@ -26,6 +26,7 @@ theirs: datetime.date = day.to_date()
 
 moment: DateTime = DateTime(day, 23, 59, 60) + Duration(seconds=1) - datetime.timedelta(1)
 length: Duration = moment - DateTime.from_seconds(0)
+passed: Duration = (moment - datetime.datetime(2024, 2, 29)) + (datetime.datetime(2024, 2, 29) - moment)
 longer: Duration = datetime.timedelta(1) + abs(-length) - datetime.timedelta(2)
 is_long: bool = bool(longer) and longer > length
 standard: datetime.datetime = DateTime.from_datetime(datetime.datetime(2024, 2, 29)).to_datetime()
@@ -33,6 +34,7 @@ delta: datetime.timedelta = Duration.from_timedelta(datetime.timedelta(1)).to_ti
 
 noon: DateTime = DateTime(2024, 2, 29, 12, microsecond=5).add_months(1)
 clock: Time = DateTime.combine(day, Time(12, 30)).time.replace(hour=1, nanosecond=7)
+theirs_together: DateTime = DateTime.combine(datetime.date(2024, 2, 29), datetime.time(12), None).round(datetime.timedelta(hours=1))
 now: DateTime = DateTime.now()
 half: Duration = longer / 2 + 1.5 * Duration(1, hours=2.5) - Duration.fromisoformat("PT1H")
 share: float = half / datetime.timedelta(1) + half.total_seconds()
