@@ -57,6 +57,15 @@ function dueItem(moment, start, name, skipped) {
   return item;
 }
 
+/** That the clock skips some times, in words; the empty text if it skips none. */
+function skippedInWords([first, ...others]) {
+  if (first === undefined) {
+    return "";
+  }
+  const more = others.length > 0 ? `, and a time on ${counted(others.length, "more day")}` : "";
+  return `The clock skips ${clock(first)} on ${spoken(first)}${more}, so it is due as the gap ends.`;
+}
+
 /** Shows the next times after a moment at which a schedule is due, and which times the clock skips. Answers how many times there are. */
 export function showDue(list, note, schedule, start, nameAt) {
   const due = [];
@@ -68,8 +77,7 @@ export function showDue(list, note, schedule, start, nameAt) {
   }
   const nameOf = ({ epochNanoseconds }) => nameAt(Number(epochNanoseconds / SECOND));
   list.replaceChildren(...due.map(({ moment, skipped }) => dueItem(moment, start, nameOf(moment), skipped)));
-  const skipped = due.filter((it) => it.skipped).map((it) => `${clock(it.skipped)} on ${spoken(it.skipped)}`);
-  note.textContent = skipped.length > 0 ? `The clock skips ${listed(skipped)}, so it is due as the gap ends.` : "";
+  note.textContent = skippedInWords(due.map((it) => it.skipped).filter(Boolean));
   return due.length;
 }
 
