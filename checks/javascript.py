@@ -11,12 +11,13 @@ project of its own, to which the package is put as npm puts it, node runs the te
 where there is a tsc, a file of types. Ten wrong lines are then planted in the wrapper, one at a time, and the tests
 have to fail on each.
 
-In a headless Chromium the package is compared with the browser's own Temporal, and the page is used as a user uses it, in a zone and at a
-moment that it is given. Cron lines, wrong ones too, are typed, and what is shown compared with a walk minute by minute. In zones near
-changes of the clock it is the cron of checks/zoned_schedules.py that walks. All zones are compared with zoneinfo. Lines are typed and their answers compared with those of caltool (the program, if it is built, or else the calendar of
-checks/fuzz.py); months, distances and rows of dates are compared with Python's datetime and with the calendar that
-counts (checks/counted.py); what can be reached by the keyboard has to have a name that a screen reader reads; nothing
-may be wider than a narrow screen, and texts have to stand out from what is behind them, in light and in dark.
+In a headless Chromium the package is compared with the browser's own Temporal, and the page is used as a user uses it, in a zone
+and at a moment that it is given. Cron lines, wrong ones too, are typed, and what is shown compared with a walk minute by minute.
+In zones near changes of the clock it is the cron of checks/zoned_schedules.py that walks. All zones are compared with zoneinfo.
+Lines are typed and their answers compared with those of caltool (the program, if it is built, or else the calendar of
+checks/fuzz.py); months, distances and rows of dates are compared with Python's datetime and with the calendar that counts
+(checks/counted.py); what can be reached by the keyboard has to have a name that a screen reader reads; nothing may be wider than
+a narrow screen, and texts have to stand out from what is behind them, in light and in dark.
 """
 import base64
 import datetime
@@ -123,7 +124,8 @@ ZONED = (
     ("Asia/Kathmandu", "Asia/Kathmandu", "0 0 * * *", "1985-12-30T00:00", 7, "00:00 on Wednesday 1 January 1986"),
     ("Africa/Casablanca", "Africa/Casablanca", "30 2 * * *", "2024-03-08T12:00", 7, ""),
     ("Africa/Casablanca", "Africa/Casablanca", "30 2 * * *", "2024-04-12T12:00", 7, "02:30 on Sunday 14 April 2024"),
-    ("Africa/Casablanca", "Africa/Casablanca", "30 2 20,29 4,8 *", "2012-04-01T00:00", 390, "02:30 on Sunday 29 April 2012, and a time on 1 more day"),
+    ("Africa/Casablanca", "Africa/Casablanca", "30 2 20,29 4,8 *", "2012-04-01T00:00", 390,
+     "02:30 on Sunday 29 April 2012, and a time on 1 more day"),
     ("Pacific/Apia", "Pacific/Apia", "0 12 * * *", "2011-12-28T00:00", 8, "12:00 on Friday 30 December 2011"),
     ("Europe/Moscow", "Europe/Moscow", "30 2 * * 0", "2010-03-14T00:00", 50, "02:30 on Sunday 28 March 2010"),
     ("America/Sao_Paulo", "America/Sao_Paulo", "59 23 * * *", "2018-02-15T12:00", 7, ""),
