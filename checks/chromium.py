@@ -1,16 +1,42 @@
 """A headless Chromium that a check drives by its DevTools protocol, over a pipe."""
+import base64
 import json
 import os
 import shutil
+import struct
 import subprocess
 import tempfile
+import zlib
 
 NAMES = ("chromium", "chromium-browser", "google-chrome", "google-chrome-stable")
+# The size of a picture, so many of its colours as are asked for, as bytes, and of each point the place of the nearest of them.
+FEW_COLOURS = """(async (data, most) => {
+  const image = await createImageBitmap(await (await fetch(`data:image/png;base64,${data}`)).blob());
+  const canvas = new OffscreenCanvas(image.width, image.height).getContext("2d");
+  canvas.drawImage(image, 0, 0);
+  const points = new Uint32Array(canvas.getImageData(0, 0, image.width, image.height).data.buffer), counts = new Map();
+  points.forEach((it) => counts.set(it, (counts.get(it) ?? 0) + 1));
+  const kept = [...counts.keys()].sort((one, other) => counts.get(other) - counts.get(one)).slice(0, most);
+  const parts = (it) => [it & 255, (it >> 8) & 255, (it >> 16) & 255];
+  const far = (one, other) => parts(one).reduce((sum, it, at) => sum + (it - parts(other)[at]) ** 2, 0);
+  const nearest = (it) => kept.reduce((best, other, at) => (far(it, other) < far(it, kept[best]) ? at : best), 0);
+  const places = new Map(Array.from(counts.keys(), (it) => [it, nearest(it)]));
+  return [image.width, image.height, kept.flatMap(parts), btoa(Array.from(points, (it) => String.fromCharCode(places.get(it))).join(""))];
+})"""
 
 
 def found():
     """The path of a Chromium, or None."""
     return next(filter(None, map(shutil.which, NAMES)), None)
+
+
+def png(width, height, colours, places):
+    """The bytes of a PNG, of colours as bytes and of each point's place among them."""
+    rows = b"".join(b"\0" + places[at : at + width] for at in range(0, len(places), width))
+    size = struct.pack(">IIBBBBB", width, height, 8, 3, 0, 0, 0)
+    parts = ((b"IHDR", size), (b"PLTE", bytes(colours)), (b"IDAT", zlib.compress(rows, 9)), (b"IEND", b""))
+    packed = (struct.pack(">I", len(it)) + kind + it + struct.pack(">I", zlib.crc32(kind + it)) for kind, it in parts)
+    return b"\x89PNG\r\n\x1a\n" + b"".join(packed)
 
 
 class Chromium:
@@ -102,6 +128,12 @@ class Chromium:
             raise RuntimeError(thrown.get("exception", {}).get("description", thrown["text"]))
         return answer["result"].get("value")
 
+    def picture(self, clip, colours):
+        """A picture of a part of the page, as a PNG of so many colours, at most 256."""
+        shot = self.call("Page.captureScreenshot", format="png", clip=clip)
+        width, height, kept, places = self.run(f"{FEW_COLOURS}({json.dumps(shot['data'])}, {colours})")
+        return png(width, height, kept, base64.b64decode(places))
+
     def press(self, key, shift=False):
         """A key, as a user presses it."""
         codes = {"Tab": 9, "Enter": 13, "PageUp": 33, "PageDown": 34, "End": 35, "Home": 36,
@@ -111,6 +143,13 @@ class Chromium:
             how["text"] = "\r"
         self.call("Input.dispatchKeyEvent", type="keyDown", **how)
         self.call("Input.dispatchKeyEvent", type="keyUp", **{name: it for name, it in how.items() if name != "text"})
+
+    def click(self, selector):
+        """A click in the middle of an element, as a user clicks."""
+        script = "(({ left, top, width, height }) => [left + width / 2, top + height / 2])"
+        x, y = self.run(f"{script}(document.querySelector({json.dumps(selector)}).getBoundingClientRect())")
+        for kind in ("mousePressed", "mouseReleased"):
+            self.call("Input.dispatchMouseEvent", type=kind, x=x, y=y, button="left", clickCount=1)
 
     def type(self, selector, text):
         """Puts a text into a field in place of what is there, as one types it."""

@@ -52,7 +52,7 @@ ABSENT = {
         unfoldable view_is ensures """,
     "of pandas and Dask": "NA OutOfBoundsDatetime Client compute",
     "of Python": "Unpickler OverflowError TypeError ValueError datetime timedelta ZoneInfo __slots__ __getstate__",
-    "of JavaScript": "BigInt Int32Array calendarName PlainTime iso8601 RangeError Temporal overflow resolvedOptions wasm-opt",
+    "of JavaScript": "BigInt Int32Array calendarName PlainTime iso8601 RangeError Temporal overflow wasm-opt",
     "of earlier versions": "check_rule check_schedule Roll::Nearest",
     "of SQL, and of texts that it is given": "timestamptz STRICT IMMUTABLE STABLE nearest-isda nearest-quantlib nearest_quantlib",
     "of C": "int32_t memcpy",

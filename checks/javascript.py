@@ -11,11 +11,13 @@ project of its own, to which the package is put as npm puts it, node runs the te
 where there is a tsc, a file of types. Ten wrong lines are then planted in the wrapper, one at a time, and the tests
 have to fail on each.
 
-In a headless Chromium the package is compared with the browser's own Temporal, and the page is used as a user uses it:
-cron lines, wrong ones too, are typed, and what is shown compared with a walk minute by minute. Lines are typed and their answers compared with those of caltool (the program, if it is built, or else the calendar of
-checks/fuzz.py); months, distances and rows of dates are compared with Python's datetime and with the calendar that
-counts (checks/counted.py); what can be reached by the keyboard has to have a name that a screen reader reads; nothing
-may be wider than a narrow screen, and texts have to stand out from what is behind them, in light and in dark.
+In a headless Chromium the package is compared with the browser's own Temporal, and the page is used as a user uses it, in a zone
+and at a moment that it is given. Cron lines, wrong ones too, are typed, and what is shown compared with a walk minute by minute.
+In zones near changes of the clock it is the cron of checks/zoned_schedules.py that walks. All zones are compared with zoneinfo.
+Lines are typed and their answers compared with those of caltool (the program, if it is built, or else the calendar of
+checks/fuzz.py); months, distances and rows of dates are compared with Python's datetime and with the calendar that counts
+(checks/counted.py); what can be reached by the keyboard has to have a name that a screen reader reads; nothing may be wider than
+a narrow screen, and texts have to stand out from what is behind them, in light and in dark.
 """
 import base64
 import datetime
@@ -27,6 +29,7 @@ import shutil
 import subprocess
 import sys
 import tempfile
+import zoneinfo
 
 import cells
 import chromium
@@ -34,6 +37,7 @@ import counted
 import fuzz
 import languages
 import layers_c
+import zoned_schedules
 from results import Results, is_older, read
 from wrong_lines import edits, planted
 
@@ -41,6 +45,7 @@ TOP = os.path.dirname(os.path.dirname(os.path.abspath(__file__)))
 sys.path.insert(0, f"{TOP}/tools")
 import debian  # noqa: E402
 import packages  # noqa: E402
+import zone_texts  # noqa: E402
 from packages import javascript  # noqa: E402
 
 FOLDER = f"{TOP}/languages/javascript"
@@ -52,6 +57,10 @@ ZONES = ("Europe/Berlin", "America/New_York", "Australia/Lord_Howe", "America/Sa
          "Europe/London")
 MONTHS = "January February March April May June July August September October November December".split()
 WEEKDAYS = "Monday Tuesday Wednesday Thursday Friday Saturday Sunday".split()
+# The zone of the machine and the present moment, as the page sees them.
+OWN_ZONE, PRESENT = "Europe/Berlin", datetime.datetime(2024, 3, 30, 0, 15, 7, tzinfo=datetime.timezone.utc)
+STILL_CLOCK = f"""(() => {{ const at = {int(PRESENT.timestamp())}_000, Real = Date;
+  Date = class extends Real {{ constructor(...given) {{ super(...(given.length ? given : [at])); }} static now() {{ return at; }} }}; }})()"""
 
 
 def is_at(hour, minute):
@@ -96,6 +105,40 @@ WRONG_SCHEDULES = (
     ("0 1,99 * * *", "99", "hour: a number that is out of range"),
     ("* * * foo *", "foo", "month: an unknown name"),
     ("* * * *", "\u00a0", "fewer than five fields"),
+)
+
+
+# Cron lines in zones near changes of the clock: the zone as it is typed and as zoneinfo has it, the line, a local start, days in which it is due five
+# times, and what is said of times that the clock skips.
+ZONED = (
+    ("UTC", "UTC", "30 2 * * *", "2024-03-29T12:00", 7, ""),
+    ("europe/berlin", "Europe/Berlin", "30 2 * * *", "2024-03-29T12:00", 7, "02:30 on Sunday 31 March 2024"),
+    ("CET-1CEST,M3.5.0,M10.5.0/3", "Europe/Berlin", "30 2 * * *", "2024-03-29T12:00", 7, "02:30 on Sunday 31 March 2024"),
+    ("<+01>-1<+02>,M3.5.0,M10.5.0/3", "Africa/Ceuta", "30 2 * * *", "2024-10-25T12:00", 7, ""),
+    ("Europe/Berlin", "Europe/Berlin", "10,50 2 * * *", "2024-03-30T02:20", 7, "02:10 on Sunday 31 March 2024"),
+    ("Europe/Berlin", "Europe/Berlin", "30 2 * * *", "2024-10-25T12:00", 7, ""),
+    ("America/New_York", "America/New_York", "30 * * * *", "2024-11-02T23:00", 2, ""),
+    ("America/New_York", "America/New_York", "30 * * * *", "2024-03-09T23:00", 2, ""),
+    ("US/Pacific", "US/Pacific", "0,30 2 * * 0", "2024-02-28T12:00", 20, "02:00 on Sunday 10 March 2024"),
+    ("Australia/Lord_Howe", "Australia/Lord_Howe", "15 2 * * *", "2024-10-03T12:00", 7, "02:15 on Sunday 6 October 2024"),
+    ("Asia/Kathmandu", "Asia/Kathmandu", "0 0 * * *", "1985-12-30T00:00", 7, "00:00 on Wednesday 1 January 1986"),
+    ("Africa/Casablanca", "Africa/Casablanca", "30 2 * * *", "2024-03-08T12:00", 7, ""),
+    ("Africa/Casablanca", "Africa/Casablanca", "30 2 * * *", "2024-04-12T12:00", 7, "02:30 on Sunday 14 April 2024"),
+    ("Africa/Casablanca", "Africa/Casablanca", "30 2 20,29 4,8 *", "2012-04-01T00:00", 390,
+     "02:30 on Sunday 29 April 2012, and a time on 1 more day"),
+    ("Pacific/Apia", "Pacific/Apia", "0 12 * * *", "2011-12-28T00:00", 8, "12:00 on Friday 30 December 2011"),
+    ("Europe/Moscow", "Europe/Moscow", "30 2 * * 0", "2010-03-14T00:00", 50, "02:30 on Sunday 28 March 2010"),
+    ("America/Sao_Paulo", "America/Sao_Paulo", "59 23 * * *", "2018-02-15T12:00", 7, ""),
+)
+# What is typed for a zone and is none: the part that is marked, and what is said of it.
+WRONG_ZONES = (
+    ("Europe/Berln", "Berln", "no zone has this name"),
+    ("Europa/Berlin", "Europa/Berlin", "no zone has this name; there is Europe/Berlin"),
+    ("new york", "new york", "no zone has this name; there is America/New_York"),
+    ("", "\u00a0", "a zone is missing"),
+    ("CET-1CEST,M3.5.0,M13.5.0/3", "M13.5.0/3", "no day stands there on which the clock is set"),
+    ("CET-1CEST", "\u00a0", "the days of daylight time are missing"),
+    ("<+05>+30", "+30", "the offset is a day or more"),
 )
 
 
@@ -354,7 +397,7 @@ def compare_sheet(results, page, year, month):
 
 def use_month(results, page):
     """Months are chosen by their fields, by buttons and by the keyboard."""
-    today = datetime.date.today()
+    today = in_zone(PRESENT, OWN_ZONE)
     compare_sheet(results, page, today.year, today.month)
     for year, month in ((2024, 2), (2021, 1), (2020, 12), (-1, 2), (10_000, 1), (262_142, 12), (-262_143, 1)):
         page.type("#year", str(year))
@@ -391,32 +434,151 @@ def dues(is_due, start, count):
     return found
 
 
+def moments(page):
+    """The times that are shown, with their offsets."""
+    return page.run("[...document.querySelectorAll('#due li')].map((it) => it.dataset.moment)")
+
+
+def is_refused(results, page, field, text, wrong, reason):
+    """A text in a field is wrong: a part of it is marked below the field, and what is wrong is said there."""
+    page.type(f"#{field}", text)
+    place = f"document.querySelector('#{field}-trouble')"
+    results.equal(page.run(f"[...{place}.querySelectorAll('mark')].map((it) => it.textContent)"), [wrong], f"the mark in {text!r}")
+    results.equal(page.run(f"{place}.querySelector('.at').textContent"), text + wrong * (wrong == "\u00a0"), f"the text of {text!r}")
+    results.equal(page.text(f"#{field}-trouble span"), reason, f"what is wrong with {text!r}")
+    results.equal((marked(page), moments(page)), ([field], []), f"the field marked at {text!r}, and what is due")
+
+
 def use_schedule(results, page):
     """Cron lines in words with their next five times, and what is wrong with a line, at its place."""
-    start = datetime.datetime(2024, 2, 9, 4, 30, 15)
-    page.type("#after", start.isoformat())
+    start = datetime.datetime(2024, 2, 9, 4, 30, 15, tzinfo=datetime.timezone.utc)
+    page.type("#zone", "UTC")
+    page.type("#after", start.replace(tzinfo=None).isoformat())
     for text, words, is_due in SCHEDULES:
         page.type("#cron", text)
         results.equal(page.text("#cron-words"), f"{words}.", f"{text!r} in words")
-        wanted = [it.isoformat() for it in dues(is_due, start, 5)]
-        results.equal(page.run("[...document.querySelectorAll('#due li')].map((it) => it.dataset.moment)"), wanted, f"the next times of {text!r}")
-    results.equal(page.text("#due li"), "04:30\nMonday 12 February 2024\n3 days later", "what is shown of a time")
-    for text, wrong, reason in WRONG_SCHEDULES:
-        page.type("#cron", text)
-        results.equal(page.run("[...document.querySelectorAll('#cron-trouble mark')].map((it) => it.textContent)"), [wrong], f"the mark in {text!r}")
-        results.equal(page.run("document.querySelector('#cron-trouble .at').textContent"), text + wrong * (wrong == "\u00a0"), f"the text of {text!r}")
-        results.equal(page.text("#cron-trouble span"), reason, f"what is wrong with {text!r}")
-        results.equal((page.text("#cron-words"), marked(page)), ("", ["cron"]), f"what else is shown of {text!r}")
+        results.equal(moments(page), [it.isoformat() for it in dues(is_due, start, 5)], f"the next times of {text!r}")
+    results.equal(page.text("#due li"), "04:30 UTC +00:00\nMonday 12 February 2024\n3 days later", "what is shown of a time")
+    for row in WRONG_SCHEDULES:
+        is_refused(results, page, "cron", *row)
+        results.equal(page.text("#cron-words"), "", f"the words of {row[0]!r}")
     page.type("#cron", "0 0 30 2 *")
     results.equal(page.text("#cron-trouble"), "no date is due after that", "what is said of a schedule that is never due")
     page.type("#after", "2024-02-30")
     results.equal(marked(page), ["after"], "the fields marked at a start that is none")
+    results.equal(page.text("#after-trouble"), '"2024-02-30": no text of a date-time', "what is said of a start that is none")
     page.run("document.querySelector('#now').click()")
-    results.equal(marked(page), [], "the fields marked now")
-    now = datetime.datetime.fromisoformat(page.run("document.querySelector('#after').value"))
-    results.count(abs(datetime.datetime.now() - now) < datetime.timedelta(minutes=1), f"now is {now} for the page")
+    results.equal((marked(page), page.text("#after-trouble")), ([], ""), "the fields marked now")
     page.run("document.querySelector('#cron-examples button').click()")
     results.count(page.text("#cron-words"), "an example of a cron line shows nothing")
+
+
+def in_zone(moment, name):
+    """What the clock of a zone shows at a moment."""
+    return moment.astimezone(zoneinfo.ZoneInfo(name))
+
+
+def zoned_dues(name, text, start, days, count):
+    """The first moments after a local start at which a cron runs a job in a zone, found minute by minute."""
+    zone, schedule = zoneinfo.ZoneInfo(name), zoned_schedules.Schedule(text)
+    first = int(datetime.datetime.fromisoformat(start).replace(tzinfo=zone).timestamp())
+    minutes = list(zoned_schedules.walk(zone, first - zoned_schedules.DAY, first + days * zoned_schedules.DAY))
+    run = zoned_schedules.cron(minutes, schedule, *zoned_schedules.policy_of(schedule, "-", "vixie"))
+    return [datetime.datetime.fromtimestamp(it, zone) for it in run if it > first][:count]
+
+
+def name_shown(moment, is_numbered=False):
+    """What the page shows of the zone at a moment: the name, unless it is a number, and the offset."""
+    name, offset = moment.tzname(), moment.isoformat()[-6:]
+    return offset if is_numbered or name[0] in "+-" else f"{name} {offset}"
+
+
+def is_moved(moment, text):
+    """Whether a cron line does not list what the clock shows at a moment, at which it is due as a gap ends."""
+    minute = (moment.replace(tzinfo=None) - datetime.datetime(1970, 1, 1)) // datetime.timedelta(minutes=1)
+    return not zoned_schedules.Schedule(text).is_planned(minute)
+
+
+def which_of(moment):
+    """Which of two it is, of a time that the clock shows twice; the empty text for another."""
+    is_twice = moment.utcoffset() != moment.replace(fold=1 - moment.fold).utcoffset()
+    return ("first", "second")[moment.fold] if is_twice else ""
+
+
+def use_zone(results, page):
+    """The next times in zones near changes of the clock, now in each zone, and what is wrong with a zone, at its place."""
+    for typed, name, text, start, days, skipped in ZONED:
+        page.type("#zone", typed)
+        page.type("#after", start)
+        page.type("#cron", text)
+        wanted, what = zoned_dues(name, text, start, days, 5), f"{text!r} in {typed} from {start}"
+        results.equal((len(wanted), moments(page)), (5, [it.isoformat() for it in wanted]), f"the next times of {what}")
+        shown = page.run("[...document.querySelectorAll('#due .zone')].map((it) => it.textContent)")
+        results.equal(shown, [name_shown(it, typed[0] == "<") for it in wanted], f"the offsets of {what}")
+        note = skipped and f"The clock skips {skipped}, so it is due as the gap ends."
+        results.equal(page.text("#skipped"), note, f"what is said of gaps by {what}")
+        smalls = page.run("[...document.querySelectorAll('#due small')].map((it) => it.textContent)")
+        results.equal([", for " in it for it in smalls], [is_moved(it, text) for it in wanted], f"times of gaps by {what}")
+        results.equal([" ".join(re.findall(r", the (\w+) of two", it)) for it in smalls], [which_of(it) for it in wanted], f"times of folds by {what}")
+    for row in WRONG_ZONES:
+        is_refused(results, page, "zone", *row)
+        results.equal(page.text("#cron-words"), "At 23:59, every day.", f"the words beside the zone {row[0]!r}")
+    use_now(results, page)
+
+
+def use_now(results, page):
+    """The time after which it is due is now in each zone that is chosen, until another is typed."""
+    page.type("#zone", OWN_ZONE)
+    page.run("document.querySelector('#now').click()")
+    for name in (OWN_ZONE, "America/New_York", "Asia/Kathmandu"):
+        page.type("#zone", name)
+        now = in_zone(PRESENT, name).replace(tzinfo=None).isoformat()
+        results.equal(page.run("document.querySelector('#after').value"), now, f"now in {name}")
+    page.type("#after", "2024-10-27T02:30+01:00")
+    page.type("#zone", OWN_ZONE)
+    page.type("#cron", "45 * * * *")
+    results.equal(page.run("document.querySelector('#after').value"), "2024-10-27T02:30+01:00", "a time that was typed, in another zone")
+    results.equal(moments(page)[0], "2024-10-27T02:45:00+01:00", "the next time after the second hour of two")
+
+
+def use_keys(results, page):
+    """A zone is chosen by the keyboard alone."""
+    page.type("#after", "2024-07-01T12:00")
+    page.type("#cron", "0 8 * * *")
+    page.press("Tab")
+    page.call("Input.insertText", text="Asia/Kolkata")
+    results.equal((page.run("document.activeElement.id"), moments(page)[0]), ("zone", "2024-07-02T08:00:00+05:30"), "a zone by the keyboard")
+    while page.run("document.activeElement.closest('#zone-examples')") is None:
+        page.press("Tab")
+    example = page.run("document.activeElement.textContent")
+    page.press("Enter")
+    results.equal((example, page.run("document.activeElement.value")), (OWN_ZONE, OWN_ZONE), "the first example of a zone, by the keyboard")
+    results.equal(moments(page)[0], "2024-07-02T08:00:00+02:00", "the next time in that zone")
+    page.run("document.activeElement.blur()")
+    page.click("#zone")
+    page.call("Input.insertText", text="Asia/Tokyo")
+    results.equal(page.run("document.querySelector('#zone').value"), "Asia/Tokyo", "what is typed after a click into the zone")
+    names = page.run("[...document.querySelector('#zone').list.options].map((it) => it.value)")
+    results.count({"UTC", "Europe/Berlin", "Asia/Tokyo"} <= set(names) <= zoneinfo.available_timezones(), f"the names that are offered: {names}")
+
+
+def compare_zones(results, page):
+    """The offset and the name of each zone at drawn instants and around changes of the clock, beside zoneinfo."""
+    chance, asked = random.Random(1), {}
+    for name, file in zone_texts.files(zone_texts.FOLDER).items():
+        changes = [it for it, _ in zone_texts.parts(file)[2] if it > -5_000_000_000]
+        near = [it - less for it in chance.sample(changes, min(len(changes), 10)) for less in (0, 1)]
+        asked[name] = [*near, *(chance.randrange(-4_000_000_000, 6_000_000_000) for _ in range(20))]
+    script = """import('zones').then(({ zoneOf }) => Object.entries(ASKED).map(([name, seconds]) => {
+        const { zone, nameAt } = zoneOf(name);
+        return seconds.map((it) => `${zone.offsetAt(BigInt(it))} ${nameAt(it)}`);
+    }))"""
+    for (name, seconds), found in zip(asked.items(), page.run(script.replace("ASKED", json.dumps(asked)))):
+        there = [in_zone(datetime.datetime.fromtimestamp(0, datetime.timezone.utc) + datetime.timedelta(seconds=it), name) for it in seconds]
+        wanted = [f"{int(it.utcoffset().total_seconds())} {it.tzname()}" for it in there]
+        differ = [it for it in zip(seconds, found, wanted) if it[1] != it[2]]
+        results.count(not differ, f"{name} is otherwise than in zoneinfo: {differ[:3]}")
+    results.count(len(asked) > 400, f"too few zones were compared: {len(asked)}")
 
 
 def use_rule(results, page):
@@ -524,29 +686,44 @@ def read_aloud(results, page):
         results.count(name or kind in ("status", "list"), f"a {kind} of the page has no name")
     wanted = {("textbox", "A command and its numbers"), ("textbox", "From"), ("textbox", "To"), ("combobox", "Month"), ("spinbutton", "Year"),
               ("button", "The month before"), ("spinbutton", "Months apart"), ("region", "Ask a line"), ("list", "The dates"),
-              ("textbox", "Cron line"), ("textbox", "Rule"), ("combobox", "Holidays of"), ("list", "The next five times"), ("checkbox", "Monday"), ("textbox", "and on the holidays")}
+              ("textbox", "Cron line"), ("combobox", "Time zone"), ("textbox", "After"), ("textbox", "Rule"), ("combobox", "Holidays of"), ("list", "The next five times"), ("checkbox", "Monday"), ("textbox", "and on the holidays")}
     results.equal(wanted - set(named), set(), "what a screen reader does not find")
     page.run("document.querySelector('#cron').focus()")
     reached = []
-    for _ in range(80):
+    for _ in range(90):
         reached.append(page.run("document.activeElement.id || document.activeElement.dataset.date && 'day' || ''"))
         page.press("Tab")
-    for it in ("cron", "after", "now", "rule", "rule-start", "rule-year", "known", "from", "to", "swap", "holidays", "month", "year", "earlier", "today", "later", "day", "line", "start", "step",
+    for it in ("cron", "zone", "after", "now", "rule", "rule-start", "rule-year", "known", "from", "to", "swap", "holidays", "month", "year", "earlier", "today", "later", "day", "line", "start", "step",
                "count", "row"):
         results.count(it in reached, f"the Tab key does not reach {it}")
 
 
-CONTRAST = """(() => {
+CONTRAST = """((names) => {
   const light = (rgb) => rgb.slice(0, 3).map((it) => it / 255).map((it) => (it <= 0.04045 ? it / 12.92 : ((it + 0.055) / 1.055) ** 2.4))
     .reduce((sum, it, index) => sum + it * [0.2126, 0.7152, 0.0722][index], 0);
   const parts = (text) => text.match(/[\\d.]+/g).map(Number);
   const behind = (it) => { for (; it; it = it.parentElement) { const rgb = parts(getComputedStyle(it).backgroundColor);
     if (rgb.length < 4 || rgb[3] === 1) return rgb; } return [255, 255, 255]; };
-  return ['h1', 'header p', 'label', '.help', '#answer', '#sheet caption', '#sheet th', '#sheet td button', '#sheet td small',
-    '#sheet [aria-selected="true"] button', '#names dt', '#names dd', '#between strong', '#open strong', '#cron-words', '#due li', '#due strong', '#due small', 'legend', '.check', '#year-sheet caption', '#year-sheet td', '#year-sheet mark', '#rule-words strong', '#row .month', '#row .gap', '#today', '#line', 'footer p']
-    .map((name) => { const it = document.querySelector(name); const [a, b] = [light(parts(getComputedStyle(it).color)), light(behind(it))];
-      return [name, (Math.max(a, b) + 0.05) / (Math.min(a, b) + 0.05)]; });
-})()"""
+  return names.map((name) => { const it = document.querySelector(name); const [a, b] = [light(parts(getComputedStyle(it).color)), light(behind(it))];
+    return [name, (Math.max(a, b) + 0.05) / (Math.min(a, b) + 0.05)]; });
+})"""
+# What is read on the page, and what of a wrong zone.
+READ = ("h1", "header p", "label", ".help", "#answer", "#sheet caption", "#sheet th", "#sheet td button", "#sheet td small",
+        '#sheet [aria-selected="true"] button', "#names dt", "#names dd", "#between strong", "#open strong", "#cron-words", "#due li",
+        "#due strong", "#due small", "#due .zone", "#skipped", "legend", ".check", "#year-sheet caption", "#year-sheet td",
+        "#year-sheet mark", "#rule-words strong", "#row .month", "#row .gap", "#today", "#line", "footer p")
+READ_OF_WRONG = ("#zone-trouble span", "#zone-trouble mark", "#zone-trouble .at")
+
+
+def fit(results, page, width):
+    """Nothing is wider than the page."""
+    results.equal(page.run("document.documentElement.scrollWidth <= innerWidth"), True, f"whether the page fits {width} pixels")
+
+
+def stand_out(results, page, scheme, names):
+    """Texts stand out from what is behind them."""
+    for name, ratio in page.run(f"{CONTRAST}({json.dumps(names)})"):
+        results.count(ratio >= 4.5, f"{name} in {scheme} has a contrast of {ratio:.2f}, less than 4.5")
 
 
 def look(results, page, path):
@@ -554,12 +731,19 @@ def look(results, page, path):
     papers = set()
     for scheme in ("light", "dark"):
         page.call("Emulation.setEmulatedMedia", features=[{"name": "prefers-color-scheme", "value": scheme}])
-        for width in (1_120, 320):
+        for width in (1_120, 390, 320):
             page.call("Emulation.setDeviceMetricsOverride", width=width, height=900, deviceScaleFactor=1, mobile=width < 500)
             page.open(path)
-            results.equal(page.run("document.documentElement.scrollWidth <= innerWidth"), True, f"whether the page fits {width} pixels")
-            for name, ratio in page.run(CONTRAST):
-                results.count(ratio >= 4.5, f"{name} in {scheme} has a contrast of {ratio:.2f}, less than 4.5")
+            fit(results, page, width)
+            page.type("#after", "2024-03-30T12:00")
+            page.type("#cron", "30 2 * * *")
+            page.type("#zone", "CET-1CEST-2,M3.5.0/02:00:00,M10.5.0/03:00:00")
+            results.count(page.text("#skipped"), f"no gap is told at {width} pixels")
+            fit(results, page, width)
+            stand_out(results, page, scheme, READ)
+            page.type("#zone", "CET-1CEST-2,M3.5.0/02:00:00,M13.5.0/03:00:00")
+            fit(results, page, width)
+            stand_out(results, page, scheme, READ_OF_WRONG)
         papers.add(page.run("getComputedStyle(document.body).backgroundColor"))
     results.count(len(papers) == 2, "the page is as bright in dark as in light")
 
@@ -575,40 +759,62 @@ def use_without_module(results, page, path):
     page.events.clear()
 
 
+def stop_clock(page):
+    """Gives the pages that are opened from now on a zone of the machine, and a present moment that stays."""
+    page.call("Emulation.setTimezoneOverride", timezoneId=OWN_ZONE)
+    page.call("Page.addScriptToEvaluateOnNewDocument", source=STILL_CLOCK)
+
+
+def open_elsewhere(results, page, path):
+    """The page begins in the zone of the machine, of whatever name, and in UTC if it does not have that zone."""
+    for name, wanted in (("Etc/GMT+5", "Etc/GMT+5"), ("Asia/Calcutta", "Asia/Calcutta"), ("Mars/Olympus", "UTC")):
+        source = f"Intl.DateTimeFormat.prototype.resolvedOptions = () => ({{ timeZone: {json.dumps(name)} }})"
+        added = page.call("Page.addScriptToEvaluateOnNewDocument", source=source)
+        page.open(path)
+        results.equal(page.run("document.querySelector('#zone').value"), wanted, f"the zone of a machine in {name}")
+        now = in_zone(PRESENT, wanted).replace(tzinfo=None).isoformat()
+        results.equal(page.run("document.querySelector('#after').value"), now, f"now on a machine in {name}")
+        page.call("Page.removeScriptToEvaluateOnNewDocument", identifier=added["identifier"])
+
+
 def in_chromium(results, path):
     if not chromium.found():
         print("not run: the page, since there is no chromium")
         return
     with chromium.Chromium() as page:
         use_without_module(results, page, path)
+        stop_clock(page)
         page.open(path)
         results.equal(page.run("document.querySelector('#trouble').hidden"), True, "whether the page has no trouble to tell")
         results.equal(page.text("#answer"), "2024-02-29 738945 Thu 2024-W09 60", "the first answer of the page")
-        for use in (use_schedule, use_rule, use_open_days, use_between, use_month, use_lines, use_row, read_aloud, compare_temporal):
+        shown = [page.run(f"document.querySelector('#{it}').value") for it in ("zone", "after")]
+        results.equal(shown, [OWN_ZONE, in_zone(PRESENT, OWN_ZONE).replace(tzinfo=None).isoformat()], "the first zone and time of the page")
+        for use in (use_schedule, use_zone, use_keys, compare_zones, use_rule, use_open_days, use_between, use_month, use_lines, use_row, read_aloud, compare_temporal):
             use(results, page)
         look(results, page, path)
+        open_elsewhere(results, page, path)
         results.equal(page.faults(), [], "what the page threw")
         results.equal(page.run("performance.getEntriesByType('resource').filter((it) => !it.name.startsWith('data:')).map((it) => it.name)"), [],
                       "what the page loads")
 
 
 def take_picture(path):
-    """A picture of the page in February 2024."""
+    """A picture of the page in spring 2024, in few colours, so that its file is small."""
     with tempfile.TemporaryDirectory(prefix="javascript-") as room, chromium.Chromium() as page:
         size = {"width": 1_040, "deviceScaleFactor": 1, "mobile": True}
         page.call("Emulation.setEmulatedMedia", features=[{"name": "prefers-color-scheme", "value": "light"}])
         page.call("Emulation.setDeviceMetricsOverride", height=900, **size)
+        stop_clock(page)
         page.open(javascript.make(TOP, None, room)[1])
-        page.type("#after", "2024-02-09T04:30:00")
+        page.type("#after", "2024-03-15T04:30:00")
         page.type("#year", "2024")
         page.run("(() => { const it = document.querySelector('#month'); it.value = '2'; it.dispatchEvent(new Event('change')); })()")
         page.run("(() => { document.querySelector('#sheet [data-date=\"2024-02-29\"]').click(); document.activeElement.blur(); })()")
         height = page.run("document.documentElement.scrollHeight")
         page.call("Emulation.setDeviceMetricsOverride", height=height, **size)
-        clip = {"x": 0, "y": 0, "width": 1_040, "height": height, "scale": 0.7}
-        shot = page.call("Page.captureScreenshot", format="png", clip=clip)
-        with open(path, "wb") as it:
-            it.write(base64.b64decode(shot["data"]))
+        picture = page.picture({"x": 0, "y": 0, "width": 1_040, "height": height, "scale": 0.7}, colours=64)
+    with open(path, "wb") as it:
+        it.write(picture)
 
 
 def main():
@@ -619,11 +825,11 @@ def main():
     with tempfile.TemporaryDirectory(prefix="javascript-") as room:
         try:
             bytes_of_modules = javascript.modules(TOP)
+            package, page = javascript.make(TOP, None, f"{room}/dist")
         except packages.Missing as it:
             print(f"not run: the package for JavaScript, since there is {it}")
             print("0 passed, 1 failed")
             return 1
-        package, page = javascript.make(TOP, None, f"{room}/dist")
         in_node(results, room, package, bytes_of_modules)
         in_chromium(results, page)
     print(f"{results.passed} passed, {results.failed} failed")

@@ -15,6 +15,8 @@ import sys
 import tempfile
 import urllib.parse
 
+import zone_texts
+
 from . import LICENCES, Missing, version
 
 # A module of WebAssembly: the crate that it is made of, where it is kept, and what it leaves out: modules of the crate, and the libraries
@@ -33,7 +35,7 @@ SOURCES = ("instantiate", "moments", "numbers", "rounding", "calendar", "texts",
            "zoned_date_time", "index")
 # What of the package the page has no use for.
 NOT_ON_PAGE = ("columns", "columns_module", "rule_set")
-PAGE = ("answers", "words", "parts", "layer_parts", "page")
+PAGE = ("answers", "words", "parts", "layer_parts", "zones", "page")
 
 
 def read(path):
@@ -134,7 +136,7 @@ def address(text):
 def page_of(folder, module_texts):
     """The page with its styles and all modules inside, so that it is one file that a browser opens from anywhere."""
     texts = {**module_texts, **{it: read(f"{folder}/src/{it}.js") for it in SOURCES}}
-    texts.update({it: read(f"{folder}/page/{it}.js") for it in PAGE})
+    texts.update({it: read(f"{folder}/page/{it}.js") for it in PAGE}, zone_texts=zone_texts_of_machine())
     for name in NOT_ON_PAGE:
         texts.pop(name)
         texts["index"] = re.sub(rf'^export .* from "\./{name}\.js";\n', "", texts["index"], flags=re.M)
@@ -160,6 +162,14 @@ def module_text_of(bytes_of_module):
     """A module of WebAssembly as one of JavaScript."""
     text = base64.b64encode(bytes_of_module).decode()
     return f'/** The proved functions, as `rt lib` builds them: {len(bytes_of_module):,} bytes. */\nexport const MODULE =\n  "{text}";\n'
+
+
+def zone_texts_of_machine():
+    """The machine's time zones as a module of JavaScript."""
+    zones = zone_texts.zone_texts()
+    if not zones:
+        raise Missing(f"no time zone in {zone_texts.FOLDER}, of Debian's tzdata")
+    return f'export const DATABASE = "{zone_texts.version()}";\nexport const ZONES = `{zones}`;\n'
 
 
 def make_package(top, folder, bytes_of_modules, package):

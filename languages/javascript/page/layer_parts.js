@@ -1,11 +1,14 @@
 /** What the page shows of schedules and of open days, and where a text is wrong. */
 
-import { BusinessCalendar, PlainDate, Rule, Schedule, TextError } from "../src/index.js";
+import { BusinessCalendar, PlainDate, Rule, TextError } from "../src/index.js";
 import { counted, element, MONTHS, spoken } from "./parts.js";
-import { listed, scheduleInWords } from "./words.js";
+import { listed } from "./words.js";
 
 /** So many times are shown of a schedule. */
 const SHOWN = 5;
+
+/** The nanoseconds of a second. */
+const SECOND = 1_000_000_000n;
 
 /** So many days of a rule are told one by one. */
 const TOLD = 12;
@@ -24,25 +27,57 @@ export function faultNodes({ text, start, end, reason }) {
 /** The time of day in words: seconds only if there are some. */
 const clock = (moment) => moment.toString().slice(-8).replace(/:00$/, "");
 
-/** Shows what a schedule means, and the next times after a date-time at which it is due. */
-export function showSchedule(words, list, text, start) {
-  const schedule = new Schedule(text);
-  words.textContent = `${scheduleInWords(schedule.fields)}.`;
+/** The time that a schedule plans in the gap that ends at a moment; undefined if the moment is a time of its own. */
+function skippedBefore(schedule, moment) {
+  const shown = moment.toPlainDateTime();
+  if (schedule.isDue(shown)) {
+    return undefined;
+  }
+  const second = moment.epochNanoseconds / SECOND;
+  const ahead = moment.timeZone.offsetAt(second) - moment.timeZone.offsetAt(second - 1n);
+  return schedule.nextAfter(shown.subtract({ seconds: ahead + 1 }));
+}
+
+/** Which of two it is, of a time that the clock shows twice; the empty text for another. */
+function whichOf(moment) {
+  const ahead = moment.offsetNanoseconds / 1e9;
+  const offsets = moment.timeZone.offsetsOfLocal(moment.epochNanoseconds / SECOND + BigInt(ahead));
+  return offsets.length < 2 ? "" : `, the ${offsets[0] === ahead ? "first" : "second"} of two`;
+}
+
+/** One of the times at which a schedule is due: what the clock shows, its offset and its name, and how far it is. */
+function dueItem(moment, start, name, skipped) {
+  const shown = moment.toPlainDateTime();
+  const days = start.toPlainDate().until(shown.toPlainDate()).days;
+  const distance = days === 0 ? "the same day" : `${counted(days, "day")} later`;
+  const zone = element("span", { className: "zone" }, /^[-+]/.test(name) ? moment.offset : `${name} ${moment.offset}`);
+  const small = element("small", {}, `${distance}${whichOf(moment)}${skipped ? `, for ${clock(skipped)}` : ""}`);
+  const item = element("li", {}, element("strong", {}, clock(shown)), " ", zone, " ", element("span", {}, spoken(shown)), " ", small);
+  item.dataset.moment = moment.toString({ timeZoneName: "never" });
+  return item;
+}
+
+/** That the clock skips some times, in words; the empty text if it skips none. */
+function skippedInWords([first, ...others]) {
+  if (first === undefined) {
+    return "";
+  }
+  const more = others.length > 0 ? `, and a time on ${counted(others.length, "more day")}` : "";
+  return `The clock skips ${clock(first)} on ${spoken(first)}${more}, so it is due as the gap ends.`;
+}
+
+/** Shows the next times after a moment at which a schedule is due, and which times the clock skips. Answers how many times there are. */
+export function showDue(list, note, schedule, start, nameAt) {
   const due = [];
-  for (const moment of schedule.iterate(start)) {
-    due.push(moment);
+  for (const moment of schedule.iterateInZone(start)) {
+    due.push({ moment, skipped: skippedBefore(schedule, moment) });
     if (due.length === SHOWN) {
       break;
     }
   }
-  const items = due.map((moment) => {
-    const days = start.toPlainDate().until(moment.toPlainDate()).days;
-    const distance = element("small", {}, days === 0 ? "the same day" : `${counted(days, "day")} later`);
-    const item = element("li", {}, element("strong", {}, clock(moment)), ` ${spoken(moment)} `, distance);
-    item.dataset.moment = `${moment}`;
-    return item;
-  });
-  list.replaceChildren(...items);
+  const nameOf = ({ epochNanoseconds }) => nameAt(Number(epochNanoseconds / SECOND));
+  list.replaceChildren(...due.map(({ moment, skipped }) => dueItem(moment, start, nameOf(moment), skipped)));
+  note.textContent = skippedInWords(due.map((it) => it.skipped).filter(Boolean));
   return due.length;
 }
 

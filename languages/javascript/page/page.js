@@ -1,9 +1,11 @@
 /** Ties what is typed to what is shown. */
 
-import { BusinessCalendar, PlainDate, PlainDateTime, TextError } from "../src/index.js";
+import { BusinessCalendar, PlainDate, Schedule, TextError, ZonedDateTime } from "../src/index.js";
 import { answerOf } from "./answers.js";
-import { datesOfText, faultNodes, showOpenDays, showSchedule, showYear } from "./layer_parts.js";
+import { datesOfText, faultNodes, showDue, showOpenDays, showYear } from "./layer_parts.js";
 import { dateOfText, element, LONG_WEEKDAYS, MONTHS, moveOfKey, showBetween, showMonth, showRow } from "./parts.js";
+import { scheduleInWords } from "./words.js";
+import { DATABASE, isZone, NAMES, zoneOf } from "./zones.js";
 
 /** The commands of caltool: one line for each, and what it asks. */
 const EXAMPLES = {
@@ -32,6 +34,16 @@ const CRON_EXAMPLES = {
   "0 9 * * 1#1": "the first Monday of the month",
   "@daily": "a nickname",
   "0 25 * * *": "an hour that there is not",
+};
+
+/** Time zones, and what each is. */
+const ZONE_EXAMPLES = {
+  "UTC": "the same in all seasons",
+  "Europe/Berlin": "an hour ahead of UTC, two in summer",
+  "America/New_York": "five hours behind UTC, four in summer",
+  "Asia/Kolkata": "five and a half hours ahead of UTC",
+  "Australia/Lord_Howe": "half an hour of summer time",
+  "CET-1CEST,M3.5.0,M10.5.0/3": "a POSIX rule",
 };
 
 /** Rules, and what each shows. */
@@ -72,18 +84,19 @@ function monthsOf(text) {
   return months;
 }
 
-/** Runs what shows something; where that is refused, the place says why. The fields are unmarked first. */
+/** Runs what shows or finds something; where that is refused, the place says why. The fields are unmarked first. */
 function orRefused(place, fields, show) {
   fields.forEach((it) => it.removeAttribute("aria-invalid"));
   try {
     place.replaceChildren();
-    show();
+    return show();
   } catch (refused) {
     if (!(refused instanceof RangeError)) {
       throw refused;
     }
     const isAtPlace = refused instanceof TextError;
     place.replaceChildren(...(isAtPlace ? faultNodes(refused) : [refused.message]));
+    return undefined;
   }
 }
 
@@ -102,35 +115,73 @@ function chips(list, field, examples, nameOf, show) {
   list.replaceChildren(...items);
 }
 
-/** This second by the clock of the machine, as a date-time. */
-function clockNow() {
-  const now = new Date();
-  const date = [now.getFullYear(), now.getMonth() + 1, now.getDate()];
-  return new PlainDateTime(...date, now.getHours(), now.getMinutes(), now.getSeconds());
+/** The name of the machine's zone; UTC if the page does not have that zone. */
+function ownZone() {
+  const { timeZone } = Intl.DateTimeFormat().resolvedOptions();
+  return isZone(timeZone) ? timeZone : "UTC";
+}
+
+/** The nanoseconds from 1970 to this second. */
+const presentSecond = () => BigInt(Math.floor(Date.now() / 1_000)) * 1_000_000_000n;
+
+/** The moment of a field in a zone: that of `now`, which is put into the field, or if there is none that of the field's text. */
+function startIn(timeZone, after, now) {
+  if (now === undefined) {
+    return read(after, (text) => ZonedDateTime.from(text.trim(), { timeZone }));
+  }
+  const start = new ZonedDateTime(now, timeZone);
+  after.value = `${start.toPlainDateTime()}`;
+  return start;
+}
+
+/** Shows when the schedule of a field is due in the zone of another, unless one of them is refused. */
+function showSchedule({ cron, zone, after }, now) {
+  [at("cron-words"), at("due"), at("skipped"), at("after-trouble")].forEach((it) => it.replaceChildren());
+  const found = orRefused(at("zone-trouble"), [zone, after], () => read(zone, zoneOf));
+  const start = found && orRefused(at("after-trouble"), [after], () => startIn(found.zone, after, now));
+  orRefused(at("cron-trouble"), [cron], () => {
+    const schedule = read(cron, (text) => new Schedule(text));
+    at("cron-words").textContent = `${scheduleInWords(schedule.fields)}.`;
+    if (start && showDue(at("due"), at("skipped"), schedule, start, found.nameAt) === 0) {
+      throw new RangeError("no date is due after that");
+    }
+  });
+}
+
+/** Selects all of a field where a click enters it, so that what is typed then replaces it, and a list of names is one of what is typed. */
+function selectOnEntry(field) {
+  let isEntered = false;
+  field.addEventListener("focus", () => {
+    isEntered = true;
+  });
+  field.addEventListener("click", () => {
+    if (isEntered) {
+      field.select();
+    }
+    isEntered = false;
+  });
 }
 
 function startSchedule() {
-  const [cron, after, words, due, trouble] = ["cron", "after", "cron-words", "due", "cron-trouble"].map(at);
-  const show = () => {
-    words.replaceChildren();
-    due.replaceChildren();
-    orRefused(trouble, [cron, after], () => {
-      const start = read(after, (text) => PlainDateTime.from(text.trim()));
-      const shown = read(cron, (text) => showSchedule(words, due, text, start));
-      if (shown === 0) {
-        throw new RangeError("no date is due after that");
-      }
-    });
-  };
-  const startNow = () => {
-    after.value = `${clockNow()}`;
+  const fields = { cron: at("cron"), zone: at("zone"), after: at("after") };
+  let now;
+  const show = () => showSchedule(fields, now);
+  const showFrom = (find) => () => {
+    now = find();
     show();
   };
-  cron.addEventListener("input", show);
-  after.addEventListener("input", show);
-  at("now").addEventListener("click", startNow);
-  chips(at("cron-examples"), cron, CRON_EXAMPLES, String, show);
-  startNow();
+  fields.cron.addEventListener("input", show);
+  fields.zone.addEventListener("input", show);
+  fields.after.addEventListener("input", showFrom(() => undefined));
+  at("now").addEventListener("click", showFrom(presentSecond));
+  const own = ownZone();
+  fields.zone.value = own;
+  selectOnEntry(fields.zone);
+  at("zones").replaceChildren(...NAMES.map((value) => element("option", { value })));
+  at("database").textContent = DATABASE && ` ${DATABASE}`;
+  chips(at("cron-examples"), fields.cron, CRON_EXAMPLES, String, show);
+  chips(at("zone-examples"), fields.zone, { [own]: "", ...ZONE_EXAMPLES, [own]: "the zone of this browser" }, String, show);
+  showFrom(presentSecond)();
 }
 
 function startLine() {
