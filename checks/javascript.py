@@ -32,6 +32,7 @@ import cells
 import chromium
 import counted
 import fuzz
+import hosts
 import languages
 import layers_c
 from results import Results, is_older, read
@@ -625,6 +626,7 @@ def main():
             return 1
         package, page = javascript.make(TOP, None, f"{room}/dist")
         in_node(results, room, package, bytes_of_modules)
+        hosts.compare(results, bytes_of_modules)
         in_chromium(results, page)
     print(f"{results.passed} passed, {results.failed} failed")
     return 1 if results.failed else 0
