@@ -35,6 +35,7 @@ import cells
 import chromium
 import counted
 import fuzz
+import hosts
 import languages
 import layers_c
 import zoned_schedules
@@ -831,6 +832,7 @@ def main():
             print("0 passed, 1 failed")
             return 1
         in_node(results, room, package, bytes_of_modules)
+        hosts.compare(results, bytes_of_modules)
         in_chromium(results, page)
     print(f"{results.passed} passed, {results.failed} failed")
     return 1 if results.failed else 0

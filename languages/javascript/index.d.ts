@@ -517,6 +517,8 @@ export class ZonedDateTime {
   withTimeZone(timeZone: Zone | string): ZonedDateTime;
   startOfDay(): ZonedDateTime;
   with(parts: Partial<Omit<DateFields, "calendar"> & TimeFields> & { offset?: string }, options?: ZonedOptions): ZonedDateTime;
+  /** As `PlainDateTime.round` of what the clock shows. The offset stays if the clock has it there. A day is as long as the zone has it. */
+  round(options: Unit<ExactUnit> | RoundingOptions): ZonedDateTime;
   /** Years to days by what the clock shows, and then hours and shorter units by the line of time. */
   add(duration: DurationLike, options?: OverflowOptions): ZonedDateTime;
   subtract(duration: DurationLike, options?: OverflowOptions): ZonedDateTime;

@@ -32,6 +32,9 @@ const SCHEDULE_SIZE = 80;
 /** So many times are found at once. */
 export const AT_ONCE = (HOLIDAYS - DUE) / MOMENT_SIZE;
 
+/** So many instances of a rule are found at once, at most. They are written where columns lie. */
+export const MOST_AT_ONCE = 131_072;
+
 /** A calendar has at most so many holidays. */
 export const MOST_HOLIDAYS = 1_000;
 
@@ -261,12 +264,13 @@ export function isInstance(rule, start, day) {
   return room.layers.calendar_rule_is_instance(...putRule(room, rule), start, day) !== 0;
 }
 
-/** The numbers of the first instances, at most `AT_ONCE`, from one day on and up to another. */
-export function instancesBetween(rule, start, from, until) {
+/** The numbers of the first instances, at most so many, from one day on and up to another. */
+export function instancesBetween(rule, start, from, until, most) {
   const room = open();
-  const out = [address(room, DUE), BigInt(AT_ONCE)];
-  const count = Number(room.layers.calendar_rule_instances(...putRule(room, rule), start, from, until, ...out));
-  return Array.from({ length: count }, (_, index) => room.view.getInt32(DUE + 4 * index, true));
+  const { layers, view } = room;
+  const days = [start, from, until];
+  const count = Number(layers.calendar_rule_instances(...putRule(room, rule), ...days, address(room, ROOM), BigInt(most)));
+  return new Int32Array(view.buffer, room.start + ROOM, count).slice();
 }
 
 /** The bytes of a text that is a pattern; a TextError if it is none. */

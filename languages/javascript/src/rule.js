@@ -1,12 +1,15 @@
 /** Recurrence rules over days. */
 
-import { AT_ONCE, checkRule, instancesBetween, isInstance, nextInstance, previousInstance } from "./layers.js";
+import { AT_ONCE, checkRule, instancesBetween, isInstance, MOST_AT_ONCE, nextInstance, previousInstance } from "./layers.js";
 import { NONE } from "./library.js";
 import { optionsOf } from "./numbers.js";
 import { PlainDate } from "./plain_date.js";
 
 /** The number of the last date. */
 export const LAST = 95_745_399;
+
+/** Whether a rule has COUNT. */
+export const hasCount = (rule) => /COUNT=/i.test(`${rule}`);
 
 /** The date of a number that the library answers; undefined if it is none. */
 const dateOrNone = (number) => (number === NONE ? undefined : PlainDate.fromDayNumber(number));
@@ -59,13 +62,23 @@ export class Rule {
     return this.iterate();
   }
 
+  /**
+   * The instances from one day on, up to another. Each call counts a rule with COUNT from its start, and one by one no more than the days of
+   * twice 400 years. So each call finds twice as many, and all together count few for each one that they find.
+   */
   *#instances(first, last) {
-    let [from, found] = [first, []];
-    do {
-      found = instancesBetween(this.#bytes, this.#start.dayNumber, from, last);
-      yield* found.map((it) => PlainDate.fromDayNumber(it));
-      from = found.at(-1) + 1;
-    } while (found.length === AT_ONCE);
+    const greatest = hasCount(this) ? MOST_AT_ONCE : AT_ONCE;
+    let [from, most, found] = [first, AT_ONCE, []];
+    while (true) {
+      found = instancesBetween(this.#bytes, this.#start.dayNumber, from, last, most);
+      for (const it of found) {
+        yield PlainDate.fromDayNumber(it);
+      }
+      if (found.length < most) {
+        return;
+      }
+      [from, most] = [found.at(-1) + 1, Math.min(2 * most, greatest)];
+    }
   }
 
   /** The text that it was read from. */

@@ -2,7 +2,7 @@
 
 import { listOf, optionsOf } from "./numbers.js";
 import { PlainDate } from "./plain_date.js";
-import { LAST, Rule } from "./rule.js";
+import { hasCount, LAST, Rule } from "./rule.js";
 
 /** The rules of a list; a TypeError for another value. */
 function rulesOf(list) {
@@ -24,7 +24,7 @@ const isAmong = (dates, date) => dates.some((it) => it.equals(date));
 /** The days after which the calendar repeats: 400 years. And no year has more. */
 const [CYCLE, YEAR] = [146_097, 366];
 
-const isEndless = (rule) => !/COUNT=|UNTIL=/i.test(`${rule}`);
+const isEndless = (rule) => !hasCount(rule) && !/UNTIL=/i.test(`${rule}`);
 const intervalOf = (rule) => Number(/INTERVAL=([0-9]+)/i.exec(`${rule}`)?.[1] ?? 1);
 const gcd = (one, other) => (other === 0 ? one : gcd(other, one % other));
 
@@ -65,6 +65,36 @@ class Stretch {
   place(rule, date) {
     const isInside = this.isOver && isEndless(rule) && date.dayNumber > this.#begin;
     return isInside ? PlainDate.fromDayNumber(this.#begin) : date;
+  }
+}
+
+/**
+ * The dates that a set leaves out, which are asked about in order.
+ *
+ * A rule with COUNT is counted from its start whenever it is asked. So its instances are walked along.
+ */
+class LeftOut {
+  #rules;
+  #days;
+  #walks;
+
+  constructor(rules, dates, options) {
+    this.#rules = rules.filter((it) => !hasCount(it));
+    this.#days = new Set(dates.map((it) => it.dayNumber));
+    this.#walks = rules.filter(hasCount).map((rule) => ({ walk: rule.iterate(options), day: -Infinity }));
+  }
+
+  #isNext(it, day) {
+    while (it.day < day) {
+      it.day = it.walk.next().value?.dayNumber ?? Infinity;
+    }
+    return it.day === day;
+  }
+
+  /** Whether a date is left out. */
+  has(date) {
+    const day = date.dayNumber;
+    return this.#days.has(day) || this.#walks.some((it) => this.#isNext(it, day)) || this.#rules.some((it) => it.includes(date));
   }
 }
 
@@ -145,7 +175,8 @@ export class RuleSet {
     const [first, last] = [from, until].map((it) => (it === undefined ? it : PlainDate.from(it)));
     const isWithin = (it) => !(first && PlainDate.compare(it, first) < 0) && !(last && PlainDate.compare(it, last) > 0);
     const walks = this.#rules.map((it) => it.iterate({ from: first, until: last }));
-    return this.#merged(walks, this.#dates.filter(isWithin).values());
+    const leftOut = new LeftOut(this.#exceptRules, this.#exceptDates, { from: first, until: last });
+    return this.#merged(walks, this.#dates.filter(isWithin).values(), leftOut);
   }
 
   [Symbol.iterator]() {
@@ -153,14 +184,14 @@ export class RuleSet {
   }
 
   /** What walks over the rules and some dates, all in order, give together, each once. */
-  *#merged(ofRules, dates) {
+  *#merged(ofRules, dates, leftOut) {
     const stretch = new Stretch(this.#rules, this.#exceptRules);
     const walks = [...ofRules, dates];
     const heads = walks.map((it) => it.next().value);
     const next = (index) => (stretch.isOver && index < ofRules.length && isEndless(this.#rules[index]) ? undefined : walks[index].next().value);
     let found = extreme(heads, 1);
     while (found) {
-      if (!stretch.has(found) && !this.#isLeftOut(found)) {
+      if (!stretch.has(found) && !leftOut.has(found)) {
         yield found;
       }
       for (const [index, it] of heads.entries()) {

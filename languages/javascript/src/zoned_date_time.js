@@ -6,6 +6,7 @@ import { Instant } from "./instant.js";
 import { choiceOf, largestUnitOf, optionsOf, overflowOf, refuseRounding } from "./numbers.js";
 import { PlainDate, replaced } from "./plain_date.js";
 import { dateTimeOf, momentOf, PlainDateTime } from "./plain_date_time.js";
+import { modeOf, NANOSECONDS, rounded, unitOf } from "./rounding.js";
 import { Zone } from "./zone.js";
 
 /** The nanoseconds of a second. */
@@ -222,9 +223,13 @@ export class ZonedDateTime {
 
   /** How long the day is, in hours. */
   get hoursInDay() {
+    return Number(this.#lengthOfDay()) / 3.6e12;
+  }
+
+  /** The same in nanoseconds. */
+  #lengthOfDay() {
     const next = this.toPlainDate().add({ days: 1 });
-    const [first, last] = [this.startOfDay(), ZonedDateTime.#startOf(next, this.#zone)];
-    return Number(last.#nanoseconds - first.#nanoseconds) / 3.6e12;
+    return ZonedDateTime.#startOf(next, this.#zone).#nanoseconds - this.startOfDay().#nanoseconds;
   }
 
   /** The first instant of a day: the end of a gap that has its midnight. */
@@ -291,6 +296,21 @@ export class ZonedDateTime {
   /** The date-time so much earlier, as `add` of the duration negated. */
   subtract(duration, options) {
     return this.add(Duration.from(duration).negated(), options);
+  }
+
+  /**
+   * The date-time at a whole multiple of a unit, as what the clock shows is rounded (`PlainDateTime.round`). The offset stays if the clock
+   * has it there. A day is as long as the zone has it.
+   */
+  round(options) {
+    const given = typeof options === "string" ? { smallestUnit: options } : optionsOf(options ?? null);
+    const plain = this.#plain.round(given);
+    if (unitOf(given.smallestUnit, "smallestUnit", Object.keys(NANOSECONDS)) !== "day") {
+      return new ZonedDateTime(instantBy(this.#zone, momentOf(plain), this.#offset, { offset: "prefer" }), this.#zone);
+    }
+    const first = this.startOfDay().#nanoseconds;
+    const passed = rounded(this.#nanoseconds - first, this.#lengthOfDay(), modeOf(given, "halfExpand"));
+    return new ZonedDateTime(first + passed, this.#zone);
   }
 
   /** How far it is to another, in hours and shorter units, or from a shorter unit of a clock on (`largestUnit`). */

@@ -265,6 +265,31 @@ test("rule_instances", () => {
 });
 
 /** Fridays and the last day of each month, from March 2024 on; 13 March is added, and the 29th left out. */
+/** The least processor time of three calls, in milliseconds. */
+function timeOf(call) {
+  const times = [1, 2, 3].map(() => {
+    const began = process.cpuUsage();
+    call();
+    return process.cpuUsage(began).user / 1_000;
+  });
+  return Math.min(...times);
+}
+
+test("long rules with COUNT", () => {
+  const [days, start] = [30_000, "2024-01-01"];
+  const last = PlainDate.from(start).add({ days: days - 1 });
+  const until = new Rule(`FREQ=DAILY;UNTIL=${last}`.replaceAll("-", ""), start);
+  const all = timeOf(() => [...until]);
+  for (const text of [`FREQ=DAILY;COUNT=${days}`, `count=${days};freq=daily`]) {
+    const counted = new Rule(text, start);
+    const found = [...counted];
+    assert.ok(found.length === days && found.every((it, index) => index === 0 || it.dayNumber === found[index - 1].dayNumber + 1));
+    assert.ok(timeOf(() => [...counted]) < 5 * all + 5);
+    const none = [...new RuleSet({ rules: [until], exceptRules: [counted] })];
+    assert.deepEqual(none, []);
+  }
+});
+
 const MEETINGS = new RuleSet({
   rules: [new Rule("FREQ=WEEKLY;BYDAY=FR", "2024-03-01"), new Rule("FREQ=MONTHLY;BYMONTHDAY=-1", "2024-03-01")],
   dates: ["2024-03-31", "2024-03-13", "2024-03-13"],
@@ -329,6 +354,8 @@ test("sets of rules with an end", () => {
   const set = new RuleSet({ rules, exceptRules: [new Rule("FREQ=DAILY;INTERVAL=2", "2024-03-01")], exceptDates: ["2024-03-04"] });
   assert.deepEqual(texts(set), ["2024-03-02"]);
   assert.deepEqual([set.nextAfter("2024-03-02"), set.includes("2024-03-01"), set.includes("2024-03-02")], [undefined, false, true]);
+  const few = new RuleSet({ rules, dates: ["2024-03-31"], exceptRules: [new Rule("FREQ=DAILY;COUNT=2", "2024-03-02")] });
+  assert.deepEqual([texts(few), texts(few.iterate({ from: "2024-03-03" }))], [["2024-03-01", "2024-03-04", "2024-03-31"], ["2024-03-04", "2024-03-31"]]);
   assert.deepEqual(texts(new RuleSet({ dates: ["2024-03-04", "2024-03-01", "2024-03-04"] })), ["2024-03-01", "2024-03-04"]);
   assert.equal(`${new RuleSet({ dates: ["2024-03-04", "2024-03-01"] }).previousBefore("2024-03-05")}`, "2024-03-04");
   assert.deepEqual([texts(new RuleSet()), new RuleSet().nextAfter("2024-03-01"), new RuleSet({}).previousBefore("2024-03-01")], [[], undefined, undefined]);
@@ -530,6 +557,34 @@ test("texts of zoned date-times", () => {
   assert.deepEqual([`${noon.toInstant()}`, `${noon.toPlainDateTime()}`, `${noon.toPlainDate()}`], ["2024-07-01T10:00:00Z", "2024-07-01T12:00:00", "2024-07-01"]);
   assert.ok(noon.toLocaleString("en").endsWith(" +02:00"));
   assert.throws(() => noon < noon, TypeError);
+});
+
+test("rounding of zoned date-times", () => {
+  for (const [text, options, wanted] of [
+    ["2024-07-01T12:34:56.5", "hour", "2024-07-01T13:00:00+02:00"],
+    ["2024-07-01T12:34:56.5", { smallestUnit: "minutes", roundingIncrement: 15, roundingMode: "ceil" }, "2024-07-01T12:45:00+02:00"],
+    ["2024-07-01T12:34:56.5", { smallestUnit: "nanosecond" }, "2024-07-01T12:34:56.5+02:00"],
+    ["2024-12-31T23:30", "hour", "2025-01-01T00:00:00+01:00"],
+    // (the clock skips 02:00 and shows 02:30 twice: once it is so late by either offset)
+    ["2024-03-31T01:30", "hour", "2024-03-31T03:00:00+02:00"],
+    ["2024-10-27T02:20+02:00", { smallestUnit: "minute", roundingIncrement: 30 }, "2024-10-27T02:30:00+02:00"],
+    ["2024-10-27T02:20+01:00", { smallestUnit: "minute", roundingIncrement: 30 }, "2024-10-27T02:30:00+01:00"],
+    ["2024-10-27T02:45+02:00", "hour", "2024-10-27T03:00:00+01:00"],
+    // (these days have 23 and 25 hours)
+    ["2024-03-31T12:29:59", "day", "2024-03-31T00:00:00+01:00"],
+    ["2024-03-31T12:30", "days", "2024-04-01T00:00:00+02:00"],
+    ["2024-10-27T11:29:59", "day", "2024-10-27T00:00:00+02:00"],
+    ["2024-10-27T11:30", "day", "2024-10-28T00:00:00+01:00"],
+    ["2024-10-27T23:59", { smallestUnit: "day", roundingMode: "trunc" }, "2024-10-27T00:00:00+02:00"],
+  ]) {
+    assert.equal(`${inBerlin(text).round(options)}`, wanted, text);
+  }
+  const noon = inBerlin("2024-07-01T12:00");
+  assert.ok(noon.round("hour").equals(noon) && noon.round("hour").timeZone === noon.timeZone);
+  for (const options of [{}, "week", { smallestUnit: "day", roundingIncrement: 2 }, { smallestUnit: "hour", roundingMode: "up" }]) {
+    refused(() => noon.round(options));
+  }
+  assert.throws(() => noon.round(), TypeError);
 });
 
 test("moves of zoned date-times", () => {

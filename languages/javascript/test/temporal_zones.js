@@ -42,6 +42,7 @@
       () => ofInstant(a.epoch, a)[0]().until(ofInstant(a.other, a)[0](), { largestUnit: a.unit }),
       () => ofInstant(a.epoch, a)[1]().until(ofInstant(a.other, a)[1](), { largestUnit: a.unit }),
     ],
+    round: (a) => both(ofInstant(a.epoch, a), (it) => it.round(a.rounding)),
     startOfDay: (a) => both(ofInstant(a.epoch, a), (it) => it.startOfDay()),
     hoursInDay: (a) => both(ofInstant(a.epoch, a), (it) => it.hoursInDay),
     with: (a) => both(ofInstant(a.epoch, a), (it) => it.with({ [a.field]: a.number })),
@@ -63,6 +64,10 @@
       choice: { disambiguation: among("compatible", "earlier", "later", "reject", undefined, "first") },
       use: among("reject", "use", "ignore", "prefer", undefined), offset: among("+01:00", "+02:00", "-05:00", "-04:00", "+10:30", "+11:00", "Z"),
       duration: { [among("years", "months", "weeks", "days")]: draw(30) - 0, [among("hours", "minutes", "nanoseconds")]: draw(100) },
+      rounding: {
+        smallestUnit: among("day", "hours", "minute", "second", "nanosecond", "week"), roundingIncrement: among(1, 1, 2, 12, 15, 20),
+        roundingMode: among("ceil", "floor", "expand", "trunc", "halfCeil", "halfFloor", "halfExpand", "halfTrunc", "halfEven", undefined),
+      },
       unit: among("auto", "hours", "minute", "second", "nanoseconds"), field: among("hour", "minute", "day", "month"), number: draw(26),
     };
     for (const [name, call] of Object.entries(calls)) {

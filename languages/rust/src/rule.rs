@@ -1,6 +1,7 @@
 //! Recurrence rules over days.
 
 use alloc::string::String;
+use alloc::vec::Vec;
 use core::fmt;
 use core::iter::FusedIterator;
 use core::str::FromStr;
@@ -10,8 +11,12 @@ use crate::layer_calls::*;
 use crate::text_error::{Kind, TextError};
 use crate::Date;
 
-/// So many days are found at once.
+/// So many days are found at once, at most.
 const AT_ONCE: usize = 64;
+
+/// So many of a rule with COUNT. Each call counts it from its start, and one by one no more than the days of twice 400 years. So
+/// all calls together count few days for each one that they find.
+const AT_ONCE_OF_COUNT: usize = 1 << 17;
 
 /// A recurrence rule of RFC 5545, such as `FREQ=MONTHLY;BYDAY=-1FR`. Its instances are days, from a start on.
 ///
@@ -101,16 +106,23 @@ impl Rule {
     /// ```
     #[must_use]
     pub fn instances_between(&self, start: Date, from: Date, until: Date) -> RuleDays<'_> {
+        let has_count = self.part("COUNT").is_some();
         RuleDays {
             rule: self,
             start,
             from: from.number(),
             until,
-            found: [NONE; AT_ONCE],
-            count: 0,
+            found: Vec::new(),
             given: 0,
-            room: 1,
+            room: if has_count { AT_ONCE } else { 1 },
+            most: if has_count { AT_ONCE_OF_COUNT } else { AT_ONCE },
         }
+    }
+
+    /// The value of the part with a name.
+    pub(crate) fn part(&self, name: &str) -> Option<&str> {
+        let mut parts = self.text.split(';').filter_map(|it| it.split_once('='));
+        parts.find_map(|(key, value)| key.eq_ignore_ascii_case(name).then_some(value))
     }
 
     /// The text that it was read from.
@@ -167,28 +179,33 @@ pub struct RuleDays<'a> {
     /// The day number from which on the next ones are found.
     from: i32,
     until: Date,
-    found: [i32; AT_ONCE],
-    /// How many of those that were found are there, and how many were given.
-    count: usize,
+    /// Those that were found, and how many of them were given.
+    found: Vec<i32>,
     given: usize,
-    /// How many are found next. It begins with one, as who wants one should not wait for more.
+    /// How many are found next, at most `most`, or 0 if there are no more. It begins with few, as who wants one should not wait for more.
     room: usize,
+    most: usize,
 }
 
 impl RuleDays<'_> {
-    /// Finds the next ones, if there can be more.
+    /// Finds the next ones.
     fn refill(&mut self) {
-        let is_end = self.given > 0 && self.count < self.room;
-        if self.given > 0 {
-            self.room = AT_ONCE.min(4 * self.room);
-        }
         self.given = 0;
+        self.found.clear();
+        self.found.resize(self.room, NONE);
         let (text, length) = (self.rule.text.as_ptr(), self.rule.text.len());
         let (start, until) = (self.start.number(), self.until.number());
-        let (out, room) = (self.found.as_mut_ptr(), if is_end { 0 } else { self.room });
-        // SAFETY: the text has as many bytes as its length says, and there are at least so many elements.
-        self.count =
+        let (out, room) = (self.found.as_mut_ptr(), self.room);
+        // SAFETY: the text has as many bytes as its length says, and there are so many elements.
+        let count =
             unsafe { calendar_rule_instances(text, length, start, self.from, until, out, room) };
+        self.found.truncate(count);
+        // (fewer than asked for are the last ones)
+        self.room = if count < room {
+            0
+        } else {
+            self.most.min(4 * room)
+        };
     }
 }
 
@@ -196,10 +213,10 @@ impl Iterator for RuleDays<'_> {
     type Item = Date;
 
     fn next(&mut self) -> Option<Date> {
-        if self.given == self.count {
+        if self.given == self.found.len() && self.room > 0 {
             self.refill();
         }
-        let number = *self.found[..self.count].get(self.given)?;
+        let number = *self.found.get(self.given)?;
         self.given += 1;
         self.from = number + 1;
         Date::from_number(number)

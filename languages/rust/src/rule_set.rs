@@ -42,14 +42,7 @@ const YEAR: i64 = 366;
 
 /// Whether a rule has neither a count nor a last day.
 fn is_endless(rule: &Rule) -> bool {
-    let has = |name: &str| part_of(rule, name).is_some();
-    !has("COUNT") && !has("UNTIL")
-}
-
-/// The value of the part of a rule with a name.
-fn part_of<'a>(rule: &'a Rule, name: &str) -> Option<&'a str> {
-    let mut parts = rule.as_str().split(';').filter_map(|it| it.split_once('='));
-    parts.find_map(|(key, value)| key.eq_ignore_ascii_case(name).then_some(value))
+    rule.part("COUNT").is_none() && rule.part("UNTIL").is_none()
 }
 
 /// The least number that two divide, or the greatest of all where that is too large.
@@ -79,7 +72,7 @@ impl Stretch {
         let (mut last, mut interval) = (0, 1);
         for (rule, start) in all.filter(|(rule, _)| is_endless(rule)) {
             last = last.max(i64::from(start.number()));
-            let own = part_of(rule, "INTERVAL").and_then(|it| it.parse().ok());
+            let own = rule.part("INTERVAL").and_then(|it| it.parse().ok());
             interval = common(interval, own.unwrap_or(1));
         }
         Stretch {
@@ -111,6 +104,45 @@ impl Stretch {
         }
         let begin = i32::try_from(self.begin).ok();
         begin.and_then(Date::from_number).unwrap_or(day)
+    }
+}
+
+/// The days that a set leaves out, which are asked about in order.
+///
+/// A rule with COUNT is counted from its start whenever it is asked. So its instances are walked along.
+#[derive(Clone, Debug)]
+struct LeftOut<'a> {
+    dates: &'a [Date],
+    rules: Vec<&'a (Rule, Date)>,
+    walks: Vec<Peekable<RuleDays<'a>>>,
+}
+
+impl<'a> LeftOut<'a> {
+    /// Those of a set, from a day on and up to another.
+    fn new(set: &'a RuleSet, from: Date, until: Date) -> LeftOut<'a> {
+        let all = set.except_rules.iter();
+        let (counted, rules): (Vec<_>, Vec<_>) = all.partition(|it| it.0.part("COUNT").is_some());
+        let walks = counted.into_iter().map(|(rule, start)| {
+            let walk = rule.instances_between(*start, from.max(*start), until);
+            walk.peekable()
+        });
+        LeftOut {
+            dates: &set.except_dates,
+            walks: walks.collect(),
+            rules,
+        }
+    }
+
+    /// Whether a day is left out.
+    fn has(&mut self, day: Date) -> bool {
+        let is_walked = self.walks.iter_mut().any(|walk| {
+            while walk.next_if(|it| *it < day).is_some() {}
+            walk.peek() == Some(&day)
+        });
+        let mut rules = self.rules.iter();
+        is_walked
+            || self.dates.binary_search(&day).is_ok()
+            || rules.any(|(rule, start)| rule.is_instance(*start, day))
     }
 }
 
@@ -270,6 +302,7 @@ impl RuleSet {
         RuleSetDays {
             set: self,
             stretch: Stretch::new(self),
+            left_out: LeftOut::new(self, from, until),
             walks: of_rules.collect(),
             dates: self.dates[first..end].iter().copied().peekable(),
         }
@@ -286,6 +319,7 @@ impl RuleSet {
 pub struct RuleSetDays<'a> {
     set: &'a RuleSet,
     stretch: Stretch,
+    left_out: LeftOut<'a>,
     /// The walk over each rule, and whether the rule is endless.
     walks: Vec<(bool, Peekable<RuleDays<'a>>)>,
     dates: Peekable<Copied<slice::Iter<'a, Date>>>,
@@ -303,7 +337,7 @@ impl Iterator for RuleSetDays<'_> {
                 walk.next_if_eq(&found);
             }
             self.dates.next_if_eq(&found);
-            if !self.stretch.has(self.set, found) && !self.set.is_left_out(found) {
+            if !self.stretch.has(self.set, found) && !self.left_out.has(found) {
                 return Some(found);
             }
             if self.stretch.is_over {

@@ -333,6 +333,17 @@ macro_rules! answers {
                 Some(texts.iter().map(|it| changed(it, case.change)).collect())
             }
 
+            /// Whether a text with a small `t` is read by each way.
+            pub fn of_small_t() -> [bool; 4] {
+                let text = "2024-02-29t12:00:00Z";
+                [
+                    DateTime::parse_from_rfc3339(text).is_ok(),
+                    text.parse::<DateTime<FixedOffset>>().is_ok(),
+                    text.parse::<DateTime<Utc>>().is_ok(),
+                    text[..19].parse::<NaiveDateTime>().is_ok(),
+                ]
+            }
+
             pub fn of_texts(pattern: &str, text: &str) -> String {
                 let mut out = String::new();
                 out += &read(NaiveDate::parse_from_str(text, pattern), |it| it.year());
@@ -412,6 +423,53 @@ fn read_by_chrono(pattern: &str, text: &str) -> String {
     } else {
         ours::of_texts(pattern, text)
     }
+}
+
+/// What README says of rounding, and of a small `t` before the time.
+#[test]
+fn known_differences() {
+    let (day, hour) = ((2024, 2, 29), (12, 34, 56));
+    let ours = {
+        use proved_calendar::chrono::{
+            DurationRound, NaiveDate, NaiveDateTime, RoundingError, TimeDelta,
+        };
+        let date = NaiveDate::from_ymd_opt(day.0, day.1, day.2).unwrap();
+        let moment = date.and_hms_opt(hour.0, hour.1, hour.2).unwrap();
+        for length in [TimeDelta::zero(), TimeDelta::minutes(-15), TimeDelta::MIN] {
+            let refused = Err(RoundingError::DurationExceedsLimit);
+            assert_eq!(
+                (moment.duration_round(length), moment.duration_trunc(length)),
+                (refused, refused)
+            );
+        }
+        let (first, quarter) = (NaiveDateTime::UNIX_EPOCH, TimeDelta::minutes(15));
+        assert_eq!(
+            (first.duration_round(quarter), first.duration_trunc(quarter)),
+            (Ok(first), Ok(first))
+        );
+        ours::of_small_t()
+    };
+    let theirs = {
+        use chrono::{Duration, DurationRound, NaiveDate, NaiveDateTime, RoundingError};
+        let date = NaiveDate::from_ymd_opt(day.0, day.1, day.2).unwrap();
+        let moment = date.and_hms_opt(hour.0, hour.1, hour.2).unwrap();
+        assert_eq!(moment.duration_round(Duration::zero()), Ok(moment));
+        assert!(std::panic::catch_unwind(|| moment.duration_trunc(Duration::zero())).is_err());
+        let (first, quarter) = (
+            NaiveDateTime::from_timestamp_opt(0, 0).unwrap(),
+            Duration::minutes(15),
+        );
+        let refused = Err(RoundingError::DurationExceedsTimestamp);
+        assert_eq!(
+            (first.duration_round(quarter), first.duration_trunc(quarter)),
+            (refused, refused)
+        );
+        theirs::of_small_t()
+    };
+    assert_eq!(
+        (ours, theirs),
+        ([true, true, true, false], [true, false, false, false])
+    );
 }
 
 #[test]

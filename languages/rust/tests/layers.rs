@@ -5,6 +5,7 @@ use proved_calendar::{
     columns, BusinessCalendar, Date, DateTime, DayCount, KnownCalendar, LocalOffsets, Pattern,
     Roll, Rule, RuleSet, Schedule, Weekday, WeekdaySet, Zone,
 };
+use std::time::{Duration, Instant};
 use Weekday::{Fri, Sat, Sun};
 
 fn date(text: &str) -> Date {
@@ -712,6 +713,39 @@ fn rule_instances() {
     assert_eq!((none.next(), none.next()), (None, None));
 }
 
+/// The least time of three calls.
+fn time_of<T>(call: impl Fn() -> T) -> Duration {
+    let times = [(); 3].map(|()| {
+        let began = Instant::now();
+        call();
+        began.elapsed()
+    });
+    times.into_iter().min().unwrap()
+}
+
+#[test]
+fn long_counts() {
+    let days = 50_000;
+    let start = date("2024-01-01");
+    let last = start.checked_add_days(days - 1).unwrap();
+    let until = rule(&format!("FREQ=DAILY;UNTIL={last}").replace('-', ""));
+    let all = || until.instances(start).collect::<Vec<_>>();
+    for text in [
+        format!("FREQ=DAILY;COUNT={days}"),
+        format!("count={days};freq=daily"),
+    ] {
+        let counted = rule(&text);
+        let list = || counted.instances(start).collect::<Vec<_>>();
+        assert_eq!(list(), all());
+        assert!(time_of(list) < 5 * time_of(all) + Duration::from_millis(5));
+        let set = RuleSet::new().with_rule(until.clone(), start);
+        let [none, same] = [counted, until.clone()].map(|it| set.clone().without_rule(it, start));
+        let none = || assert_eq!(none.instances().next(), None);
+        let same = || assert_eq!(same.instances().next(), None);
+        assert!(time_of(none) < 5 * time_of(same) + Duration::from_millis(5));
+    }
+}
+
 /// Central Europe by its rule.
 const BERLIN: &str = "CET-1CEST,M3.5.0,M10.5.0/3";
 
@@ -995,6 +1029,10 @@ fn rule_sets_with_an_end() {
     assert_eq!(set.next_after(date("2024-03-02")), None);
     assert_eq!(text(set.prev_before(Date::MAX)), "2024-03-02");
     assert!(!set.is_instance(start) && !set.is_instance(left_out));
+    let ends = daily.clone().with_date(date("2024-03-31"));
+    let few = ends.without_rule(rule("FREQ=DAILY;COUNT=2"), date("2024-03-02"));
+    assert_eq!(march(few.instances()), [1, 4, 31]);
+    assert_eq!(march(few.instances_between(left_out, Date::MAX)), [4, 31]);
     let none = RuleSet::new();
     let mut days = none.instances();
     assert_eq!((days.next(), days.next()), (None, None));

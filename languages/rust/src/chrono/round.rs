@@ -69,14 +69,14 @@ pub trait DurationRound: Sized {
     ///
     /// # Errors
     ///
-    /// If the length or the date-time is no `i64` of nanoseconds, or the length is longer than the date-time's.
+    /// If the length is not positive, if it or the date-time is no `i64` of nanoseconds, or if it is longer than the date-time's.
     fn duration_round(self, length: TimeDelta) -> Result<Self, Self::Err>;
 
     /// The last multiple that is not later.
     ///
     /// # Errors
     ///
-    /// If the length or the date-time is no `i64` of nanoseconds, or the length is longer than the date-time's.
+    /// If the length is not positive, if it or the date-time is no `i64` of nanoseconds, or if it is longer than the date-time's.
     fn duration_trunc(self, length: TimeDelta) -> Result<Self, Self::Err>;
 }
 
