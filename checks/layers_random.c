@@ -490,6 +490,97 @@ static void zones(void)
     free(said);
 }
 
+/* Lines of calendars, and what is none of them. */
+static const char *const calendar_lines[] = {
+    "DTSTART;TZID=Europe/Berlin:20240330T023000", "DTSTART:19700101T000000", "DTSTART:99991231T235959", "DTSTART:20240131T090000Z",
+    "RRULE:FREQ=DAILY;BYHOUR=2,17", "RRULE:FREQ=MONTHLY;BYDAY=-1FR", "RRULE:FREQ=SECONDLY;INTERVAL=45", "RRULE:FREQ=YEARLY;COUNT=3",
+    "RRULE:FREQ=WEEKLY;UNTIL=20241231T230000Z", "RRULE:FREQ=DAILY;BYHOUR=24", "RDATE;TZID=Europe/Berlin:20240201T090000,20240301T090000",
+    "RDATE:20240201T090000Z", "RDATE;VALUE=DATE:20240201", "EXDATE;TZID=Europe/Berlin:20240331T023000", "EXDATE:20240402T003000Z", "X:1", "",
+};
+
+/* A text of some of them, folded now and then, and with a wrong byte now and then. */
+static uint8_t *calendar(size_t *length)
+{
+    char made[1024];
+    size_t end = 0, count = sizeof calendar_lines / sizeof *calendar_lines;
+    for (size_t i = 0, lines = 1 + any() % 4; i < lines; i++) {
+        const char *line = calendar_lines[i == 0 ? any() % 3 : any() % 8 ? 4 + any() % (count - 4) : any() % count];
+        size_t half = strlen(line) / 2;
+        end += (size_t)snprintf(made + end, sizeof made - end, any() % 4 ? "%.*s%s\r\n" : "%.*s\r\n %s\n", (int)half, line, line + half);
+    }
+    *length = any() % 16 ? end : any() % (end + 1);
+    uint8_t *copy = bytes(*length);
+    memcpy(copy, made, *length);
+    if (*length && any() % 8 == 0) {
+        copy[any() % *length] ^= (uint8_t)(1 << any() % 8);
+    }
+    return copy;
+}
+
+static void calendars(void)
+{
+    size_t length, zone_length;
+    uint8_t *given = calendar(&length), *place = zone(&zone_length);
+    calendar_fault fault = {0, 0, 0, 0};
+    bool is_meant = calendar_text_check(given, length, place, zone_length, &fault);
+    HOLDS(is_meant ? fault.code == 0 : fault.code && fault.byte <= fault.end && fault.end == length && is_told(calendar_text_fault_text, &fault, 64));
+    calendar_date_time start = moment(), until = moment();
+    if (any() % 4) {
+        start.seconds = 1700000000 + (int64_t)(any() % 40000000);
+        until.seconds = start.seconds + (int64_t)(any() % 10000000);
+    }
+    calendar_date_time next = calendar_text_next(given, length, place, zone_length, start);
+    calendar_date_time last = calendar_text_prev(given, length, place, zone_length, start);
+    HOLDS(!is_moment(next) || (is_meant && is_before(start, next) && calendar_text_is_instance(given, length, place, zone_length, next)));
+    HOLDS(!is_moment(last) || (is_meant && is_before(last, start) && calendar_text_is_instance(given, length, place, zone_length, last)));
+    HOLDS(is_meant || !calendar_text_is_instance(given, length, place, zone_length, start));
+    size_t room = any() % 6;
+    calendar_date_time *out = (calendar_date_time *)malloc((room ? room : 1) * sizeof *out), at = start;
+    size_t written = calendar_text_instances(given, length, place, zone_length, start, until, out, room), found = 0;
+    HOLDS(written <= room);
+    while (is_moment(start) && is_moment(until) && found < room) {
+        at = calendar_text_next(given, length, place, zone_length, at);
+        if (!is_moment(at) || is_before(until, at) || found >= written || out[found].seconds != at.seconds || out[found].nanos != at.nanos) {
+            break;
+        }
+        found++;
+    }
+    HOLDS(found == written);
+    free(out);
+    uint8_t *said = bytes(room);
+    int32_t named = calendar_text_zone(given, length, said, room);
+    HOLDS(named == CALENDAR_NONE || (named > 0 && (size_t)named <= room));
+    fill(&fault, sizeof fault);
+    fault.code = (uint32_t)(any() % 30);
+    int32_t told = calendar_text_fault_text(&fault, said, room);
+    HOLDS(told == CALENDAR_NONE || (told > 0 && (size_t)told <= room));
+    free(said);
+    free(place);
+    free(given);
+}
+
+/* Schedules with seconds and years, and texts that are none. */
+static void timed_schedules(void)
+{
+    static const char *const schedules[] = {"*/15 30 4 * * *", "0 30 4 ? * MON-FRI 2024-2026", "0 0 0 L * ?", "59 59 23 29 2 *", "@daily", "*/5 * * * *"};
+    size_t length = any() % 24;
+    uint8_t *given = any() % 4 ? copy_of(schedules[any() % (sizeof schedules / sizeof *schedules)], &length) : text(length);
+    if (length && any() % 8 == 0) {
+        given[any() % length] ^= (uint8_t)(1 << any() % 8);
+    }
+    uint32_t dialect = any() % 16 ? (uint32_t)(any() % 3) : (uint32_t)any();
+    calendar_fault fault = {0, 0, 0, 0};
+    bool is_schedule = calendar_timed_schedule_check(given, length, dialect, &fault);
+    HOLDS(is_schedule ? fault.code == 0 : (fault.code || dialect > 2) && fault.byte <= fault.end && fault.end <= length);
+    calendar_date_time start = moment();
+    calendar_date_time next = calendar_timed_schedule_next(given, length, dialect, start);
+    calendar_date_time last = calendar_timed_schedule_prev(given, length, dialect, start);
+    HOLDS(!is_moment(next) || (is_schedule && is_before(start, next) && calendar_timed_schedule_is_due(given, length, dialect, next)));
+    HOLDS(!is_moment(last) || (is_schedule && is_before(last, start) && calendar_timed_schedule_is_due(given, length, dialect, last)));
+    HOLDS(is_schedule || !calendar_timed_schedule_is_due(given, length, dialect, start));
+    free(given);
+}
+
 static void versions(void)
 {
     size_t room = any() % 9;
@@ -512,6 +603,8 @@ int main(int count_of_words, char **words)
         columns();
         patterns();
         zones();
+        calendars();
+        timed_schedules();
         day_counts();
     }
     printf("%d passed, %d failed\n", passed, failed);

@@ -1,5 +1,5 @@
-/* calendar_layers.h of proved_calendar: cron schedules, recurrence rules, open days, holidays, day counts, patterns and time zones,
- * by functions that are proved.
+/* calendar_layers.h of proved_calendar: cron schedules, recurrence rules, texts of calendars, open days, holidays, day counts, patterns
+ * and time zones, by functions that are proved.
  *
  * For example, calendar_schedule_read reads `30 4 1,15 * fri` into a calendar_schedule. calendar_schedule_next then finds the
  * next time at which it is due.
@@ -104,6 +104,35 @@ bool calendar_schedule_is_due(const calendar_schedule *schedule, calendar_date_t
  * at most room. The other elements stay as they were. Begin again from the last one if it wrote room of them. */
 size_t calendar_schedule_due(const calendar_schedule *schedule, calendar_date_time start, calendar_date_time until,
                              calendar_date_time *out, size_t room);
+
+/* ---- cron schedules with seconds and years
+ *
+ * Such a schedule is its text, and each call reads it by its dialect. If the text is no schedule of the dialect, the answers are those
+ * for no date-time. */
+
+/* What stands in a text: the five fields of cron, or six with seconds in front, or those of Quartz, which has weekdays from 1 for Sunday,
+ * `?` for one field of days, and years such as `2024-2026` behind it. */
+enum {
+    CALENDAR_DIALECT_CRONTAB = 0,
+    CALENDAR_DIALECT_SECONDS,
+    CALENDAR_DIALECT_QUARTZ
+};
+
+/* What else can be wrong than with a schedule of cron: a text of Quartz has `?` in neither of the fields of days, or in both. */
+enum { CALENDAR_SCHEDULE_QUESTION_MARKS = 15 };
+
+/* Returns whether a text is a schedule of a dialect. If it is none, fault says what is wrong first, by the codes of schedules. Its field is
+ * one of theirs, 6 for seconds, or 7 for years. If there is no such dialect, fault stays as it was. */
+bool calendar_timed_schedule_check(const uint8_t *text, size_t length, uint32_t dialect, calendar_fault *fault);
+
+/* Returns the first date-time after start at which the schedule is due, at the beginning of a second. */
+calendar_date_time calendar_timed_schedule_next(const uint8_t *text, size_t length, uint32_t dialect, calendar_date_time start);
+
+/* Returns the last date-time before start at which the schedule is due. */
+calendar_date_time calendar_timed_schedule_prev(const uint8_t *text, size_t length, uint32_t dialect, calendar_date_time start);
+
+/* Returns whether the schedule is due at a date-time. It is never due within a second. */
+bool calendar_timed_schedule_is_due(const uint8_t *text, size_t length, uint32_t dialect, calendar_date_time moment);
 
 /* ---- recurrence rules
  *
@@ -361,6 +390,69 @@ calendar_date_time calendar_zone_schedule_next(const calendar_schedule *schedule
 /* Returns the last instant before start at which a schedule fires in the zone, by the same rules. */
 calendar_date_time calendar_zone_schedule_prev(const calendar_schedule *schedule, const uint8_t *zone, size_t length,
                                                calendar_date_time start);
+
+/* ---- texts of calendars in a zone
+ *
+ * A text has lines of RFC 5545: DTSTART, a local time, and RRULE, RDATE and EXDATE. Each call reads it, and the bytes of its zone, which the
+ * caller finds by the name in the text. A text has at most 8192 bytes, its rule fewer than 1024, and RDATE and EXDATE at most 256 times
+ * each. Date-times are in UTC. */
+
+/* What is wrong with a text: the codes of calendar_fault. Codes up to 13 have the byte at which the text is wrong. */
+enum {
+    CALENDAR_RECURRENCE_NO_COLON = 1,
+    CALENDAR_RECURRENCE_UNKNOWN_PROPERTY,
+    CALENDAR_RECURRENCE_PROPERTY_TWICE,
+    CALENDAR_RECURRENCE_NO_START,
+    CALENDAR_RECURRENCE_UNKNOWN_PARAMETER,
+    CALENDAR_RECURRENCE_PARAMETER_TWICE,
+    CALENDAR_RECURRENCE_NOT_A_ZONE_NAME,
+    CALENDAR_RECURRENCE_UNKNOWN_VALUE_TYPE,
+    CALENDAR_RECURRENCE_ZONE_OF_DATE,
+    CALENDAR_RECURRENCE_NOT_A_TIME,
+    CALENDAR_RECURRENCE_OTHER_KIND,
+    CALENDAR_RECURRENCE_OTHER_ZONE,
+    CALENDAR_RECURRENCE_NOT_A_RULE,
+    CALENDAR_RECURRENCE_TOO_LONG,
+    CALENDAR_RECURRENCE_LONG_RULE,
+    CALENDAR_RECURRENCE_NOT_LOCAL,
+    CALENDAR_RECURRENCE_FREQUENCY,
+    CALENDAR_RECURRENCE_HOURS,
+    CALENDAR_RECURRENCE_MINUTES,
+    CALENDAR_RECURRENCE_SECONDS,
+    CALENDAR_RECURRENCE_DAYS,
+    CALENDAR_RECURRENCE_UNTIL,
+    CALENDAR_RECURRENCE_NOT_TOGETHER,
+    CALENDAR_RECURRENCE_NO_INSTANT,
+    CALENDAR_RECURRENCE_TOO_MANY_TIMES,
+    CALENDAR_RECURRENCE_NO_ZONE
+};
+
+/* Returns whether a text means a recurrence in a zone. If it means none, fault says what is wrong first. */
+bool calendar_text_check(const uint8_t *text, size_t length, const uint8_t *zone, size_t zone_length, calendar_fault *fault);
+
+/* Writes what a fault of a text says, such as `DTSTART is missing`, and returns the number of bytes, at most 64. If fault has no such code,
+ * or room is too small, writes nothing and returns CALENDAR_NONE. */
+int32_t calendar_text_fault_text(const calendar_fault *fault, uint8_t *text, size_t room);
+
+/* Writes the name of the zone of a text, TZID of DTSTART, and returns the number of bytes. Returns CALENDAR_NONE if the text names none, if
+ * the name has more than 1000 bytes, or if room is too small. */
+int32_t calendar_text_zone(const uint8_t *text, size_t length, uint8_t *name, size_t room);
+
+/* Returns the first instant after start that a text has in a zone. Where the clock skips a time, the offset before the gap counts, and where
+ * it shows one twice, the first counts (RFC 5545, section 3.3.5). Returns 0 seconds and CALENDAR_NO_NANOS if there is none, if the text
+ * means no recurrence, if the bytes are no zone, or if the zone's clock shows a date outside the calendar at start. */
+calendar_date_time calendar_text_next(const uint8_t *text, size_t length, const uint8_t *zone, size_t zone_length, calendar_date_time start);
+
+/* Returns the last instant before start that a text has in a zone. */
+calendar_date_time calendar_text_prev(const uint8_t *text, size_t length, const uint8_t *zone, size_t zone_length, calendar_date_time start);
+
+/* Returns whether a text has an instant in a zone at a date-time. */
+bool calendar_text_is_instance(const uint8_t *text, size_t length, const uint8_t *zone, size_t zone_length, calendar_date_time moment);
+
+/* Writes the instants after start, up to until, in order, and returns how many it wrote. It writes at most room. The other elements stay as
+ * they were. Begin again from the last one if it wrote room of them. */
+size_t calendar_text_instances(const uint8_t *text, size_t length, const uint8_t *zone, size_t zone_length, calendar_date_time start,
+                               calendar_date_time until, calendar_date_time *out, size_t room);
 
 /* ---- day counts */
 

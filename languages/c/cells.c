@@ -50,11 +50,30 @@ static void schedules_in_a_zone(void)
     }
 }
 
+/* == schedules with seconds */
+static void schedules_with_seconds(void)
+{
+    /* after 04:30:15 of 9 February 2024 */
+    calendar_date_time start = {.seconds = 1707453015};
+    calendar_date_time next = calendar_timed_schedule_next(BYTES("*/15 30 4 * * *"), CALENDAR_DIALECT_SECONDS, start);
+    printf("%lld\n", (long long)next.seconds); /* = 1707453030 */
+}
+
 /* == recurrence rules */
 static void recurrence_rules(void)
 {
     int32_t start = calendar_from_ymd(2024, 1, 1);
     print_date(calendar_rule_next(BYTES("FREQ=MONTHLY;BYDAY=-1FR"), start, start)); /* = 2024-01-26 */
+}
+
+/* == calendars in a zone */
+static void calendars_in_a_zone(void)
+{
+    const char *text = "DTSTART;TZID=Europe/Berlin:20240330T023000\nRRULE:FREQ=DAILY\n", *berlin = "CET-1CEST,M3.5.0,M10.5.0/3";
+    /* the first instant, and the next in the night in which the clock skips 02:30 */
+    calendar_date_time first = calendar_text_next(BYTES(text), BYTES(berlin), (calendar_date_time){.seconds = 0});
+    printf("%lld\n", (long long)first.seconds); /* = 1711762200 */
+    printf("%lld\n", (long long)calendar_text_next(BYTES(text), BYTES(berlin), first).seconds); /* = 1711848600 */
 }
 
 /* == open days */
@@ -109,7 +128,9 @@ int main(void)
     patterns();
     schedules();
     schedules_in_a_zone();
+    schedules_with_seconds();
     recurrence_rules();
+    calendars_in_a_zone();
     open_days();
     holidays();
     easter();

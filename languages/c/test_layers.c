@@ -693,6 +693,134 @@ static void all_codes(void)
     test_codes(codes_of_zones, sizeof codes_of_zones / sizeof codes_of_zones[0], calendar_zone_fault_text, is_zone);
 }
 
+static void texts_of_calendars(void)
+{
+    const char *berlin = "CET-1CEST,M3.5.0,M10.5.0/3", *text = "DTSTART;TZID=Europe/Berlin:20240330T023000\nRRULE:FREQ=DAILY;BYHOUR=2,17\n";
+    const char *month = "DTSTART;TZID=Europe/Berl\r\n in:20240131T090000\r\nRRULE:FREQ=MONTHLY;COUNT=4\r\n"
+                        "RDATE;TZID=Europe/Berlin:20240201T090000\r\nEXDATE;TZID=Europe/Berlin:20240531T090000\r\n";
+    size_t zone = strlen(berlin), length = strlen(text), long_one = strlen(month);
+    calendar_fault fault = {7, 8, 9, 10};
+    uint8_t name[64];
+    IS(calendar_text_check(bytes_of(text), length, bytes_of(berlin), zone, &fault), true);
+    IS(fault.code, 7u);
+    IS(calendar_text_zone(bytes_of(month), long_one, name, sizeof name), 13);
+    IS(memcmp(name, "Europe/Berlin", 13), 0);
+    IS(calendar_text_zone(bytes_of(month), long_one, name, 12), CALENDAR_NONE);
+    IS(calendar_text_zone(bytes_of("DTSTART:20240131T090000"), 23, name, sizeof name), CALENDAR_NONE);
+    /* 02:30 of 31 March does not exist, and stands for 03:30. */
+    IS_MOMENT(calendar_text_next(bytes_of(text), length, bytes_of(berlin), zone, moment(0, 0)), 1711762200, 0);
+    IS_MOMENT(calendar_text_next(bytes_of(text), length, bytes_of(berlin), zone, moment(1711762200, 0)), 1711816200, 0);
+    IS_MOMENT(calendar_text_next(bytes_of(text), length, bytes_of(berlin), zone, moment(1711816200, 0)), 1711848600, 0);
+    IS_MOMENT(calendar_text_prev(bytes_of(text), length, bytes_of(berlin), zone, moment(1711848600, 0)), 1711816200, 0);
+    NO_MOMENT(calendar_text_prev(bytes_of(text), length, bytes_of(berlin), zone, moment(1711762200, 0)));
+    IS(calendar_text_is_instance(bytes_of(text), length, bytes_of(berlin), zone, moment(1711848600, 0)), true);
+    IS(calendar_text_is_instance(bytes_of(text), length, bytes_of(berlin), zone, moment(1711848600, 1)), false);
+    IS(calendar_text_is_instance(bytes_of(text), length, bytes_of(berlin), zone, moment(1711845000, 0)), false);
+    /* COUNT counts the 31st of May, which is left out. */
+    calendar_date_time out[5] = {{0, 0}, {0, 0}, {0, 0}, {0, 0}, {5, 6}};
+    IS(calendar_text_instances(bytes_of(month), long_one, bytes_of(berlin), zone, moment(0, 0), moment(1722409200, 0), out, 5), 4u);
+    IS_MOMENT(out[0], 1706688000, 0);
+    IS_MOMENT(out[1], 1706774400, 0);
+    IS_MOMENT(out[2], 1711868400, 0);
+    IS_MOMENT(out[3], 1722409200, 0);
+    IS_MOMENT(out[4], 5, 6);
+    /* until is in UTC */
+    IS(calendar_text_instances(bytes_of(month), long_one, bytes_of(berlin), zone, moment(1706688000, 0), moment(1722409199, 0), out, 5), 2u);
+    IS(calendar_text_instances(bytes_of(month), long_one, bytes_of(berlin), zone, moment(0, 0), moment(1722409200, 0), out, 1), 1u);
+    NO_MOMENT(calendar_text_next(bytes_of(month), long_one, bytes_of(berlin), zone, moment(1722409200, 0)));
+    NO_MOMENT(calendar_text_next(bytes_of(month), long_one, bytes_of("EST"), 3, moment(0, 0)));
+    NO_MOMENT(calendar_text_next(bytes_of(month), long_one, bytes_of(berlin), zone, moment(8210266876799, 0)));
+    NO_MOMENT(calendar_text_next(bytes_of(month), 9, bytes_of(berlin), zone, moment(0, 0)));
+}
+
+static bool has_text_fault(const char *text, const char *zone, uint32_t code, size_t byte)
+{
+    calendar_fault fault = {0, 0, 0, 0};
+    uint8_t said[64];
+    return !calendar_text_check(bytes_of(text), strlen(text), bytes_of(zone), strlen(zone), &fault) && fault.code == code && fault.field == 0
+        && fault.byte == byte && fault.end == strlen(text) && calendar_text_fault_text(&fault, said, sizeof said) > 0;
+}
+
+static void faults_of_calendars(void)
+{
+    const char *zone = "UTC0", *start = "DTSTART:20240131T090000\n";
+    char text[9000];
+    IS(has_text_fault("DTSTART:20240131T0900\n", zone, CALENDAR_RECURRENCE_NOT_A_TIME, 8), true);
+    IS(has_text_fault("RRULE:FREQ=DAILY", zone, CALENDAR_RECURRENCE_NO_START, 16), true);
+    IS(has_text_fault("DTSTART:20240131T090000\nEXDATE;TZID=UTC:20240131T090000\n", zone, CALENDAR_RECURRENCE_OTHER_ZONE, 40), true);
+    IS(has_text_fault("DTSTART:20240131T090000Z\n", zone, CALENDAR_RECURRENCE_NOT_LOCAL, 0), true);
+    IS(has_text_fault("DTSTART:20240131T090000\nRRULE:FREQ=DAILY;BYHOUR=24\n", zone, CALENDAR_RECURRENCE_HOURS, 0), true);
+    IS(has_text_fault("DTSTART:20240131T090000\nRRULE:COUNT=2\n", zone, CALENDAR_RECURRENCE_FREQUENCY, 0), true);
+    IS(has_text_fault("DTSTART:20240131T090000\nRRULE:FREQ=DAILY;BYDAY=XX\n", zone, CALENDAR_RECURRENCE_DAYS, 0), true);
+    IS(has_text_fault("DTSTART:20240131T090000\nRRULE:FREQ=DAILY;UNTIL=20241231\n", zone, CALENDAR_RECURRENCE_UNTIL, 0), true);
+    IS(has_text_fault("DTSTART:20240131T090000\nRRULE:FREQ=DAILY;BYHOUR=1;BYSETPOS=1;BYDAY=MO\n", zone, CALENDAR_RECURRENCE_NOT_TOGETHER, 0), true);
+    IS(has_text_fault("DTSTART:20240131T090000\nRDATE;VALUE=DATE:20240131\n", zone, CALENDAR_RECURRENCE_NO_INSTANT, 0), true);
+    IS(has_text_fault("DTSTART:20240131T090000\n", "EST", CALENDAR_RECURRENCE_NO_ZONE, 0), true);
+    memset(text, 0, sizeof text);
+    strcpy(text, start);
+    for (size_t i = 0; i < 257; i++) {
+        strcat(text, i ? "," : "RDATE:");
+        strcat(text, "20240131T090000");
+    }
+    IS(has_text_fault(text, zone, CALENDAR_RECURRENCE_TOO_MANY_TIMES, 0), true);
+    memset(text, '\n', 8193);
+    text[8193] = 0;
+    memcpy(text, start, strlen(start));
+    IS(has_text_fault(text, zone, CALENDAR_RECURRENCE_TOO_LONG, 0), true);
+    text[8192] = 0;
+    IS_MOMENT(calendar_text_next(bytes_of(text), 8192, bytes_of(zone), 4, moment(0, 0)), 1706691600, 0);
+    memset(text, 'A', 1100);
+    memcpy(text, start, strlen(start));
+    memcpy(text + strlen(start), "RRULE:", 6);
+    text[strlen(start) + 6 + 1024] = 0;
+    IS(has_text_fault(text, zone, CALENDAR_RECURRENCE_LONG_RULE, 0), true);
+    calendar_fault fault = {27, 0, 0, 0};
+    uint8_t said[64];
+    IS(calendar_text_fault_text(&fault, said, sizeof said), CALENDAR_NONE);
+    fault.code = CALENDAR_RECURRENCE_NO_START;
+    IS(calendar_text_fault_text(&fault, said, 18), 18);
+    IS(memcmp(said, "DTSTART is missing", 18), 0);
+    IS(calendar_text_fault_text(&fault, said, 17), CALENDAR_NONE);
+}
+
+static bool has_timed_fault(const char *text, uint32_t dialect, uint32_t code, uint32_t field, size_t byte, size_t end)
+{
+    calendar_fault fault = {0, 0, 0, 0};
+    return !calendar_timed_schedule_check(bytes_of(text), strlen(text), dialect, &fault) && fault.code == code && fault.field == field
+        && fault.byte == byte && fault.end == end;
+}
+
+static void timed_schedules(void)
+{
+    const char *quarters = "*/15 30 4 * * *", *years = "0 30 4 ? * MON-FRI 2024-2026";
+    size_t length = strlen(quarters), long_one = strlen(years);
+    calendar_fault fault = {7, 8, 9, 10};
+    IS(calendar_timed_schedule_check(bytes_of(quarters), length, CALENDAR_DIALECT_SECONDS, &fault), true);
+    IS(calendar_timed_schedule_check(bytes_of(quarters), length, 3, &fault), false);
+    IS(fault.code, 7u);
+    IS(has_timed_fault(quarters, CALENDAR_DIALECT_CRONTAB, CALENDAR_SCHEDULE_TOO_MANY_FIELDS, 0, 14, 15), true);
+    IS(has_timed_fault("0,60 * * * * *", CALENDAR_DIALECT_SECONDS, CALENDAR_SCHEDULE_OUT_OF_RANGE, 6, 2, 4), true);
+    IS(has_timed_fault("0 0 24 * * *", CALENDAR_DIALECT_SECONDS, CALENDAR_SCHEDULE_OUT_OF_RANGE, 2, 4, 6), true);
+    IS(has_timed_fault("0 0 0 1 * MON", CALENDAR_DIALECT_QUARTZ, CALENDAR_SCHEDULE_QUESTION_MARKS, 5, 10, 13), true);
+    IS(has_timed_fault("0 0 0 1 * ? 2100", CALENDAR_DIALECT_QUARTZ, CALENDAR_SCHEDULE_OUT_OF_RANGE, 7, 12, 16), true);
+    /* 9 February 2024, 04:30:15 */
+    IS_MOMENT(calendar_timed_schedule_next(bytes_of(quarters), length, CALENDAR_DIALECT_SECONDS, moment(1707453015, 0)), 1707453030, 0);
+    IS_MOMENT(calendar_timed_schedule_next(bytes_of(quarters), length, CALENDAR_DIALECT_SECONDS, moment(1707453045, 0)), 1707539400, 0);
+    IS_MOMENT(calendar_timed_schedule_prev(bytes_of(quarters), length, CALENDAR_DIALECT_SECONDS, moment(1707453015, 0)), 1707453000, 0);
+    IS(calendar_timed_schedule_is_due(bytes_of(quarters), length, CALENDAR_DIALECT_SECONDS, moment(1707453015, 0)), true);
+    IS(calendar_timed_schedule_is_due(bytes_of(quarters), length, CALENDAR_DIALECT_SECONDS, moment(1707453016, 0)), false);
+    IS(calendar_timed_schedule_is_due(bytes_of(quarters), length, CALENDAR_DIALECT_SECONDS, moment(1707453015, 1)), false);
+    /* from Friday, 2 January 2026, to Monday, and no day of 2027 */
+    IS_MOMENT(calendar_timed_schedule_next(bytes_of(years), long_one, CALENDAR_DIALECT_QUARTZ, moment(1767328200, 0)), 1767587400, 0);
+    NO_MOMENT(calendar_timed_schedule_next(bytes_of(years), long_one, CALENDAR_DIALECT_QUARTZ, moment(1798691400, 0)));
+    NO_MOMENT(calendar_timed_schedule_next(bytes_of(years), long_one, CALENDAR_DIALECT_SECONDS, moment(0, 0)));
+    NO_MOMENT(calendar_timed_schedule_prev(bytes_of(years), long_one, 3, moment(0, 0)));
+    NO_MOMENT(calendar_timed_schedule_prev(bytes_of(years), long_one, CALENDAR_DIALECT_QUARTZ, moment(INT64_MAX, 0)));
+    IS(calendar_timed_schedule_is_due(bytes_of(years), long_one, CALENDAR_DIALECT_CRONTAB, moment(1767328200, 0)), false);
+    /* a nickname is due at second 0 */
+    IS_MOMENT(calendar_timed_schedule_next(bytes_of("@daily"), 6, CALENDAR_DIALECT_SECONDS, moment(MARCH - 1, 0)), MARCH, 0);
+}
+
 static void versions(void)
 {
     uint8_t text[16];
@@ -719,6 +847,9 @@ int main(void)
     zones();
     files_of_zones();
     schedules_in_zones();
+    texts_of_calendars();
+    faults_of_calendars();
+    timed_schedules();
     day_counts();
     all_codes();
     printf("%d passed, %d failed\n", passed, failed);

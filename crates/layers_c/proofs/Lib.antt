@@ -1,9 +1,11 @@
 -- These serve this crate's own proofs alone.
+mod CalendarLemmas
 mod ColumnLemmas
 mod DigitLemmas
 mod FilledLists
 mod FoundNumbers
 mod KnownHolidays
+mod ListedInstants
 mod MomentLemmas
 mod Numbered
 mod PlainLists

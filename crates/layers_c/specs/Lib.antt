@@ -1,3 +1,4 @@
+pub mod Calendars
 pub mod DayCounts
 pub mod Faults
 pub mod Holidays
@@ -8,5 +9,6 @@ pub mod Patterns
 pub mod Rules
 pub mod Schedules
 pub mod ZoneFaults
+pub mod TimedSchedules
 pub mod Zones
 pub mod ZonedSchedules

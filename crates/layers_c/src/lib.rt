@@ -5,6 +5,9 @@
 //! crates below. `languages/c/calendar_layers.h` declares it.
 #![tactic(auto)]
 
+mod calendar_faults;
+mod calendar_recurrences;
+mod calendar_texts;
 mod day_counts;
 mod faults;
 mod holidays;
@@ -23,6 +26,7 @@ mod schedule_numbers;
 mod schedule_texts;
 mod schedule_words;
 mod schedules;
+mod timed_schedules;
 mod versions;
 mod zone_bytes;
 mod zone_faults;

@@ -67,7 +67,7 @@ pub(crate) fn error_of(fault: &CalendarFault) -> Option<ScheduleError>
 
 // The fault with a number.
 #[tactic(auto, using(crate::proofs::Numbered::numbered_past, crate::proofs::Numbered::numbered_within))]
-fn fault_numbered(number: u32) -> Option<ScheduleFault>
+pub(crate) fn fault_numbered(number: u32) -> Option<ScheduleFault>
     ensures { result ≡ numbered schedule_faults number }
 {
     if number == 0 {
@@ -91,7 +91,7 @@ fn field_numbered(number: u32) -> Option<ScheduleField>
 }
 
 // The number of a fault.
-fn fault_number(fault: ScheduleFault) -> u32
+pub(crate) fn fault_number(fault: ScheduleFault) -> u32
     ensures { numbered schedule_faults result ≡ Some fault }
 {
     match fault {

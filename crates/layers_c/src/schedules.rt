@@ -111,7 +111,7 @@ fn write_due(
 
 // Whether a moment is not after another.
 #[inline]
-fn is_up_to(until: NaiveDateTime, moment: NaiveDateTime) -> bool
+pub(crate) fn is_up_to(until: NaiveDateTime, moment: NaiveDateTime) -> bool
     ensures { result ≡ is_up_to until moment }
 {
     moment.cmp(&until).is_le()
@@ -119,7 +119,7 @@ fn is_up_to(until: NaiveDateTime, moment: NaiveDateTime) -> bool
 
 // The numbers of a moment that is in no leap second, if there is one.
 #[inline]
-fn plain_numbers(found: Option<NaiveDateTime>) -> CalendarDateTime
+pub(crate) fn plain_numbers(found: Option<NaiveDateTime>) -> CalendarDateTime
     requires { IfSome found (λ m. IsPlain m.time) }
     ensures numbers { result ≡ numbers_or_none found }
     ensures named { moment_from_c result ≡ found }
@@ -143,7 +143,7 @@ fn numbers_of_plain(moment: NaiveDateTime) -> CalendarDateTime
 
 // The numbers of no moment.
 #[inline]
-fn no_numbers() -> CalendarDateTime
+pub(crate) fn no_numbers() -> CalendarDateTime
     ensures numbers { result ≡ numbers_or_none None }
     ensures named { moment_from_c result ≡ None }
 {
