@@ -656,6 +656,36 @@ static const Code codes_of_zones[] = {
     {CALENDAR_ZONE_NOT_JOINED, "the rule does not go on from the last row", NULL},
 };
 
+static const Code codes_of_recurrences[] = {
+    {CALENDAR_RECURRENCE_NO_COLON, "the line has no colon", "DTSTART"},
+    {CALENDAR_RECURRENCE_UNKNOWN_PROPERTY, "none of DTSTART, RRULE, RDATE and EXDATE", "SUMMARY:x"},
+    {CALENDAR_RECURRENCE_PROPERTY_TWICE, "a second DTSTART or RRULE", "DTSTART:20240131T090000\nDTSTART:20240131T090000"},
+    {CALENDAR_RECURRENCE_NO_START, "DTSTART is missing", "RRULE:FREQ=DAILY"},
+    {CALENDAR_RECURRENCE_UNKNOWN_PARAMETER, "the parameter is neither TZID nor VALUE", "DTSTART;X=1:20240131T090000"},
+    {CALENDAR_RECURRENCE_PARAMETER_TWICE, "the parameter stands twice", "DTSTART;TZID=A;TZID=A:20240131T090000"},
+    {CALENDAR_RECURRENCE_NOT_A_ZONE_NAME, "no name of a zone", "DTSTART;TZID=:20240131T090000"},
+    {CALENDAR_RECURRENCE_UNKNOWN_VALUE_TYPE, "neither DATE nor DATE-TIME", "DTSTART;VALUE=TIME:090000"},
+    {CALENDAR_RECURRENCE_ZONE_OF_DATE, "TZID does not go with VALUE=DATE", "DTSTART;TZID=A;VALUE=DATE:20240131"},
+    {CALENDAR_RECURRENCE_NOT_A_TIME, "no date and no date-time as 20240131T090000", "DTSTART:x"},
+    {CALENDAR_RECURRENCE_OTHER_KIND, "a time of another kind than the line says", "DTSTART;TZID=A:20240131T090000Z"},
+    {CALENDAR_RECURRENCE_OTHER_ZONE, "a local time in another zone than DTSTART", "DTSTART:20240131T090000\nEXDATE;TZID=A:20240131T090000"},
+    {CALENDAR_RECURRENCE_NOT_A_RULE, "no rule", "DTSTART:20240131T090000\nRRULE:"},
+    {CALENDAR_RECURRENCE_TOO_LONG, "more than 8192 bytes", NULL},
+    {CALENDAR_RECURRENCE_LONG_RULE, "the rule has 1024 bytes or more", NULL},
+    {CALENDAR_RECURRENCE_NOT_LOCAL, "DTSTART is no local time", "DTSTART:20240131T090000Z"},
+    {CALENDAR_RECURRENCE_FREQUENCY, "FREQ is missing or stands twice", "DTSTART:20240131T090000\nRRULE:COUNT=2"},
+    {CALENDAR_RECURRENCE_HOURS, "BYHOUR stands twice or lists no hours", "DTSTART:20240131T090000\nRRULE:FREQ=DAILY;BYHOUR=24"},
+    {CALENDAR_RECURRENCE_MINUTES, "BYMINUTE stands twice or lists no minutes", "DTSTART:20240131T090000\nRRULE:FREQ=DAILY;BYMINUTE=60"},
+    {CALENDAR_RECURRENCE_SECONDS, "BYSECOND stands twice or lists no seconds", "DTSTART:20240131T090000\nRRULE:FREQ=DAILY;BYSECOND=61"},
+    {CALENDAR_RECURRENCE_DAYS, "the parts of days are no rule", "DTSTART:20240131T090000\nRRULE:FREQ=DAILY;BYDAY=XX"},
+    {CALENDAR_RECURRENCE_UNTIL, "UNTIL is no time in UTC, or stands beside COUNT", "DTSTART:20240131T090000\nRRULE:FREQ=DAILY;UNTIL=20241231"},
+    {CALENDAR_RECURRENCE_NOT_TOGETHER, "parts of the rule do not go together",
+     "DTSTART:20240131T090000\nRRULE:FREQ=DAILY;BYHOUR=1;BYSETPOS=1;BYDAY=MO"},
+    {CALENDAR_RECURRENCE_NO_INSTANT, "a time of RDATE or EXDATE is no instant", "DTSTART:20240131T090000\nRDATE;VALUE=DATE:20240131"},
+    {CALENDAR_RECURRENCE_TOO_MANY_TIMES, "more than 256 times in RDATE or EXDATE", NULL},
+    {CALENDAR_RECURRENCE_NO_ZONE, "the bytes hold no zone", NULL},
+};
+
 typedef int32_t Sayer(const calendar_fault *fault, uint8_t *text, size_t room);
 typedef bool Checker(const char *text, calendar_fault *fault);
 
@@ -668,6 +698,11 @@ static bool is_schedule(const char *text, calendar_fault *fault)
 static bool is_zone(const char *text, calendar_fault *fault)
 {
     return calendar_zone_check(bytes_of(text), strlen(text), fault);
+}
+
+static bool is_recurrence(const char *text, calendar_fault *fault)
+{
+    return calendar_text_check(bytes_of(text), strlen(text), bytes_of("UTC0"), 4, fault);
 }
 
 /* Each code has its sentence, and each text its code. */
@@ -691,6 +726,7 @@ static void all_codes(void)
     test_codes(codes_of_schedules, sizeof codes_of_schedules / sizeof codes_of_schedules[0], calendar_schedule_fault_text, is_schedule);
     test_codes(codes_of_rules, sizeof codes_of_rules / sizeof codes_of_rules[0], calendar_rule_fault_text, is_rule);
     test_codes(codes_of_zones, sizeof codes_of_zones / sizeof codes_of_zones[0], calendar_zone_fault_text, is_zone);
+    test_codes(codes_of_recurrences, sizeof codes_of_recurrences / sizeof codes_of_recurrences[0], calendar_text_fault_text, is_recurrence);
 }
 
 static void texts_of_calendars(void)
