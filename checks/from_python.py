@@ -21,9 +21,9 @@ TESTS = f"{PACKAGE}/tests"
 COUNTS = (r"\.\.\. ok()$", r"\.\.\. (?:FAIL|ERROR)()$")
 # Debian's Python, which may have numpy and pandas, and the tests that need no other package.
 DEBIAN = "/usr/bin/python3"
-ALONE = ("test_calls.py", "test_habits.py", "test_like_datetime.py", "test_layers.py", "test_zoned.py")
+ALONE = ("test_calls.py", "test_habits.py", "test_like_datetime.py", "test_layers.py", "test_zoned.py", "test_calendars.py")
 # The test that finds wrong lines soonest, by what stands in the path of a file.
-NEAREST = {"pattern": "test_layers.py", "schedule": "test_layers.py", "business": "test_layers.py", "rule": "test_layers.py", "zone": "test_zoned.py"}
+NEAREST = {"pattern": "test_layers.py", "schedule": "test_layers.py", "business": "test_layers.py", "rule": "test_layers.py", "zone": "test_zoned.py", "calendars": "test_calendars.py"}
 # The tests and the pages that need other packages, which Debian's Python may have, and those packages.
 BESIDE = {"test_columns.py": ("numpy",), "test_pandas.py": ("numpy", "pandas"), "test_dask.py": ("numpy", "pandas", "dask.dataframe")}
 PAGES = {"columns.md": ("numpy",), "pandas.md": ("numpy", "pandas"), "dask.md": ("numpy", "pandas", "dask.dataframe")}

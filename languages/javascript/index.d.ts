@@ -345,6 +345,42 @@ export class Schedule {
   readonly [Symbol.toStringTag]: "Schedule";
 }
 
+/** A cron schedule with seconds. `crontab` has the five fields of a Schedule, `seconds` one in front, and `quartz` years behind. */
+export class TimedSchedule {
+  /** Throws a TextError if the text is no schedule of the dialect. */
+  constructor(text: string, options?: { dialect?: "crontab" | "seconds" | "quartz" });
+  readonly dialect: "crontab" | "seconds" | "quartz";
+  /** The first date-time after another at which it is due; undefined if there is none. */
+  nextAfter(start: DateTimeLike): PlainDateTime | undefined;
+  /** The last date-time before another at which it is due; undefined if there is none. */
+  previousBefore(start: DateTimeLike): PlainDateTime | undefined;
+  isDue(moment: DateTimeLike): boolean;
+  /** The date-times after another at which it is due, in order, up to `until`, which counts. */
+  iterate(start: DateTimeLike, options?: { until?: DateTimeLike }): IterableIterator<PlainDateTime>;
+  toString(): string;
+  toJSON(): string;
+  readonly [Symbol.toStringTag]: "TimedSchedule";
+}
+
+/** The instants of the text of a calendar (RFC 5545) in a zone: DTSTART, a local time, and RRULE, RDATE and EXDATE. */
+export class CalendarText {
+  /** Throws a TextError if the text means no recurrence in the zone. */
+  constructor(text: string, timeZone: Zone | string);
+  /** The name of the zone in which a text has its local times; undefined if it names none. */
+  static zoneName(text: string): string | undefined;
+  readonly timeZone: Zone;
+  /** The first instant after another; undefined if there is none. */
+  nextAfter(start: ZonedDateTime | Instant): ZonedDateTime | undefined;
+  /** The last instant before another; undefined if there is none. */
+  previousBefore(start: ZonedDateTime | Instant): ZonedDateTime | undefined;
+  includes(instant: ZonedDateTime | Instant): boolean;
+  /** The instants after another, in order, up to `until`, which counts. */
+  iterate(start: ZonedDateTime | Instant, options?: { until?: ZonedDateTime | Instant }): IterableIterator<ZonedDateTime>;
+  toString(): string;
+  toJSON(): string;
+  readonly [Symbol.toStringTag]: "CalendarText";
+}
+
 /** A recurrence rule of RFC 5545 from a start on, such as `FREQ=MONTHLY;BYDAY=-1FR`. Its instances are days. */
 export class Rule implements Iterable<PlainDate> {
   /** Throws a TextError if the text is no rule. */

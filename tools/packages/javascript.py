@@ -32,9 +32,9 @@ MODULES = {
 }
 SOURCES = ("instantiate", "moments", "numbers", "rounding", "calendar", "texts", "library", "duration", "plain_date", "plain_date_time",
            "instant", "column_room", "layers", "text_error", "schedule", "rule", "rule_set", "pattern", "business_calendar", "columns", "zone",
-           "zoned_date_time", "index")
+           "zoned_date_time", "calendar_text", "timed_schedule", "index")
 # What of the package the page has no use for.
-NOT_ON_PAGE = ("columns", "columns_module", "rule_set")
+NOT_ON_PAGE = ("columns", "columns_module", "rule_set", "calendar_text", "timed_schedule")
 PAGE = ("answers", "words", "parts", "layer_parts", "zones", "page")
 
 

@@ -3,6 +3,7 @@
  */
 
 export { BusinessCalendar, dayCount, easter } from "./business_calendar.js";
+export { CalendarText } from "./calendar_text.js";
 export * as columns from "./columns.js";
 export { Duration } from "./duration.js";
 export { Instant } from "./instant.js";
@@ -14,5 +15,6 @@ export { Rule } from "./rule.js";
 export { RuleSet } from "./rule_set.js";
 export { Schedule } from "./schedule.js";
 export { TextError } from "./text_error.js";
+export { TimedSchedule } from "./timed_schedule.js";
 export { Zone } from "./zone.js";
 export { ZonedDateTime } from "./zoned_date_time.js";

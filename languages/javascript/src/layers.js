@@ -390,3 +390,104 @@ export const nextInZone = (...parts) => foundInZone((layers, ...given) => layers
 
 /** The last date-time of UTC before another at which a schedule fires in a zone; undefined if there is none. */
 export const previousInZone = (...parts) => foundInZone((layers, ...given) => layers.calendar_zone_schedule_prev(...given), ...parts);
+
+/** Puts the bytes of a text into the room again. The address and the length are what a function takes as them. */
+function putBytes(room, encoded) {
+  room.bytes.set(encoded, TEXT);
+  return [address(room, TEXT), BigInt(encoded.length)];
+}
+
+/** Puts a date-time into the room, and answers its address. */
+function putMoment(room, at, moment) {
+  setMoment(room.view, at, moment);
+  return address(room, at);
+}
+
+/** The bytes of the text of a calendar in a zone; a TextError if it means no recurrence there. */
+export function readCalendar(text, zone) {
+  const room = open();
+  const { layers } = room;
+  const encoded = putText(room, text);
+  if (!layers.calendar_text_check(...putBytes(room, encoded), ...putZone(room, zone), address(room, FAULT))) {
+    throwFault(room, text, encoded, layers.calendar_text_fault_text);
+  }
+  return encoded;
+}
+
+/** The name of the zone that the text of a calendar has; undefined if it names none. */
+export function calendarZone(text) {
+  const room = open();
+  const length = room.layers.calendar_text_zone(...putBytes(room, putText(room, text)), address(room, PATTERN), BigInt(PAGE));
+  return length === NONE ? undefined : textAt(room, PATTERN, length);
+}
+
+/** What a function finds by the text of a calendar in a zone from a date-time of UTC on; undefined if there is none. */
+function foundByCalendar(find, encoded, zone, start) {
+  const room = open();
+  const first = putMoment(room, FIRST, start);
+  find(room.layers, address(room, ANSWER), ...putBytes(room, encoded), ...putZone(room, zone), first);
+  return getMoment(room.view, ANSWER);
+}
+
+/** The first instant after a date-time of UTC; undefined if there is none. */
+export const nextOfCalendar = (...parts) => foundByCalendar((layers, ...given) => layers.calendar_text_next(...given), ...parts);
+
+/** The last instant before one; undefined if there is none. */
+export const previousOfCalendar = (...parts) => foundByCalendar((layers, ...given) => layers.calendar_text_prev(...given), ...parts);
+
+/** Whether the text of a calendar has an instant in a zone at a date-time of UTC. */
+export function isOfCalendar(encoded, zone, moment) {
+  const room = open();
+  const at = putMoment(room, FIRST, moment);
+  return Boolean(room.layers.calendar_text_is_instance(...putBytes(room, encoded), ...putZone(room, zone), at));
+}
+
+/** The first instants after a date-time of UTC, up to another: at most AT_ONCE. */
+export function betweenOfCalendar(encoded, zone, start, until) {
+  const room = open();
+  const moments = [putMoment(room, FIRST, start), putMoment(room, SECOND, until)];
+  const given = [...putBytes(room, encoded), ...putZone(room, zone), ...moments, address(room, DUE), BigInt(AT_ONCE)];
+  const count = Number(room.layers.calendar_text_instances(...given));
+  return Array.from({ length: count }, (_, index) => getMoment(room.view, DUE + MOMENT_SIZE * index));
+}
+
+/** The bytes of a schedule with seconds of a dialect, by its number; a TextError if the text has none. */
+export function readTimedSchedule(text, dialect) {
+  const room = open();
+  const { layers, view } = room;
+  const encoded = putText(room, text);
+  if (!layers.calendar_timed_schedule_check(...putBytes(room, encoded), dialect, address(room, FAULT))) {
+    const [code, field] = [0, 4].map((it) => view.getUint32(FAULT + it, true));
+    const parts = wrongPart(room, encoded);
+    const length = layers.calendar_schedule_fault_text(address(room, FAULT), address(room, TEXT), BigInt(LONGEST));
+    const byte = view.getBigUint64(FAULT + 8, true);
+    const said = code === QUESTION_MARKS ? `weekday, byte ${byte}: not just one field of days is ?` : textAt(room, TEXT, length);
+    throw new TextError(text, ...parts, `${TIMED_FIELDS[field] ?? ""}${said}`);
+  }
+  return encoded;
+}
+
+/** The code of a schedule of Quartz with `?` in neither field of days, or in both; and the fields that stand beside those of cron. */
+const QUESTION_MARKS = 15;
+const TIMED_FIELDS = { 6: "second, ", 7: "year, " };
+
+/** What a function finds by a schedule with seconds from a date-time on; undefined if there is none. */
+function foundByTimed(find, encoded, dialect, start) {
+  const room = open();
+  const first = putMoment(room, FIRST, start);
+  find(room.layers, address(room, ANSWER), ...putBytes(room, encoded), dialect, first);
+  return getMoment(room.view, ANSWER);
+}
+
+/** The first date-time after another at which it is due; undefined if there is none. */
+export const nextTimed = (...parts) => foundByTimed((layers, ...given) => layers.calendar_timed_schedule_next(...given), ...parts);
+
+/** The last date-time before another at which it is due; undefined if there is none. */
+export const previousTimed = (...parts) => foundByTimed((layers, ...given) => layers.calendar_timed_schedule_prev(...given), ...parts);
+
+/** Whether a schedule with seconds is due at a date-time. */
+export function isTimedDue(encoded, dialect, moment) {
+  const room = open();
+  const at = putMoment(room, FIRST, moment);
+  return Boolean(room.layers.calendar_timed_schedule_is_due(...putBytes(room, encoded), dialect, at));
+}

@@ -39,6 +39,9 @@ function bytesOf(source) {
   throw new TypeError("a zone is made of the text of a rule, or of the bytes of a TZif file");
 }
 
+/** The bytes of a zone, which no one else gets. */
+export let bytesOfZone;
+
 /**
  * A time zone: the text of a POSIX rule, such as `CET-1CEST,M3.5.0,M10.5.0/3`, or the bytes of a TZif file, such as those of
  * `/usr/share/zoneinfo/Europe/Berlin`.
@@ -48,6 +51,10 @@ export class Zone {
   #rule;
   #name;
   #held = { from: 0n, until: 0n, offset: 0 };
+
+  static {
+    bytesOfZone = (zone) => zone.#bytes;
+  }
 
   /** A TextError says what is wrong with the text or with the bytes. The name of the zone, such as `Europe/Berlin`, is shown in texts. */
   constructor(source, name) {

@@ -1,6 +1,20 @@
 /** An example of each layer in JavaScript. What stands behind `=` is what its line prints. checks/cells.py looks for these parts. */
 
-import { BusinessCalendar, columns, dayCount, easter, Pattern, PlainDate, Rule, RuleSet, Schedule, Zone, ZonedDateTime } from "proved-calendar";
+import {
+  BusinessCalendar,
+  CalendarText,
+  columns,
+  dayCount,
+  easter,
+  Pattern,
+  PlainDate,
+  Rule,
+  RuleSet,
+  Schedule,
+  TimedSchedule,
+  Zone,
+  ZonedDateTime,
+} from "proved-calendar";
 
 // == patterns
 console.log(new Pattern("%d.%m.%Y").format(new PlainDate(2024, 2, 29))); // = 29.02.2024
@@ -14,11 +28,19 @@ const firings = new Schedule("30 2 * * *").iterateInZone(ZonedDateTime.from("202
 console.log(`${firings.next().value} ${firings.next().value}`); // = 2024-03-30T02:30:00+01:00 2024-03-31T03:00:00+02:00
 console.log(`${new Schedule("30 2 * * *").nextInZone(ZonedDateTime.from("2024-10-27T00:00", { timeZone: berlin }))}`); // = 2024-10-27T02:30:00+02:00
 
+// == schedules with seconds
+console.log(`${new TimedSchedule("*/15 30 4 * * *").nextAfter("2024-02-09T04:30:15")}`); // = 2024-02-09T04:30:30
+
 // == recurrence rules
 const fridays = new Rule("FREQ=MONTHLY;BYDAY=-1FR", "2024-01-01");
 console.log(`${fridays.nextAfter("2024-01-01")}`); // = 2024-01-26
 const set = new RuleSet({ rules: [fridays], dates: ["2024-02-01"], exceptDates: ["2024-01-26"] });
 console.log([...set.iterate({ until: "2024-02-29" })].join(" ")); // = 2024-02-01 2024-02-23
+
+// == calendars in a zone
+const daily = new CalendarText("DTSTART;TZID=Europe/Berlin:20240330T023000\nRRULE:FREQ=DAILY\n", berlin);
+const instants = daily.iterate(ZonedDateTime.from("2024-03-30T00:00", { timeZone: berlin }));
+console.log(`${instants.next().value} ${instants.next().value}`); // = 2024-03-30T02:30:00+01:00 2024-03-31T03:30:00+02:00
 
 // == open days
 console.log(`${new BusinessCalendar({ holidays: ["2024-03-29", "2024-04-01"] }).add("2024-03-28", 2)}`); // = 2024-04-03

@@ -9,7 +9,8 @@ import { inspect } from "node:util";
 import { test } from "node:test";
 
 import {
-  BusinessCalendar, dayCount, easter, Pattern, PlainDate, PlainDateTime, Rule, RuleSet, Schedule, TextError, version, Zone, ZonedDateTime,
+  BusinessCalendar, CalendarText, dayCount, easter, Pattern, PlainDate, PlainDateTime, Rule, RuleSet, Schedule, TextError, TimedSchedule, version, Zone,
+  ZonedDateTime,
 } from "proved-calendar";
 
 const refused = (call) => assert.throws(call, RangeError);
@@ -650,4 +651,95 @@ test("zones of this machine, beside Intl", { skip: !existsSync("/usr/share/zonei
       assert.equal(new ZonedDateTime(BigInt(second) * 1_000_000_000n, zone).offset, shown, `${name} at ${second}`);
     }
   }
+});
+
+const NIGHTLY_LINES = "DTSTART;TZID=Europe/Berlin:20240330T023000\nRRULE:FREQ=DAILY;BYHOUR=2,17\n";
+const MONTHLY_LINES =
+  "DTSTART;TZID=Europe/Berlin:20240131T090000\r\nRRULE:FREQ=MONTHLY;COUNT=4\r\n" +
+  "RDATE;TZID=Europe/Berlin:20240201T090000\r\nEXDATE;TZID=Europe/Berlin:20240531T090000\r\n";
+
+/** What a TextError says of a call, and where. */
+function saidOf(call) {
+  try {
+    call();
+  } catch (error) {
+    assert.ok(error instanceof TextError);
+    return [error.reason, error.start, error.end];
+  }
+  return undefined;
+}
+
+test("text_check", () => {
+  assert.equal(`${new CalendarText(NIGHTLY_LINES, BERLIN)}`, NIGHTLY_LINES);
+  assert.deepEqual(saidOf(() => new CalendarText("DTSTART:20240131T0900", BERLIN)), ["no date and no date-time as 20240131T090000", 8, 21]);
+  assert.throws(() => new CalendarText(NIGHTLY_LINES, 1), TypeError);
+});
+
+test("text_fault_text", () => {
+  assert.deepEqual(saidOf(() => new CalendarText("RRULE:FREQ=DAILY", BERLIN)), ["DTSTART is missing", 16, 16]);
+});
+
+test("text_zone", () => {
+  assert.equal(CalendarText.zoneName(NIGHTLY_LINES), "Europe/Berlin");
+  assert.equal(CalendarText.zoneName("DTSTART:20240131T090000"), undefined);
+});
+
+test("text_next", () => {
+  const nights = new CalendarText(NIGHTLY_LINES, BERLIN);
+  assert.equal(`${nights.nextAfter(inBerlin("2024-01-01T00:00"))}`, "2024-03-30T02:30:00+01:00");
+  assert.equal(`${nights.nextAfter(inBerlin("2024-03-30T17:30"))}`, "2024-03-31T03:30:00+02:00");
+  assert.equal(new CalendarText("DTSTART:20240131T090000", BERLIN).nextAfter(inBerlin("2024-01-31T09:00")), undefined);
+  assert.throws(() => nights.nextAfter("2024-01-01"), TypeError);
+});
+
+test("text_prev", () => {
+  const nights = new CalendarText(NIGHTLY_LINES, BERLIN);
+  assert.equal(`${nights.previousBefore(inBerlin("2024-03-31T03:30"))}`, "2024-03-30T17:30:00+01:00");
+  assert.equal(nights.previousBefore(inBerlin("2024-03-30T02:30")), undefined);
+});
+
+test("text_is_instance", () => {
+  const meetings = new CalendarText(MONTHLY_LINES, BERLIN);
+  assert.ok(meetings.includes(inBerlin("2024-07-31T09:00")));
+  assert.ok(!meetings.includes(inBerlin("2024-05-31T09:00")));
+});
+
+test("text_instances", () => {
+  const meetings = new CalendarText(MONTHLY_LINES, BERLIN);
+  const wanted = ["2024-02-01T09:00:00+01:00", "2024-03-31T09:00:00+02:00", "2024-07-31T09:00:00+02:00"];
+  assert.deepEqual(texts(meetings.iterate(inBerlin("2024-01-31T09:00"))), wanted);
+  assert.deepEqual(texts(meetings.iterate(inBerlin("2024-01-31T09:00"), { until: inBerlin("2024-03-31T09:00") })), wanted.slice(0, 2));
+  const hourly = new CalendarText("DTSTART:20240101T000000\nRRULE:FREQ=HOURLY;COUNT=200", BERLIN);
+  assert.equal([...hourly.iterate(inBerlin("2023-01-01T00:00"))].length, 200);
+});
+
+test("timed_schedule_check", () => {
+  for (const [text, dialect, ...wanted] of [
+    ["0,60 * * * * *", "seconds", "second, byte 2: a number that is out of range", 2, 4],
+    ["0 0 24 * * *", "seconds", "hour, byte 4: a number that is out of range", 4, 6],
+    ["0 0 0 1 * MON", "quartz", "weekday, byte 10: not just one field of days is ?", 10, 13],
+    ["0 0 0 1 * ? 2100", "quartz", "year, byte 12: a number that is out of range", 12, 16],
+  ]) {
+    assert.deepEqual(saidOf(() => new TimedSchedule(text, { dialect })), wanted);
+  }
+  refused(() => new TimedSchedule("@daily", { dialect: "posix" }));
+});
+
+test("timed_schedule_next", () => {
+  const quarters = new TimedSchedule("*/15 30 4 * * *");
+  assert.equal(`${quarters.nextAfter("2024-02-09T04:30:15")}`, "2024-02-09T04:30:30");
+  const found = quarters.iterate("2024-02-09T04:30:15", { until: "2024-02-10T04:30:00" });
+  assert.deepEqual(texts(found), ["2024-02-09T04:30:30", "2024-02-09T04:30:45", "2024-02-10T04:30:00"]);
+  const weekdays = new TimedSchedule("0 30 4 ? * MON-FRI 2024-2026", { dialect: "quartz" });
+  assert.equal(weekdays.nextAfter("2026-12-31T04:30"), undefined);
+});
+
+test("timed_schedule_prev", () => {
+  assert.equal(`${new TimedSchedule("*/15 30 4 * * *").previousBefore("2024-02-09T04:30:15")}`, "2024-02-09T04:30:00");
+});
+
+test("timed_schedule_is_due", () => {
+  const daily = new TimedSchedule("@daily", { dialect: "crontab" });
+  assert.ok(daily.isDue("2024-03-01T00:00"));
+  assert.ok(!daily.isDue("2024-03-01T00:00:01"));
 });

@@ -6,14 +6,16 @@ from ._calendar import (
 from .text_error import TextError
 from .weekday import Weekday
 from . import _members  # (gives the types above what is written in Python)
+from .calendar_text import CalendarText
 from .instant import Instant
 from .rule_set import RuleSet
 from .time_of_day import Time
+from .timed_schedule import TimedSchedule
 
 del _members
 
 __all__ = [
-    "BusinessCalendar", "Date", "DateTime", "Duration", "Instant", "IsoCalendarDate", "Pattern", "Rule", "RuleSet", "Schedule", "TextError", "Time", "Weekday", "Zone",
+    "BusinessCalendar", "CalendarText", "Date", "DateTime", "Duration", "Instant", "IsoCalendarDate", "Pattern", "Rule", "RuleSet", "Schedule", "TextError", "Time", "TimedSchedule", "Weekday", "Zone",
     "__version__",
     "day_count", "days_in_month", "days_until", "easter", "is_leap_year",
 ]

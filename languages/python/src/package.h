@@ -281,6 +281,17 @@ bool make_business_type(PyObject *module);
 PyObject *day_count(PyObject *module, PyObject *const *arguments, Py_ssize_t count);
 PyObject *easter(PyObject *module, PyObject *it);
 
+/* ---- what the classes CalendarText and TimedSchedule ask of the library (calendars.c) */
+
+PyObject *calendar_fault_of_text(PyObject *module, PyObject *const *arguments, Py_ssize_t count);
+PyObject *calendar_zone_of_text(PyObject *module, PyObject *it);
+PyObject *calendar_instant_of_text(PyObject *module, PyObject *const *arguments, Py_ssize_t count);
+PyObject *calendar_text_has(PyObject *module, PyObject *const *arguments, Py_ssize_t count);
+PyObject *calendar_instants_of_text(PyObject *module, PyObject *const *arguments, Py_ssize_t count);
+PyObject *fault_of_timed_schedule(PyObject *module, PyObject *const *arguments, Py_ssize_t count);
+PyObject *moment_of_timed_schedule(PyObject *module, PyObject *const *arguments, Py_ssize_t count);
+PyObject *is_moment_of_timed_schedule(PyObject *module, PyObject *const *arguments, Py_ssize_t count);
+
 /* ---- ISO year, week and weekday as a tuple (iso_calendar.c) */
 
 bool make_iso_calendar_type(PyObject *module);

@@ -18,12 +18,23 @@ from proved_calendar import Zone
 nightly = Schedule("30 2 * * *").iterate(DateTime(2024, 3, 30, tzinfo=Zone("Europe/Berlin")))
 print(next(nightly), next(nightly))  # = 2024-03-30T02:30:00+01:00 2024-03-31T03:00:00+02:00
 
+# == schedules with seconds
+from proved_calendar import TimedSchedule
+
+print(TimedSchedule("*/15 30 4 * * *").next_after(DateTime(2024, 2, 9, 4, 30, 15)))  # = 2024-02-09T04:30:30
+
 # == recurrence rules
 from proved_calendar import Rule, RuleSet
 
 fridays = Rule("FREQ=MONTHLY;BYDAY=-1FR", Date(2024, 1, 1))
 print(fridays.after(Date(2024, 1, 1)))  # = 2024-01-26
 print(*RuleSet([fridays], [Date(2024, 2, 1)], except_dates=[Date(2024, 1, 26)])[:2])  # = 2024-02-01 2024-02-23
+
+# == calendars in a zone
+from proved_calendar import CalendarText
+
+daily = CalendarText("DTSTART;TZID=Europe/Berlin:20240330T023000\nRRULE:FREQ=DAILY")
+print(*daily[:2])  # = 2024-03-30T02:30:00+01:00 2024-03-31T03:30:00+02:00
 
 # == open days
 from proved_calendar import BusinessCalendar

@@ -232,4 +232,73 @@ unsafe extern "C" {
         length: usize,
         start: Moment,
     ) -> Moment;
+    pub(crate) fn calendar_text_check(
+        text: *const u8,
+        length: usize,
+        zone: *const u8,
+        zone_length: usize,
+        fault: &mut Fault,
+    ) -> bool;
+    pub(crate) fn calendar_text_fault_text(fault: &Fault, text: *mut u8, room: usize) -> i32;
+    pub(crate) fn calendar_text_zone(
+        text: *const u8,
+        length: usize,
+        name: *mut u8,
+        room: usize,
+    ) -> i32;
+    pub(crate) fn calendar_text_next(
+        text: *const u8,
+        length: usize,
+        zone: *const u8,
+        zone_length: usize,
+        start: Moment,
+    ) -> Moment;
+    pub(crate) fn calendar_text_prev(
+        text: *const u8,
+        length: usize,
+        zone: *const u8,
+        zone_length: usize,
+        start: Moment,
+    ) -> Moment;
+    pub(crate) fn calendar_text_is_instance(
+        text: *const u8,
+        length: usize,
+        zone: *const u8,
+        zone_length: usize,
+        moment: Moment,
+    ) -> bool;
+    pub(crate) fn calendar_text_instances(
+        text: *const u8,
+        length: usize,
+        zone: *const u8,
+        zone_length: usize,
+        start: Moment,
+        until: Moment,
+        out: *mut Moment,
+        room: usize,
+    ) -> usize;
+    pub(crate) fn calendar_timed_schedule_check(
+        text: *const u8,
+        length: usize,
+        dialect: u32,
+        fault: &mut Fault,
+    ) -> bool;
+    pub(crate) fn calendar_timed_schedule_next(
+        text: *const u8,
+        length: usize,
+        dialect: u32,
+        start: Moment,
+    ) -> Moment;
+    pub(crate) fn calendar_timed_schedule_prev(
+        text: *const u8,
+        length: usize,
+        dialect: u32,
+        start: Moment,
+    ) -> Moment;
+    pub(crate) fn calendar_timed_schedule_is_due(
+        text: *const u8,
+        length: usize,
+        dialect: u32,
+        moment: Moment,
+    ) -> bool;
 }

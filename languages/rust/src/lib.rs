@@ -8,6 +8,8 @@ extern crate alloc;
 extern crate std;
 
 mod business;
+#[cfg(feature = "alloc")]
+mod calendar_text;
 mod calls;
 pub mod chrono;
 pub mod columns;
@@ -25,6 +27,8 @@ mod rule;
 mod rule_set;
 mod schedule;
 mod text_error;
+#[cfg(feature = "alloc")]
+mod timed_schedule;
 mod weekday;
 mod weekday_set;
 #[cfg(feature = "chrono")]
@@ -43,6 +47,8 @@ mod conversion_error;
 pub use business::{
     easter, BusinessCalendar, DayCount, Fraction, HolidaysError, KnownCalendar, Roll,
 };
+#[cfg(feature = "alloc")]
+pub use calendar_text::CalendarText;
 #[cfg(any(feature = "chrono", feature = "time"))]
 pub use conversion_error::ConversionError;
 pub use date::{days_in_month, is_leap_year, Date};
@@ -58,6 +64,8 @@ pub use rule::{Rule, RuleDays};
 pub use rule_set::{RuleSet, RuleSetDays};
 pub use schedule::{Schedule, ScheduleTimes};
 pub use text_error::TextError;
+#[cfg(feature = "alloc")]
+pub use timed_schedule::{Dialect, TimedSchedule};
 pub use weekday::Weekday;
 pub use weekday_set::{WeekdaySet, Weekdays};
 #[cfg(feature = "alloc")]

@@ -1,5 +1,7 @@
 //! The error of a text of the layers, with its place.
 
+#[cfg(feature = "alloc")]
+use alloc::format;
 use core::error::Error;
 use core::fmt;
 use core::str::from_utf8;
@@ -10,6 +12,14 @@ use crate::pattern::sentence;
 
 /// The number of bytes of the longest sentence on what is wrong with a text.
 const SENTENCE_ROOM: usize = 99;
+
+/// The field of seconds, behind which that of years comes.
+#[cfg(feature = "alloc")]
+const SECONDS: u32 = 6;
+
+/// The code of a schedule of Quartz with `?` in neither field of days, or in both.
+#[cfg(feature = "alloc")]
+const QUESTION_MARKS: u32 = 15;
 
 /// What is wrong with a text, and where.
 ///
@@ -37,6 +47,12 @@ pub(crate) enum Kind {
     /// A pattern, or a text that a pattern reads.
     #[cfg(feature = "alloc")]
     Pattern,
+    /// A text of a calendar.
+    #[cfg(feature = "alloc")]
+    Calendar,
+    /// A schedule with seconds.
+    #[cfg(feature = "alloc")]
+    Timed,
 }
 
 impl TextError {
@@ -81,6 +97,13 @@ impl TextError {
 impl fmt::Display for TextError {
     fn fmt(&self, f: &mut fmt::Formatter<'_>) -> fmt::Result {
         let mut text = [0; SENTENCE_ROOM];
+        #[cfg(feature = "alloc")]
+        if self.kind == Kind::Timed && self.fault.code == QUESTION_MARKS {
+            let byte = self.fault.byte;
+            return f.pad(&format!(
+                "weekday, byte {byte}: not just one field of days is ?"
+            ));
+        }
         let (room, count) = (text.as_mut_ptr(), text.len());
         // SAFETY: the room has as many bytes as its length says.
         let length = unsafe {
@@ -91,10 +114,23 @@ impl fmt::Display for TextError {
                 Kind::Zone => calendar_zone_fault_text(&self.fault, room, count),
                 #[cfg(feature = "alloc")]
                 Kind::Pattern => return f.pad(&sentence(&self.fault)),
+                #[cfg(feature = "alloc")]
+                Kind::Calendar => calendar_text_fault_text(&self.fault, room, count),
+                #[cfg(feature = "alloc")]
+                Kind::Timed => calendar_schedule_fault_text(&self.fault, room, count),
             }
         };
-        let sentence = text.get(..length as usize).unwrap_or_default();
-        f.pad(from_utf8(sentence).unwrap_or_default())
+        let sentence = from_utf8(text.get(..length as usize).unwrap_or_default());
+        #[cfg(feature = "alloc")]
+        if self.kind == Kind::Timed && self.fault.field >= SECONDS {
+            let field = if self.fault.field == SECONDS {
+                "second"
+            } else {
+                "year"
+            };
+            return f.pad(&format!("{field}, {}", sentence.unwrap_or_default()));
+        }
+        f.pad(sentence.unwrap_or_default())
     }
 }
 

@@ -1,7 +1,8 @@
 //! An example of each layer in Rust. What stands behind `=` is what its line prints. checks/cells.py looks for these parts.
 
-use proved_calendar::{columns, easter, BusinessCalendar, Date, DateTime, DayCount, KnownCalendar};
-use proved_calendar::{Pattern, Rule, RuleSet, Schedule, Weekday, WeekdaySet, Zone};
+use proved_calendar::{columns, easter, BusinessCalendar, CalendarText, Date, DateTime, DayCount};
+use proved_calendar::{Dialect, KnownCalendar, Pattern, Rule, RuleSet, Schedule, TimedSchedule};
+use proved_calendar::{Weekday, WeekdaySet, Zone};
 
 fn main() {
     let date = |text: &str| text.parse::<Date>().unwrap();
@@ -24,13 +25,29 @@ fn main() {
     println!("{night}"); // = 2024-03-31T03:00:00+02:00
     println!("{}", nightly.prev_in_zone(night).unwrap()); // = 2024-03-30T02:30:00+01:00
 
+    // == schedules with seconds
+    let quarters = TimedSchedule::new("*/15 30 4 * * *", Dialect::Seconds).unwrap();
+    let later = quarters.next_after("2024-02-09T04:30:15".parse().unwrap());
+    println!("{}", later.unwrap()); // = 2024-02-09T04:30:30
+
     // == recurrence rules
     let fridays: Rule = "FREQ=MONTHLY;BYDAY=-1FR".parse().unwrap();
     let start = date("2024-01-01");
     println!("{}", fridays.next_after(start, start).unwrap()); // = 2024-01-26
     let set = RuleSet::new().with_rule(fridays, start);
-    let later = set.with_date(date("2024-02-01")).next_after(date("2024-01-26"));
+    let later = set
+        .with_date(date("2024-02-01"))
+        .next_after(date("2024-01-26"));
     println!("{}", later.unwrap()); // = 2024-02-01
+
+    // == calendars in a zone
+    let text = "DTSTART;TZID=Europe/Berlin:20240330T023000\nRRULE:FREQ=DAILY\n";
+    let daily = CalendarText::new(text, &berlin).unwrap();
+    let first = daily
+        .next_after("1970-01-01T00:00:00".parse().unwrap())
+        .unwrap();
+    println!("{first}"); // = 2024-03-30T02:30:00+01:00
+    println!("{}", daily.next_after(first.utc()).unwrap()); // = 2024-03-31T03:30:00+02:00
 
     // == open days
     let days = [date("2024-03-29"), date("2024-04-01")];

@@ -2,8 +2,8 @@
 //! function, named after it, and then what Rust adds.
 
 use proved_calendar::{
-    columns, BusinessCalendar, Date, DateTime, DayCount, KnownCalendar, LocalOffsets, Pattern,
-    Roll, Rule, RuleSet, Schedule, Weekday, WeekdaySet, Zone,
+    columns, BusinessCalendar, CalendarText, Date, DateTime, DayCount, Dialect, KnownCalendar,
+    LocalOffsets, Pattern, Roll, Rule, RuleSet, Schedule, TimedSchedule, Weekday, WeekdaySet, Zone,
 };
 use std::time::{Duration, Instant};
 use Weekday::{Fri, Sat, Sun};
@@ -1039,4 +1039,148 @@ fn rule_sets_with_an_end() {
     let ends = none.clone().with_date(Date::MAX).with_date(Date::MIN);
     assert_eq!(ends, none.with_date(Date::MIN).with_date(Date::MAX));
     assert!(daily != set && daily.clone() == daily);
+}
+
+const NIGHTS: &str = "DTSTART;TZID=Europe/Berlin:20240330T023000\nRRULE:FREQ=DAILY;BYHOUR=2,17\n";
+
+const MEETINGS: &str =
+    "DTSTART;TZID=Europe/Berlin:20240131T090000\r\nRRULE:FREQ=MONTHLY;COUNT=4\r\n\
+    RDATE;TZID=Europe/Berlin:20240201T090000\r\nEXDATE;TZID=Europe/Berlin:20240531T090000\r\n";
+
+#[test]
+fn text_check() {
+    let berlin = zone(BERLIN);
+    assert!(CalendarText::new(NIGHTS, &berlin).is_ok());
+    let wrong = CalendarText::new("DTSTART:20240131T0900", &berlin).unwrap_err();
+    assert_eq!((wrong.start(), wrong.end()), (8, 21));
+}
+
+#[test]
+fn text_fault_text() {
+    let berlin = zone(BERLIN);
+    let wrong = CalendarText::new("RRULE:FREQ=DAILY", &berlin).unwrap_err();
+    assert_eq!(wrong.to_string(), "DTSTART is missing");
+}
+
+#[test]
+fn text_zone() {
+    let name = CalendarText::zone_name(NIGHTS);
+    assert_eq!(name.as_deref(), Some("Europe/Berlin"));
+    assert_eq!(CalendarText::zone_name("DTSTART:20240131T090000"), None);
+}
+
+#[test]
+fn text_next() {
+    let berlin = zone(BERLIN);
+    let nights = CalendarText::new(NIGHTS, &berlin).unwrap();
+    let next = |start| text(nights.next_after(moment(start)));
+    assert_eq!(next("2024-01-01T00:00:00"), "2024-03-30T02:30:00+01:00");
+    assert_eq!(next("2024-03-30T16:30:00"), "2024-03-31T03:30:00+02:00");
+    let once = CalendarText::new("DTSTART:20240131T090000", &berlin).unwrap();
+    assert_eq!(once.next_after(moment("2024-01-31T08:00:00")), None);
+}
+
+#[test]
+fn text_prev() {
+    let berlin = zone(BERLIN);
+    let nights = CalendarText::new(NIGHTS, &berlin).unwrap();
+    let last = nights.prev_before(moment("2024-03-31T01:30:00"));
+    assert_eq!(text(last), "2024-03-30T17:30:00+01:00");
+    assert_eq!(nights.prev_before(moment("2024-03-30T01:30:00")), None);
+}
+
+#[test]
+fn text_is_instance() {
+    let berlin = zone(BERLIN);
+    let meetings = CalendarText::new(MEETINGS, &berlin).unwrap();
+    assert!(meetings.is_instance(moment("2024-07-31T07:00:00")));
+    assert!(!meetings.is_instance(moment("2024-05-31T07:00:00")));
+}
+
+#[test]
+fn text_instances() {
+    let berlin = zone(BERLIN);
+    let meetings = CalendarText::new(MEETINGS, &berlin).unwrap();
+    let (start, end) = (moment("2024-01-31T08:00:00"), moment("2024-07-31T07:00:00"));
+    let found = meetings.between(start, end);
+    let days: Vec<String> = found.iter().map(|it| it.to_string()).collect();
+    assert_eq!(
+        days,
+        [
+            "2024-02-01T09:00:00+01:00",
+            "2024-03-31T09:00:00+02:00",
+            "2024-07-31T09:00:00+02:00"
+        ]
+    );
+    assert_eq!(meetings.after(start).collect::<Vec<_>>(), found);
+    let hourly = CalendarText::new(
+        "DTSTART:20240101T000000\nRRULE:FREQ=HOURLY;COUNT=200",
+        &berlin,
+    );
+    assert_eq!(
+        hourly
+            .unwrap()
+            .between(moment("2023-01-01T00:00:00"), end)
+            .len(),
+        200
+    );
+}
+
+#[test]
+fn timed_schedule_check() {
+    for (text, dialect, said) in [
+        (
+            "0,60 * * * * *",
+            Dialect::Seconds,
+            "second, byte 2: a number that is out of range",
+        ),
+        (
+            "0 0 24 * * *",
+            Dialect::Seconds,
+            "hour, byte 4: a number that is out of range",
+        ),
+        (
+            "0 0 0 1 * MON",
+            Dialect::Quartz,
+            "weekday, byte 10: not just one field of days is ?",
+        ),
+        (
+            "0 0 0 1 * ? 2100",
+            Dialect::Quartz,
+            "year, byte 12: a number that is out of range",
+        ),
+    ] {
+        let wrong = TimedSchedule::new(text, dialect).unwrap_err();
+        assert_eq!(wrong.to_string(), said);
+    }
+}
+
+#[test]
+fn timed_schedule_next() {
+    let quarters = TimedSchedule::new("*/15 30 4 * * *", Dialect::Seconds).unwrap();
+    let start = moment("2024-02-09T04:30:15");
+    assert_eq!(
+        quarters.next_after(start),
+        Some(moment("2024-02-09T04:30:30"))
+    );
+    assert_eq!(
+        quarters.after(start).nth(2),
+        Some(moment("2024-02-10T04:30:00"))
+    );
+    let weekdays = TimedSchedule::new("0 30 4 ? * MON-FRI 2024-2026", Dialect::Quartz).unwrap();
+    assert_eq!(weekdays.next_after(moment("2026-12-31T04:30:00")), None);
+}
+
+#[test]
+fn timed_schedule_prev() {
+    let quarters = TimedSchedule::new("*/15 30 4 * * *", Dialect::Seconds).unwrap();
+    let last = quarters.prev_before(moment("2024-02-09T04:30:15"));
+    assert_eq!(last, Some(moment("2024-02-09T04:30:00")));
+}
+
+#[test]
+fn timed_schedule_is_due() {
+    let daily = TimedSchedule::new("@daily", Dialect::Crontab).unwrap();
+    assert!(daily.is_due(moment("2024-03-01T00:00:00")));
+    assert!(!daily.is_due(moment("2024-03-01T00:00:01")));
 }
