@@ -52,11 +52,11 @@ ABSENT = {
         unfoldable view_is ensures """,
     "of pandas and Dask": "NA OutOfBoundsDatetime Client compute",
     "of Python": "Unpickler OverflowError TypeError ValueError datetime timedelta ZoneInfo __slots__ __getstate__",
-    "of JavaScript": "BigInt Int32Array calendarName PlainTime iso8601 RangeError Temporal overflow wasm-opt",
+    "of JavaScript": "BigInt Int32Array calendarName PlainTime iso8601 RangeError Temporal overflow wasm-opt bulk-memory sign-ext",
     "of earlier versions": "check_rule check_schedule Roll::Nearest",
     "of SQL, and of texts that it is given": "timestamptz STRICT IMMUTABLE STABLE nearest-isda nearest-quantlib nearest_quantlib",
     "of C": "int32_t memcpy",
-    "of Rust's compiler and of the kit's options": "ConversionError serde",
+    "of Rust's compiler and of the kit's options": "serde",
     "read from the environment": "CALENDAR_FOLDER CMAKE_PREFIX_PATH PKG_CONFIG_PATH TZ TZDIR",
     "of chrono, and left out here": """timestamp_nanos parse_and_remainder ParseMonthError ParseWeekdayError format_with_items
         format_localized format_localized_with_items and_utc and_local_timezone
