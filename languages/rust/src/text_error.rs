@@ -99,7 +99,7 @@ impl fmt::Display for TextError {
         let mut text = [0; SENTENCE_ROOM];
         #[cfg(feature = "alloc")]
         if self.kind == Kind::Timed && self.fault.code == QUESTION_MARKS {
-            let byte = self.fault.byte;
+            let byte = self.start();
             return f.pad(&format!(
                 "weekday, byte {byte}: not just one field of days is ?"
             ));
