@@ -1,5 +1,5 @@
 -- Where the zone of a calendar's text lies makes no difference.
-use Rattle.std.proofs.Common.{◌≡◌, ◌≤◌, ℕ, List, [], ◌∷◌, length, map, Option, Some, None, IfSome, IfNone, refl, sym, subst}
+use Rattle.std.proofs.Common.{◌≡◌, ◌≤◌, ℕ, List, [], ◌∷◌, length, map, Option, Some, None, IfSome, refl, sym, subst}
 use Rattle.std.specs.Borrow.{Bor}
 use Rattle.std.proofs.lemmas.List.{length-map}
 use Rattle.chrono_datetime.specs.Moment.{Moment}
@@ -80,10 +80,6 @@ unfolding MeansNoRecurrence
 none_here text zone none = none zone refl
 
 -- what follows of none, or of one that is not looked at
-pub none_weaker : {A : Type 0} (o : Option A) (P Q : Type 0) → (P → Q) → IfNone o P → IfNone o Q
-none_weaker None P Q f p = f p
-none_weaker (Some x) P Q f p = tt
-
 pub some_weaker : {A : Type 0} (o : Option A) (P Q : Type 0) → (P → Q) → IfSome o (λ _. P) → IfSome o (λ _. Q)
 some_weaker None P Q f p = tt
 some_weaker (Some x) P Q f p = f p

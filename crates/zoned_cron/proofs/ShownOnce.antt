@@ -19,13 +19,10 @@ use Rattle.zoned_cron.proofs.Windows.{due_fraction}
 later_shown : (start local l o c : ℤ) → local ≡ (start +ℤ o) → local <ℤ l → c ≡ (l -ℤ o) → start <ℤ c
 later_shown start local l o c is later at = omega (arith, ints, is, later, at)
 
-no_sooner : (start c : ℤ) → start <ℤ c → start ≤ℤ c
-no_sooner start c lt = omega (arith, ints, lt)
-
 -- so it shows the next planned time within the stretch
 pub shows_in_stretch : (ahead : ℤ → ℤ) (start until local l c : ℤ) → HoldsUntil ahead start until → local ≡ (start +ℤ ahead start) → local <ℤ l → c ≡ (l -ℤ ahead start) → c <ℤ until → Shows ahead l c
 shows_in_stretch ahead start until local l c holds is later at within =
-    near_shows ahead start until l c holds at (no_sooner start c (later_shown start local l (ahead start) c is later at)) within
+    near_shows ahead start until l c holds at (omega (arith, ints, later_shown start local l (ahead start) c is later at)) within
 
 pub next_shown_once : {Z : Type 0} (ahead : Z → ℤ → ℤ) (z : ZonedSchedule Z) (until only : ℤ) (start local planned : Moment) (d : Zoned Z) → HoldsUntil (ahead z.zone) (epoch_second start) until → ((v : ℤ) → IsOffset (ahead z.zone v)) → IsMoment start → IsMoment local → epoch_second local ≡ (epoch_second start +ℤ ahead z.zone (epoch_second start)) → IsNextDue z local planned → (epoch_second planned -ℤ ahead z.zone (epoch_second start)) <ℤ until → IsOnly (Shows (ahead z.zone) (epoch_second planned)) only → epoch_second d.utc ≡ (epoch_second planned -ℤ ahead z.zone (epoch_second start)) → d.utc.time.fraction ≡ planned.time.fraction → IsLocal ahead z.zone planned d → IsNextFiring ahead z start (Some d)
 next_shown_once ahead z until only start local planned d holds offsets i j is next within mapped at fraction found =
