@@ -48,7 +48,7 @@ COMMENTS = {".rt": r"//[^\n]*", ".rs": r"//[^\n]*", ".antt": r"--[^\n]*", ".c": 
 ABSENT = {
     "of Rust and its std": """From Display DoubleEndedIterator String Drop Eq const std FromIterator FromPrimitive FromStr Hash
         to_string IntoIterator Ok Option Result Some Sum TryFrom collect fmt::Write match requires self str u8 unsafe unwrap""",
-    "of the kit: its words, its tactics and its std": """IfSome_then SomeIff agree_below agree_below_at jiff_tz num_traits omega refl subst
+    "of the kit: its words, its tactics and its std": """SomeIff agree_below agree_below_at jiff_tz num_traits omega refl subst
         unfoldable view_is ensures """,
     "of pandas and Dask": "NA OutOfBoundsDatetime Client compute",
     "of Python": "Unpickler OverflowError TypeError ValueError datetime timedelta ZoneInfo __slots__ __getstate__",
