@@ -19,7 +19,7 @@ import zoneinfo
 
 TOP = os.path.dirname(os.path.dirname(os.path.abspath(__file__)))
 sys.path += [os.path.join(TOP, "checks")]
-from outside import all_below, listed_crates, put_program, take_proved  # noqa: E402
+from outside import build_proved, put_program  # noqa: E402
 from zoned_schedules import DAY, Schedule, cron, policy_of, walk  # noqa: E402
 
 TEXTS = ("30 2 * * *", "*/15 9-17 * * 1-5", "30 4 1,15 * 5")
@@ -123,9 +123,9 @@ def planned(text):
     return {"naive": local, "fixed": [it - OFFSET for it in local], "rule": run}
 
 
-def answers(folder, lines):
+def answers(program, lines):
     """The sum and the nanoseconds of each line."""
-    ran = subprocess.run([f"{folder}/out/timed"], input="".join(f"{it}\n" for it in lines), stdout=subprocess.PIPE, text=True, check=True)
+    ran = subprocess.run([program], input="".join(f"{it}\n" for it in lines), stdout=subprocess.PIPE, text=True, check=True)
     return [tuple(map(int, line[2:].split())) for line in ran.stdout.splitlines()]
 
 
@@ -136,15 +136,10 @@ def main():
     wanted = {(text, zone): run for text in TEXTS for zone, run in planned(text).items()}
     measured = list(itertools.product(("start", *CALLS), ZONES, TEXTS))
     with tempfile.TemporaryDirectory(prefix="zoned_cron-") as room:
-        folder = put_program(room, "timed", USED, PROGRAM)
-        if not take_proved(room, all_below(USED, listed_crates())):
-            sys.exit("the libraries are not proved: `rt lib` in crates/zone_rule and in crates/zoned_cron proves them")
-        built = subprocess.run(["rt", "run", "--jobs", "1"], cwd=folder, stdin=subprocess.DEVNULL, stdout=subprocess.PIPE, stderr=subprocess.STDOUT, text=True)
-        if built.returncode != 0:
-            sys.exit(built.stdout[-3000:])
+        program = build_proved(room, put_program(room, "timed", USED, PROGRAM), USED)
         compared = [f"run {zone} {len(run)} {text}" for (text, zone), run in wanted.items()]
         lines = [f"{call} {zone} {count} {text}" for _ in range(ROUNDS) for call, zone, text in measured]
-        told = answers(folder, compared + lines)
+        told = answers(program, compared + lines)
     for line, run, (said, _) in zip(compared, wanted.values(), told):
         if said != sum(run):
             sys.exit(f"{line}: the sums are not the same, {said} and {sum(run)}, so nothing is told")

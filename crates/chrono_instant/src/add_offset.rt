@@ -1,11 +1,12 @@
 //! `AddOffset`: date-times from UTC to local time, and back.
 ghost use Rattle.std.specs.Prelude.{◌≡◌, ◌↔◌, ◌+ℤ◌, ◌-ℤ◌, neg_ℤ, IfSome, IsSome};
 ghost use Rattle.chrono_datetime.specs.Moment.{IsMoment, Moment};
+ghost use Rattle.chrono_clock.specs.Time.{IsTime, clock_ahead, landing_of};
 ghost use Rattle.chrono_instant.specs.Instants.{IsEpochSecond, epoch_second};
 ghost use Rattle.chrono_instant.specs.Offsets.{IsShifted, moment_ahead};
 
 use crate::fixed_offset::FixedOffset;
-use chrono_datetime::{AndTime, NaiveDateTime};
+use chrono_datetime::{AndTime, NaiveDateTime, NaiveTime, SECS_PER_DAY, Timelike};
 
 /// Sets a clock ahead or back by an offset.
 ///
@@ -75,7 +76,24 @@ fn shifted(datetime: NaiveDateTime, seconds: i32) -> Option<NaiveDateTime>
     ensures ahead { IfSome result (λ e. e ≡ moment_ahead datetime seconds) }
     ensures start { IsMoment datetime }
 {
-    let (time, days) = datetime.time().overflowing_add_offset(seconds);
+    let time = datetime.time();
+    if let Some(shown) = shown_that_day(time, seconds) {
+        return Some(datetime.date().and_time(shown));
+    }
+    let (time, days) = time.overflowing_add_offset(seconds);
     let date = datetime.date().moved_by_days(i64::from(days))?;
     Some(date.and_time(time))
+}
+
+// What a clock so many seconds ahead shows, if its day is the same. It is found without a division. `None` says nothing.
+#[inline(always)]
+fn shown_that_day(time: NaiveTime, seconds: i32) -> Option<NaiveTime>
+    ensures same { IfSome result (λ t. clock_ahead time seconds ≡ landing_of t) }
+    ensures start { IsTime time }
+{
+    let second = i64::from(time.num_seconds_from_midnight()) + i64::from(seconds);
+    if second < 0 || i64::from(SECS_PER_DAY) <= second {
+        return None;
+    }
+    NaiveTime::from_num_seconds_from_midnight_opt(second as u32, time.nanosecond())
 }

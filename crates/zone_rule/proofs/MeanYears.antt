@@ -1,5 +1,5 @@
 -- Changes by mean years.
-use Rattle.std.proofs.Common.{◌≡◌, ℕ, ◌<◌, ℤ, pos, neg_ℤ, ◌+ℤ◌, ◌-ℤ◌, ◌*ℤ◌, ◌≤ℤ◌, ◌<ℤ◌, true, false, int_le, unsigned_abs, to_z, of_z, w64, SFits, ◌⊎◌, ⊎_elim, sym, ap, ◌∙◌, arith}
+use Rattle.std.proofs.Common.{◌≡◌, ℕ, ◌+◌, ◌<◌, ℤ, pos, neg_ℤ, ◌+ℤ◌, ◌-ℤ◌, ◌*ℤ◌, ◌≤ℤ◌, ◌<ℤ◌, true, false, int_le, unsigned_abs, to_z, of_z, w64, SFits, ◌⊎◌, ⊎_elim, refl, sym, ap, ◌∙◌, arith}
 use Rattle.std.specs.Int.{int_div_euclid, int_min, int_rem_euclid}
 use Rattle.std.proofs.lemmas.Int.{by_lt_z, int_min_is, to_z-of_z}
 use Rattle.chrono_units.specs.Years.{IsYear}
@@ -8,8 +8,9 @@ use Rattle.chrono_calendar.specs.Days.{days_before_year}
 use Rattle.chrono_calendar.proofs.Signed.{signed}
 use Rattle.chrono_calendar.proofs.Years.{days_before_year-closed}
 use Rattle.chrono_zoned.specs.Offsets.{IsOffset}
-use Rattle.zone_rule.specs.Changes.{IsChange, YearlyChange, change_second, day_in_year, last_by, year_of_second}
-use Rattle.zone_rule.specs.Private.{ComesWithin, LiesWithin}
+use Rattle.zone_rule.specs.Changes.{IsChange, LiesWithin, YearlyChange, change_second, day_in_year, last_by, window_high, window_low, year_of_second}
+use Rattle.zone_rule.specs.Private.{ComesWithin}
+use Rattle.zone_rule.specs.RuleDays.{days_later, least_place}
 use Rattle.zone_rule.specs.Rules.{is_daylight}
 use Rattle.zone_rule.specs.declared.rule.Daylight.{Daylight}
 use Rattle.zone_rule.proofs.Carried.{carried, fits}
@@ -38,6 +39,21 @@ lies_within offset c least most low high from to is_low is_high = record {
       let begins = begins_before n in
       omega (arith, signed, last, begins, is_high);
 }
+
+-- and so by any other clock
+pub lies_ahead : (offset : ℤ) (c : YearlyChange) (low high l h : ℤ) → LiesWithin (change_second (pos 0) c) low high → l ≡ low -ℤ offset → h ≡ high -ℤ offset → LiesWithin (change_second offset c) l h
+lies_ahead offset c low high l h lies is_l is_h = record {
+  not_before = λ n after before. omega (arith, signed, lies.not_before n after before, is_l);
+  not_behind = λ n after before. omega (arith, signed, lies.not_behind n after before, is_h);
+}
+
+pub window_low-is : (c : YearlyChange) → window_low c ≡ ((pos (least_place c.day) -ℤ pos 1) *ℤ pos 86_400 +ℤ c.second -ℤ pos 109_296)
+unfolding window_low
+window_low-is c = refl
+
+pub window_high-is : (c : YearlyChange) → window_high c ≡ ((pos (least_place c.day + days_later c.day) -ℤ pos 1) *ℤ pos 86_400 +ℤ c.second +ℤ pos 127_224)
+unfolding window_high
+window_high-is c = refl
 
 -- of a second the mean year's number tells which change it is
 pub comes_within : (f : ℤ → ℤ) (second place low high back l h : ℤ) → LiesWithin f low high → pos 0 ≤ℤ second → second ≤ℤ pos 12_622_867_200 → place ≡ int_rem_euclid second (pos 31_556_952) → (k : ℤ) → back ≡ k *ℤ pos 31_556_952 → pos 0 ≤ℤ k → k ≤ℤ pos 1 → l ≡ low -ℤ back → h ≡ high -ℤ back → ComesWithin f (second -ℤ place) l h

@@ -118,12 +118,17 @@ last_same offset c s t u is near none from to =
     let back : then ≤ℤ now = last_by-some f (year_of_second s) s (λ (x : ℤ). x ≤ℤ u → x ≤ℤ now) at_u.1 (omega (arith, signed, from, at_s.0)) in
     omega (arith, signed, front, back)
 
-pub is_steady : (offset : ℤ) (d : Daylight) (s t : ℤ) → IsChange d.begins → IsChange d.ends → IsOffset offset → IsOffset d.offset → IsNextSetting (record { standard = offset; daylight = Some d }) s t → IsSteadyUntil (record { standard = offset; daylight = Some d }) s t
+-- daylight time holds as it does at s
+pub holds_until : (offset : ℤ) (d : Daylight) (s t : ℤ) → IsChange d.begins → IsChange d.ends → IsOffset offset → IsOffset d.offset → IsNextSetting (record { standard = offset; daylight = Some d }) s t → (u : ℤ) → s ≤ℤ u → u <ℤ t → is_daylight offset d u ≡ is_daylight offset d s
 unfolding is_daylight
-is_steady offset d s t begins ends near far next u from to =
+holds_until offset d s t begins ends near far next u from to =
     let begun = last_same offset d.begins s t u begins near (λ y later. next.first (change_second offset d.begins y) later (y, inl refl)) from to in
     let ended = last_same d.offset d.ends s t u ends far (λ y later. next.first (change_second d.offset d.ends y) later (y, inr refl)) from to in
     rw (begun, ended) refl
+
+pub is_steady : (offset : ℤ) (d : Daylight) (s t : ℤ) → IsChange d.begins → IsChange d.ends → IsOffset offset → IsOffset d.offset → IsNextSetting (record { standard = offset; daylight = Some d }) s t → IsSteadyUntil (record { standard = offset; daylight = Some d }) s t
+is_steady offset d s t begins ends near far next u from to =
+    ap (λ (b : Bool). cond b d.offset offset) (holds_until offset d s t begins ends near far next u from to)
 
 -- each offset of a rule is one of its two
 pub offsets_near : (offset : ℤ) (d : Daylight) → IsOffset offset → IsOffset d.offset → (u : ℤ) → IsOffset (ahead_by offset (Some d) u)
@@ -158,3 +163,12 @@ first_set r d s next until is at most t sets later =
 pub offset_is : (r : ZoneRule) (d : Daylight) (s here : ℤ) (holds : Bool) (o : ℤ) → r.daylight ≡ Some d → here ≡ s → holds ≡ is_daylight r.standard d here → o ≡ cond holds d.offset r.standard → o ≡ rule_offset r s
 offset_is r d s here holds o is same told shown =
     shown ∙ ap (λ (b : Bool). cond b d.offset r.standard) (told ∙ ap (is_daylight r.standard d) same) ∙ ap (λ (x : Option Daylight). ahead_by r.standard x s) (sym is)
+
+pub next_setting : (r : ZoneRule) (d : Daylight) (s here t next : ℤ) → r.daylight ≡ Some d → here ≡ s → next ≡ (s +ℤ t) → IsNextSetting (record { standard = r.standard; daylight = Some d }) here (here +ℤ t) → IsNextSetting r s next
+next_setting r d s here t next is at later h =
+    let there : IsNextSetting (record { standard = r.standard; daylight = Some d }) s (s +ℤ t) = subst (λ (x : ℤ). IsNextSetting (record { standard = r.standard; daylight = Some d }) x (x +ℤ t)) at h in
+    let by : IsNextSetting (record { standard = r.standard; daylight = r.daylight }) s (s +ℤ t) = subst (λ (o : Option Daylight). IsNextSetting (record { standard = r.standard; daylight = o }) s (s +ℤ t)) (sym is) there in
+    subst (λ (x : ℤ). IsNextSetting r s x) (sym later) by
+
+pub far_holds : (r : ZoneRule) (d : Daylight) (s t until : ℤ) (holds : Bool) → r.daylight ≡ Some d → s <ℤ t → ((u : ℤ) → s ≤ℤ u → u <ℤ t → is_daylight r.standard d u ≡ holds) → until ≤ℤ t → HoldsUntil (rule_offset r) s until
+far_holds r d s t until holds is later far past = steady_holds r d s t until is (λ u from before. ap (λ (b : Bool). cond b d.offset r.standard) (far u from before ∙ sym (far s (omega (arith, ints)) later))) past

@@ -2,7 +2,7 @@
 use Rattle.std.proofs.Common.{◌≡◌, ◌∙◌, ℕ, ◌+◌, ◌-◌, ◌*◌, ◌/◌, ◌<◌, ◌≤◌, ℤ, pos, ◌+ℤ◌, ◌≤ℤ◌, Bool, true, false, ◌==◌, Option, Some, None, IsSome, refl, sym, ap, subst, arith}
 use Rattle.std.specs.Int.{IsInRange}
 use Rattle.std.specs.Option.{option_or}
-use Rattle.std.proofs.lemmas.Bool.{cond_both, eqb-true}
+use Rattle.std.proofs.lemmas.Bool.{cond-false, cond_both, eqb-true, ne_eqb}
 use Rattle.chrono_units.specs.Years.{IsYear, is_leap_year}
 use Rattle.chrono_units.specs.declared.weekday.Weekday.{Weekday}
 use Rattle.chrono_calendar.specs.Days.{days_before_year, days_of_months_in, day_number_of_ymd, day_of, month_of, year_of}
@@ -12,7 +12,7 @@ use Rattle.chrono_calendar.proofs.NamedDates.{day_of-small, number-calendar_name
 use Rattle.chrono_calendar.proofs.Signed.{signed}
 use Rattle.chrono_calendar.proofs.Tests.{passes_below, passes_below-at}
 use Rattle.zone_rule.specs.Changes.{day_in_year}
-use Rattle.zone_rule.specs.RuleDays.{date_of_week}
+use Rattle.zone_rule.specs.RuleDays.{date_of_week, days_later, week_place}
 use Rattle.zone_rule.specs.declared.rule_day.RuleDay.TheVariants.{Week}
 use Rattle.zone_rule.proofs.DaysInYears.{date_of_week-exists, date_of_week-number}
 use Rattle.zone_rule.proofs.LastOfAll.{months_bound}
@@ -48,6 +48,18 @@ unfolding early_test
 early_month m first last = eqb-true (31 * (m - 1)) (days_of_months_in false (m - 1)) (passes_below-at early_test 2 early_tested (m - 1) (omega (arith, first, last)))
 
 -- ---- the places of a weekday of a month
+
+pub week_place-last : (before n : ℕ) → n ≡ 5 → week_place (n == 5) before n ≡ before + 22
+week_place-last before n is = subst (λ (k : ℕ). week_place (k == 5) before k ≡ before + 22) (sym is) refl
+
+pub week_place-nth : (before n : ℕ) → (n ≡ 5 → ⊥) → week_place (n == 5) before n ≡ before + 7 * n - 6
+week_place-nth before n not = ap (λ (b : Bool). week_place b before n) (ne_eqb n 5 not)
+
+pub later-last : (m n : ℕ) (w : Weekday) → n ≡ 5 → days_later (Week m n w) ≡ 10
+later-last m n w is = subst (λ (k : ℕ). days_later (Week m k w) ≡ 10) (sym is) refl
+
+pub later-nth : (m n : ℕ) (w : Weekday) → (n ≡ 5 → ⊥) → days_later (Week m n w) ≡ 7
+later-nth m n w not = cond-false (n == 5) 10 7 (ne_eqb n 5 not)
 
 record LiesAt (e y : ℤ) (m least most : ℕ) : Type 0 where
   year : year_of e ≡ y

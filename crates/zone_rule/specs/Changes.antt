@@ -1,11 +1,11 @@
 -- When a clock is set in each year (POSIX.1-2017, Base Definitions, section 8.3, TZ).
-use Rattle.std.specs.Prelude.{◌≡◌, ◌≤◌, ◌<◌, ℕ, ◌+◌, ◌-◌, if◌then◌else◌, ℤ, pos, ◌+ℤ◌, ◌-ℤ◌, ◌*ℤ◌, ◌≤ℤ◌, ◌<ℤ◌, int_le, unsigned_abs, List, get_or}
+use Rattle.std.specs.Prelude.{◌≡◌, ◌≤◌, ◌<◌, ℕ, ◌+◌, ◌-◌, if◌then◌else◌, ℤ, pos, neg_ℤ, ◌+ℤ◌, ◌-ℤ◌, ◌*ℤ◌, ◌≤ℤ◌, ◌<ℤ◌, int_le, unsigned_abs, List, get_or}
 use Rattle.std.specs.Int.{IsInRange, int_div_euclid}
 use Rattle.chrono_clock.specs.Time.{seconds_per_day}
 use Rattle.chrono_datetime.specs.Days.{day_number_of_ymd, day_number_of_yo, year_of}
 use Rattle.chrono_datetime.specs.Fields.{unix_epoch_day}
 use Rattle.chrono_datetime.specs.Weeks.{days_with_weekday}
-use Rattle.zone_rule.specs.RuleDays.{ordinal_of_julian}
+use Rattle.zone_rule.specs.RuleDays.{days_later, least_place, ordinal_of_julian}
 use Rattle.zone_rule.specs.declared.rule_day.RuleDay.{RuleDay}
 use Rattle.zone_rule.specs.declared.rule_day.RuleDay.TheVariants.{Week, Julian, FromZero}
 
@@ -61,3 +61,28 @@ pub record IsNextOf (second : ℤ → ℤ) (s t : ℤ) : Type 0 where
   pub later : s <ℤ t
   pub comes : (y : ℤ) × (second y ≡ t)
   pub first : (y : ℤ) → s <ℤ second y → t ≤ℤ second y
+
+-- ---- the window of a change in a mean year
+
+-- A mean year has 31,556,952 seconds, the 400th part of 400 years, and the first one begins on 1 January 1970.
+
+-- n years after 1970, a yearly change comes from the second `low` of its mean year up to the second `high`
+pub record LiesWithin (f : ℤ → ℤ) (low high : ℤ) : Type 0 where
+  pub not_before : (n : ℤ) → neg_ℤ (pos 70) ≤ℤ n → n ≤ℤ pos 530 → (n *ℤ pos 31_556_952 +ℤ low) ≤ℤ f (pos 1_970 +ℤ n)
+  pub not_behind : (n : ℤ) → neg_ℤ (pos 70) ≤ℤ n → n ≤ℤ pos 530 → f (pos 1_970 +ℤ n) ≤ℤ (n *ℤ pos 31_556_952 +ℤ high)
+
+-- between these seconds of each mean year a change comes, where the clock before it is that of UTC
+unfoldable pub window_low : YearlyChange → ℤ
+window_low c = (pos (least_place c.day) -ℤ pos 1) *ℤ pos 86_400 +ℤ c.second -ℤ pos 109_296
+
+unfoldable pub window_high : YearlyChange → ℤ
+window_high c = (pos (least_place c.day + days_later c.day) -ℤ pos 1) *ℤ pos 86_400 +ℤ c.second +ℤ pos 127_224
+
+-- a change is in range, and l and u are its window
+pub record IsWindow (c : YearlyChange) (l u : ℤ) : Type 0 where
+  pub change : IsChange c
+  pub low : l ≡ window_low c
+  pub high : u ≡ window_high c
+  pub near_low : unsigned_abs l < 33_000_000
+  pub near_high : unsigned_abs u < 33_000_000
+  pub lies : LiesWithin (change_second (pos 0) c) l u

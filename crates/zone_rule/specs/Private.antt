@@ -1,5 +1,5 @@
 -- Words of functions that are not public.
-use Rattle.std.specs.Prelude.{◌≡◌, ◌⊎◌, true, false, ℤ, pos, neg_ℤ, ◌+ℤ◌, ◌*ℤ◌, ◌≤ℤ◌, ◌<ℤ◌}
+use Rattle.std.specs.Prelude.{◌≡◌, ◌⊎◌, true, false, ℤ, pos, ◌+ℤ◌, ◌≤ℤ◌, ◌<ℤ◌}
 use Rattle.chrono_zoned.specs.Offsets.{IsOffset}
 use Rattle.zone_rule.specs.Changes.{IsChange, last_by}
 use Rattle.zone_rule.specs.declared.rule.Daylight.{Daylight}
@@ -28,12 +28,7 @@ pub record IsTurn (f g : ℤ → ℤ) (y s : ℤ) (t : Turn) : Type 0 where
   pub comes : (z : ℤ) × ((f z ≡ t.next) ⊎ (g z ≡ t.next))
   pub soonest : (z : ℤ) → (s <ℤ f z → t.next ≤ℤ f z) × (s <ℤ g z → t.next ≤ℤ g z)
 
--- A mean year has 31,556,952 seconds, the 400th part of 400 years, and the first one begins on 1 January 1970.
-
--- n years after 1970, a yearly change comes from the second `low` of its mean year up to the second `high`
-pub record LiesWithin (f : ℤ → ℤ) (low high : ℤ) : Type 0 where
-  pub not_before : (n : ℤ) → neg_ℤ (pos 70) ≤ℤ n → n ≤ℤ pos 530 → (n *ℤ pos 31_556_952 +ℤ low) ≤ℤ f (pos 1_970 +ℤ n)
-  pub not_behind : (n : ℤ) → neg_ℤ (pos 70) ≤ℤ n → n ≤ℤ pos 530 → f (pos 1_970 +ℤ n) ≤ℤ (n *ℤ pos 31_556_952 +ℤ high)
+-- Mean years are those of `Changes`.
 
 -- in some year the change comes from `low` seconds behind a second up to `high` seconds behind it, and next a mean year later at the soonest
 pub record ComesWithin (f : ℤ → ℤ) (begin low high : ℤ) : Type 0 where

@@ -5,10 +5,12 @@ ghost use Rattle.chrono_units.specs.Years.{IsYear};
 ghost use Rattle.chrono_clock.specs.Time.{seconds_per_day};
 ghost use Rattle.chrono_datetime.specs.Fields.{unix_epoch_day};
 ghost use Rattle.chrono_zoned.specs.Offsets.{IsOffset};
-ghost use Rattle.zone_rule.specs.Changes.{IsChange, IsRuleDay, change_second};
+ghost use Rattle.zone_rule.specs.Changes.{IsChange, IsRuleDay, LiesWithin, change_second};
 
+use crate::mean_year::{Window, window_of};
 use crate::rule_day::RuleDay;
 use chrono_zoned::FixedOffset;
+use std::fmt;
 use std::marker::Model;
 
 // The seconds of 168 hours.
@@ -29,22 +31,44 @@ pub(crate) const UNIX_EPOCH_DAY: i64 = 719_163;
 /// // At 02:00 of the second Sunday of March.
 /// Change::new(RuleDay::Week { month: 3, week: 2, weekday: Weekday::Sun }, 7_200)?.second() // 7200
 /// ```
-#[derive(Clone, Copy, Debug, PartialEq, Eq)]
+#[derive(Clone, Copy)]
+#[derive_where(PartialEq, Eq)]
 pub struct Change {
     day: RuleDay,
     second: i32,
+    // Between these seconds of each mean year the change comes, where the clock before it is that of UTC.
+    #[derive_where(skip(EqHashOrd))]
+    low: i32,
+    #[derive_where(skip(EqHashOrd))]
+    high: i32,
 }
 
 impl Model for Change {
-    ghost use Rattle.zone_rule.specs.Changes.{IsChange, YearlyChange};
+    ghost use Rattle.std.specs.Prelude.{◌≡◌, ℤ};
+    ghost use Rattle.std.proofs.Common.{ap, sym, ◌∙◌};
+    ghost use Rattle.zone_rule.specs.Changes.{IsWindow, YearlyChange, window_high, window_low};
 
     ghost Value = { YearlyChange };
 
     ghost view = { λ a. record { day = a.day; second = a.second } };
 
-    ghost invariant = { λ a. IsChange (record { day = a.day; second = a.second }) };
+    ghost invariant = { λ a. IsWindow (record { day = a.day; second = a.second }) a.low a.high };
 
-    ghost inverse = { λ c. record { day = c.day; second = c.second } };
+    ghost inverse = { λ c. record { day = c.day; second = c.second; low = window_low c; high = window_high c } };
+
+    ghost inverse_ok = { λ a h.
+        let with_window : ℤ → ℤ → Inside = λ l u. record { day = a.day; second = a.second; low = l; high = u } in
+        let change : YearlyChange = record { day = a.day; second = a.second } in
+        ap (λ (l : ℤ). with_window l (window_high change)) (sym h.low) ∙ ap (λ (u : ℤ). with_window a.low u) (sym h.high) };
+}
+
+impl fmt::Debug for Change {
+    fn fmt<W: fmt::Write>(&self, f: &mut fmt::Formatter<W>) -> fmt::Result {
+        f.debug_struct("Change")
+            .field("day", &self.day)
+            .field("second", &self.second)
+            .finish()
+    }
 }
 
 impl Change {
@@ -62,7 +86,13 @@ impl Change {
         if second <= -SECS_PER_WEEK || SECS_PER_WEEK <= second || !day.is_in_range() {
             return None;
         }
-        Some(Change { day, second })
+        let (low, high) = window_of(day, second);
+        Some(Change {
+            day,
+            second,
+            low,
+            high,
+        })
     }
 
     /// Returns the day.
@@ -87,6 +117,23 @@ impl Change {
         ensures in_range { unsigned_abs result < 604_800 }
     {
         self.second
+    }
+
+    // Between which seconds of each mean year the change comes, where the clock before it is so far ahead of UTC.
+    #[inline(always)]
+    pub(crate) fn window(&self, offset: FixedOffset) -> Window
+        ensures lies { LiesWithin (change_second offset self.now) result.low result.high }
+        ensures low { unsigned_abs result.low < 40_000_000 }
+        ensures high { unsigned_abs result.high < 40_000_000 }
+        ensures change { IsChange self.now }
+        ensures offset { IsOffset offset }
+    {
+        let (low, high) = (i64::from(self.low), i64::from(self.high));
+        let ahead = i64::from(offset.local_minus_utc());
+        Window {
+            low: low - ahead,
+            high: high - ahead,
+        }
     }
 
     // The second of the change in a year, where the clock before it is so far ahead of UTC.

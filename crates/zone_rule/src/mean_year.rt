@@ -2,24 +2,27 @@
 //!
 //! A mean year has the 400th part of the seconds of 400 years. Mean years are counted from 1 January 1970. A calendar year begins less than
 //! two days before or behind its mean year. So one division tells of most seconds that they are far from all changes.
-ghost use Rattle.std.specs.Prelude.{◌≡◌, ◌<◌, pos, ◌+ℤ◌, ◌-ℤ◌, ◌≤ℤ◌, unsigned_abs};
+ghost use Rattle.std.specs.Prelude.{◌≡◌, ◌<◌, pos, ◌-ℤ◌, ◌≤ℤ◌, unsigned_abs};
 ghost use Rattle.std.specs.Int.{int_rem_euclid};
 ghost use Rattle.chrono_zoned.specs.Offsets.{IsOffset};
-ghost use Rattle.zone_rule.specs.Changes.{IsChange, change_second};
-ghost use Rattle.zone_rule.specs.Private.{ComesWithin, LiesWithin};
+ghost use Rattle.zone_rule.specs.Changes.{IsChange, IsWindow, change_second};
+ghost use Rattle.zone_rule.specs.Private.{ComesWithin};
 
-use crate::change::{Change, second_of};
+use crate::change::Change;
+use crate::rule_day::RuleDay;
 use chrono_zoned::FixedOffset;
 
 /// The seconds of a mean year.
 pub(crate) const SECS_PER_MEAN_YEAR: i64 = 31_556_952;
 
 // A year of the calendar begins no more seconds before its mean year, and no more behind it.
-const MOST_BEFORE: i64 = 109_296;
+const MOST_BEFORE: i32 = 109_296;
 
-const MOST_BEHIND: i64 = 127_224;
+const MOST_BEHIND: i32 = 127_224;
 
-/// The seconds from which and up to which a change comes, counted from the beginning of a mean year.
+const SECS_PER_DAY: i32 = 86_400;
+
+// The seconds from which and up to which a change comes, counted from the beginning of a mean year.
 #[derive(Clone, Copy)]
 pub(crate) struct Window {
     pub(crate) low: i64,
@@ -27,25 +30,8 @@ pub(crate) struct Window {
 }
 
 impl Change {
-    // Between which seconds of each mean year the change comes.
-    #[inline]
-    fn window(&self, offset: FixedOffset) -> Window
-        ensures lies { LiesWithin (change_second offset self.now) result.low result.high }
-        ensures low { unsigned_abs result.low < 40_000_000 }
-        ensures high { unsigned_abs result.high < 40_000_000 }
-        ensures change { IsChange self.now }
-        ensures offset { IsOffset offset }
-    {
-        let (least, most) = self.day().places();
-        let (second, offset) = (self.second(), offset.local_minus_utc());
-        Window {
-            low: second_of(day_of_1970(least), second, offset) - MOST_BEFORE,
-            high: second_of(day_of_1970(most), second, offset) + MOST_BEHIND,
-        }
-    }
-
-    // The same of the last change that has come by the second at the place of its mean year. If it may not have come, then of the one before.
-    #[inline]
+    // The window of the last change that has come by the second at the place of its mean year. If it may not have come, then of the one before.
+    #[inline(always)]
     pub(crate) fn last_window(&self, offset: FixedOffset, second: i64, place: i64) -> Window
         requires first { pos 0 ≤ℤ second }
         requires last { second ≤ℤ pos 12_622_867_200 }
@@ -69,12 +55,16 @@ impl Change {
     }
 }
 
-// The number of the day of 1970 that has a place, from 1.
-#[inline]
-fn day_of_1970(place: u32) -> i32
-    requires { place < 367 }
-    ensures value { result ≡ pos place +ℤ pos 719_162 }
-    ensures in_range { unsigned_abs result < 96_000_000 }
+// Between which seconds of each mean year a change on a day comes, where the clock before it is that of UTC.
+pub(crate) fn window_of(day: RuleDay, second: i32) -> (i32, i32)
+    requires { IsChange (record { day = day; second = second }) }
+    ensures { IsWindow (record { day = day; second = second }) result.0 result.1 }
 {
-    place as i32 + 719_162
+    let (least, days) = day.places();
+    let low = least as i32 - 1;
+    let high = low + days as i32;
+    (
+        low * SECS_PER_DAY + second - MOST_BEFORE,
+        high * SECS_PER_DAY + second + MOST_BEHIND,
+    )
 }

@@ -179,6 +179,7 @@ impl ZoneRule {
     /// let rule = ZoneRule { standard: FixedOffset::east_opt(0)?, daylight: Some(daylight) };
     /// rule.stretch_of_instant(1_709_258_399).until // 1709258400
     /// ```
+    #[inline(never)]
     pub fn stretch_of_instant(&self, second: i64) -> Stretch
         ensures offset { result.offset ≡ rule_offset self.now second }
         ensures holds { HoldsUntil (rule_offset self.now) second result.until }
@@ -207,7 +208,7 @@ impl ZoneRule {
     }
 
     // The same as [`stretch_of_instant`](Self::stretch_of_instant), but the stretch may end before the next change.
-    #[inline]
+    #[inline(always)]
     pub(crate) fn stretch_near(&self, second: i64) -> Stretch
         ensures offset { result.offset ≡ rule_offset self.now second }
         ensures holds { HoldsUntil (rule_offset self.now) second result.until }
@@ -221,7 +222,7 @@ impl ZoneRule {
     }
 
     // A stretch from a second on, if no change is near it, in the years 1970 to 2369. `None` says nothing.
-    #[inline]
+    #[inline(always)]
     fn stretch_far(&self, second: i64) -> Option<Stretch>
         ensures offset { IfSome result (λ t. t.offset ≡ rule_offset self.now second) }
         ensures holds { IfSome result (λ t. HoldsUntil (rule_offset self.now) second t.until) }
@@ -275,12 +276,8 @@ impl Daylight {
         let place = local.rem_euclid(SECS_PER_CYCLE);
         let of_standard = place - i64::from(standard.local_minus_utc());
         let of_daylight = place - i64::from(self.offset.local_minus_utc());
-        offsets_shown(
-            standard,
-            self.offset,
-            self.holds_at(standard, of_standard),
-            self.holds_at(standard, of_daylight),
-        )
+        let (by_standard, by_daylight) = self.holds_at_both(standard, of_standard, of_daylight);
+        offsets_shown(standard, self.offset, by_standard, by_daylight)
     }
 
     // How far the clock is ahead of UTC, where daylight time holds or does not.
@@ -317,6 +314,51 @@ impl Daylight {
         Hold {
             is_daylight: self.is_last_begun(standard, year, second),
             wait: begins.min(ends) - second,
+        }
+    }
+
+    // Whether daylight time holds at each of two seconds, in or beside the years 1970 to 2369. Mostly no change comes between them.
+    #[inline]
+    fn holds_at_both(&self, standard: FixedOffset, one: i64, other: i64) -> (bool, bool)
+        requires low { (neg_ℤ (pos 86_400) ≤ℤ one) × (neg_ℤ (pos 86_400) ≤ℤ other) }
+        requires high { (one ≤ℤ pos 12_622_867_200) × (other ≤ℤ pos 12_622_867_200) }
+        ensures one { result.0 ≡ is_daylight standard self.now one }
+        ensures other { result.1 ≡ is_daylight standard self.now other }
+    {
+        if let Some(holds) = self.holds_through(standard, one.min(other), one.max(other)) {
+            return (holds, holds);
+        }
+        (self.holds_at(standard, one), self.holds_at(standard, other))
+    }
+
+    // Whether daylight time holds from a second up to another. `None` if it may begin or end between them.
+    #[inline]
+    fn holds_through(&self, standard: FixedOffset, first: i64, last: i64) -> Option<bool>
+        requires low { neg_ℤ (pos 86_400) ≤ℤ first }
+        requires high { last ≤ℤ pos 12_622_867_200 }
+        requires order { first ≤ℤ last }
+        ensures { IfSome result (λ h. (u : ℤ) → first ≤ℤ u → u ≤ℤ last → is_daylight standard self.now u ≡ h) }
+    {
+        if first < 0 || SECS_PER_CYCLE <= first {
+            return None;
+        }
+        let hold = self.hold_on(standard, first);
+        if hold.wait <= last - first {
+            return None;
+        }
+        Some(hold.is_daylight)
+    }
+
+    // Whether daylight time holds at the second, in the years 1970 to 2369, and for how long that stays so at least.
+    #[inline]
+    fn hold_on(&self, standard: FixedOffset, second: i64) -> Hold
+        requires first { pos 0 ≤ℤ second }
+        requires last { second <ℤ pos 12_622_780_800 }
+        ensures { (u : ℤ) → second ≤ℤ u → u <ℤ (second +ℤ result.wait) → is_daylight standard self.now u ≡ result.is_daylight }
+    {
+        match self.hold_far(standard, second) {
+            Some(hold) => hold,
+            None => self.hold_in_cycle(standard, second),
         }
     }
 

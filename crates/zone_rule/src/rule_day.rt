@@ -1,12 +1,12 @@
 //! `RuleDay`: a day of each year.
-ghost use Rattle.std.specs.Prelude.{◌≡◌, ◌↔◌, ◌-◌, ◌<◌, ◌≤◌, IsTrue, false, ℤ, pos, ◌+ℤ◌, ◌≤ℤ◌, unsigned_abs};
+ghost use Rattle.std.specs.Prelude.{◌≡◌, ◌↔◌, ◌+◌, ◌-◌, ◌<◌, ◌≤◌, ◌==◌, IsTrue, false, ℤ, pos, ◌+ℤ◌, ◌≤ℤ◌, unsigned_abs};
 ghost use Rattle.std.specs.Int.{IsInRange};
 ghost use Rattle.chrono_units.specs.Years.{IsYear};
 ghost use Rattle.chrono_units.specs.declared.weekday.Weekday.{Weekday};
 ghost use Rattle.chrono_datetime.specs.Days.{IsDate, day_number_of_yo, days_before_year, days_of_months_in};
 ghost use Rattle.chrono_datetime.specs.Weeks.{date_of_last_weekday};
 ghost use Rattle.zone_rule.specs.declared.rule_day.RuleDay.TheVariants.{Week};
-ghost use Rattle.zone_rule.specs.RuleDays.{date_of_rule_day, date_of_week, ordinal_of_julian};
+ghost use Rattle.zone_rule.specs.RuleDays.{date_of_rule_day, date_of_week, days_later, least_place, ordinal_of_julian, week_place};
 ghost use Rattle.zone_rule.specs.Changes.{IsRuleDay, day_in_year};
 
 use chrono_datetime::{Datelike, NaiveDate, Weekday};
@@ -106,41 +106,43 @@ impl RuleDay {
         }
     }
 
-    // The least and the greatest place that this day has in a year, where 1 January has place 1.
+    // The least place that this day has in a year, where 1 January has place 1, and how many days later it comes at most.
     #[inline]
     pub(crate) fn places(self) -> (u32, u32)
         requires { IsRuleDay self }
+        ensures place { result.0 ≡ least_place self }
+        ensures later { result.1 ≡ days_later self }
         ensures least { (y : ℤ) → IsYear y → (days_before_year y +ℤ pos result.0) ≤ℤ day_in_year y self }
-        ensures most { (y : ℤ) → IsYear y → day_in_year y self ≤ℤ (days_before_year y +ℤ pos result.1) }
+        ensures most { (y : ℤ) → IsYear y → day_in_year y self ≤ℤ (days_before_year y +ℤ pos (result.0 + result.1)) }
         ensures some { 0 < result.0 }
-        ensures in_order { result.0 ≤ result.1 }
-        ensures in_range { result.1 < 367 }
+        ensures in_range { result.0 + result.1 < 367 }
     {
         match self {
             RuleDay::Week { month, week, .. } => week_places(month, week),
-            RuleDay::Julian(n) => (u32::from(n), u32::from(n) + 1),
-            RuleDay::FromZero(n) => (u32::from(n) + 1, u32::from(n) + 1),
+            RuleDay::Julian(n) => (u32::from(n), 1),
+            RuleDay::FromZero(n) => (u32::from(n) + 1, 0),
         }
     }
 }
 
-// The least and the greatest place that the `week`-th such weekday of the month has in a year, or the last one if `week` is 5.
+// The least place that the `week`-th such weekday of the month has in a year, or the last one if `week` is 5, and how many days later it comes at
+// most.
 #[inline]
 fn week_places(month: u32, week: u8) -> (u32, u32)
     requires month { IsInRange 1 12 month }
     requires week { IsInRange 1 5 week }
+    ensures place { result.0 ≡ week_place (week == 5) (days_of_months_in false (month - 1)) week }
+    ensures later { (w : Weekday) → result.1 ≡ days_later (Week month week w) }
     ensures least { (y : ℤ) (w : Weekday) → IsYear y → (days_before_year y +ℤ pos result.0) ≤ℤ day_in_year y (Week month week w) }
-    ensures most { (y : ℤ) (w : Weekday) → IsYear y → day_in_year y (Week month week w) ≤ℤ (days_before_year y +ℤ pos result.1) }
+    ensures most { (y : ℤ) (w : Weekday) → IsYear y → day_in_year y (Week month week w) ≤ℤ (days_before_year y +ℤ pos (result.0 + result.1)) }
     ensures some { 0 < result.0 }
-    ensures in_order { result.0 ≤ result.1 }
-    ensures in_range { result.1 < 367 }
+    ensures in_range { result.0 + result.1 < 367 }
 {
     let before = days_before_month(month);
     if week == LAST_WEEK {
-        (before + 22, before + 32)
+        (before + 22, 10)
     } else {
-        let end = before + 7 * u32::from(week);
-        (end - 6, end + 1)
+        (before + 7 * u32::from(week) - 6, 7)
     }
 }
 

@@ -17,6 +17,7 @@ impl TimeZone for ZoneRule {
         self.offsets_of_local(local.timestamp())
     }
 
+    #[inline(always)]
     fn stretch_from(&self, second: i64) -> Stretch {
         self.stretch_near(second)
     }

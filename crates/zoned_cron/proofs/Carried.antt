@@ -44,3 +44,9 @@ no_sooner u a o l found more same is lt = omega (arith, ints, more, same, is, lt
 -- nor a day or more before it
 pub no_day_sooner : (u a l leap : ℤ) → l ≤ℤ (u +ℤ a) → IsOffset a → leap ≡ (l -ℤ pos 86_400) → leap ≤ℤ u
 no_day_sooner u a l leap more close is = let bounds = near a close in omega (arith, ints, more, bounds.1, is)
+
+pub twice_near : (x o p : ℤ) → IsEpochSecond x → IsOffset o → IsOffset p → IsNearDates (x +ℤ o -ℤ p)
+twice_near x o p date close small =
+    let bounds = near o close in
+    let other = near p small in
+    (omega (arith, ints, date.0, bounds.0, other.1), omega (arith, ints, date.1, bounds.1, other.0))

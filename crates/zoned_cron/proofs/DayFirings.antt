@@ -9,8 +9,7 @@ use Rattle.chrono_datetime.specs.Moment.{IsMoment, Moment, moment}
 use Rattle.chrono_datetime.specs.Time.{TimeOfDay}
 use Rattle.chrono_instant.specs.Instants.{epoch_second}
 use Rattle.chrono_instant.specs.Offsets.{IsOffset}
-use Rattle.chrono_zoned.specs.declared.mapped_local_time.MappedLocalTime.{MappedLocalTime}
-use Rattle.chrono_zoned.specs.Zones.{IsMapped, IsOnly, Shows}
+use Rattle.chrono_zoned.specs.Zones.{IsOnly, Shows}
 use Rattle.chrono_cron.specs.declared.field_sets.FieldSets.{FieldSets}
 use Rattle.chrono_cron.specs.Due.{is_day, is_due, is_minute}
 use Rattle.zoned_cron.specs.Fires.{IsGap, Takes, once_each}
@@ -61,11 +60,11 @@ different ahead n f fires shown test a (suc m) most =
     (none_of ahead n f fires shown test a (a + 1) m (omega arith) (omega (arith, most)))
     (different ahead n f fires shown test (a + 1) m (omega (arith, most)))
 
-pub day_fires : (s : FieldSets) (ahead : ℤ → ℤ) → ((u : ℤ) → IsOffset (ahead u)) → ((k : ℤ) → (found : MappedLocalTime ℤ) × IsMapped ahead k found) → (n : ℤ) → ShowsMinutes ahead n → (fired : List ℤ) × FireOnceEach ahead n (planned_minutes s n) fired × AreDifferent fired
+pub day_fires : (s : FieldSets) (ahead : ℤ → ℤ) → ((u : ℤ) → IsOffset (ahead u)) → (n : ℤ) → ShowsMinutes ahead n → (fired : List ℤ) × FireOnceEach ahead n (planned_minutes s n) fired × AreDifferent fired
 unfolding planned_minutes
-day_fires s ahead offsets mapped n shown =
-    let f : ℕ → ℤ = λ k. (one_firing ahead offsets mapped (epoch_second (minute_of_day n k))).0 in
-    let fires : Firing ahead n f = λ k. (one_firing ahead offsets mapped (epoch_second (minute_of_day n k))).1 in (
+day_fires s ahead offsets n shown =
+    let f : ℕ → ℤ = λ k. (one_firing ahead offsets (epoch_second (minute_of_day n k))).0 in
+    let fires : Firing ahead n f = λ k. (one_firing ahead offsets (epoch_second (minute_of_day n k))).1 in (
       map f (planned_minutes s n),
       fire_each ahead n f fires (planned_minutes s n),
       different ahead n f fires shown (λ k. is_due s (minute_of_day n k)) 0 1_440 (omega arith),

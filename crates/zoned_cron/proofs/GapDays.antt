@@ -5,9 +5,8 @@ use Rattle.std.proofs.lemmas.Int.{by_lt_z, ints}
 use Rattle.std.specs.List.{filter, range_with_len}
 use Rattle.chrono_instant.specs.Instants.{epoch_second}
 use Rattle.chrono_instant.specs.Offsets.{IsOffset}
-use Rattle.chrono_zoned.specs.declared.mapped_local_time.MappedLocalTime.{MappedLocalTime}
 use Rattle.chrono_zoned.specs.KnownZones.{set_ahead}
-use Rattle.chrono_zoned.specs.Zones.{IsMapped, IsOnly}
+use Rattle.chrono_zoned.specs.Zones.{IsOnly}
 use Rattle.chrono_zoned.proofs.OneChangeLemmas.{ChangesOnce-set_ahead, never, once_early, once_late}
 use Rattle.chrono_cron.specs.declared.field_sets.FieldSets.{FieldSets}
 use Rattle.chrono_cron.specs.Due.{is_due}
@@ -15,7 +14,7 @@ use Rattle.zoned_cron.specs.declared.policy.Fold.TheVariants.{Earlier}
 use Rattle.zoned_cron.specs.Fires.{IsGap, Takes, once_each}
 use Rattle.zoned_cron.specs.DayFirings.{AreDifferent, FireTogether, IsNoneOf, NoneShown, minute_of_day, planned_minutes}
 use Rattle.zoned_cron.proofs.Instants.{AreGaps, only_taken}
-use Rattle.zoned_cron.proofs.Laws.{behind_gap, fires_apart, fires_once, first_found, one_firing}
+use Rattle.zoned_cron.proofs.Laws.{behind_gap, fires_apart, fires_once, first_shown, one_firing}
 
 -- ---- whether the clock shows a second of a range
 
@@ -23,20 +22,20 @@ is_empty : (ahead : ℤ → ℤ) (from end : ℤ) → end ≤ℤ from → AreGap
 is_empty ahead from end none j low high = absurd (omega (arith, ints, none, low, high))
 
 -- of the n seconds behind some that it does not show
-shows_any : (ahead : ℤ → ℤ) → ((k : ℤ) → (found : MappedLocalTime ℤ) × IsMapped ahead k found) → (n : ℕ) (from end : ℤ) → (from +ℤ pos n) ≡ end → AreGaps ahead from end ⊎ (AreGaps ahead from end → ⊥)
-shows_any ahead mapped zero from end is = inl (is_empty ahead from end (omega (arith, ints, is)))
-shows_any ahead mapped (suc n) from end is =
+shows_any : (ahead : ℤ → ℤ) → ((u : ℤ) → IsOffset (ahead u)) → (n : ℕ) (from end : ℤ) → (from +ℤ pos n) ≡ end → AreGaps ahead from end ⊎ (AreGaps ahead from end → ⊥)
+shows_any ahead offsets zero from end is = inl (is_empty ahead from end (omega (arith, ints, is)))
+shows_any ahead offsets (suc n) from end is =
     ⊎_elim
     (λ gap. ⊎_elim
     (λ rest. inl (λ j low high. by_lt_z from j (λ later. rest j (omega (arith, ints, later)) high) (λ ge. subst (λ (x : ℤ). IsGap ahead x) (omega (arith, ints, ge, low)) gap)))
     (λ some. inr (λ all. some (λ j low high. all j (omega (arith, ints, low)) high)))
-    (shows_any ahead mapped n (from +ℤ pos 1) end (omega (arith, ints, is))))
+    (shows_any ahead offsets n (from +ℤ pos 1) end (omega (arith, ints, is))))
     (λ first. inr (λ all. all from (omega (arith, ints)) (omega (arith, ints, is)) first.0 first.1.0))
-    (first_found ahead from (mapped from).0 (mapped from).1)
+    (first_shown ahead offsets from)
 
-none_or_some : (ahead : ℤ → ℤ) → ((k : ℤ) → (found : MappedLocalTime ℤ) × IsMapped ahead k found) → (n : ℤ) (j k : ℕ) → j < k → NoneShown ahead n j k ⊎ (NoneShown ahead n j k → ⊥)
-none_or_some ahead mapped n j k lt =
-    shows_any ahead mapped (60 * k - 60 * j) (epoch_second (minute_of_day n j)) (epoch_second (minute_of_day n k)) (omega (arith, ints, lt))
+none_or_some : (ahead : ℤ → ℤ) → ((u : ℤ) → IsOffset (ahead u)) → (n : ℤ) (j k : ℕ) → j < k → NoneShown ahead n j k ⊎ (NoneShown ahead n j k → ⊥)
+none_or_some ahead offsets n j k lt =
+    shows_any ahead offsets (60 * k - 60 * j) (epoch_second (minute_of_day n j)) (epoch_second (minute_of_day n k)) (omega (arith, ints, lt))
 
 -- ---- minutes in order
 
@@ -99,19 +98,19 @@ record Found (ahead : ℤ → ℤ) (n : ℤ) (j : ℕ) (ks : List ℕ) : Type 0 
   apart : AreDifferent fired
   later : AreFrom ahead n j fired
 
-find : (ahead : ℤ → ℤ) → ((u : ℤ) → IsOffset (ahead u)) → ((k : ℤ) → (found : MappedLocalTime ℤ) × IsMapped ahead k found) → (n : ℤ) (j : ℕ) (ks : List ℕ) → Follow j ks → Found ahead n j ks
-find ahead offsets mapped n j [] follow =
-    let one = one_firing ahead offsets mapped (epoch_second (minute_of_day n j)) in
+find : (ahead : ℤ → ℤ) → ((u : ℤ) → IsOffset (ahead u)) → (n : ℤ) (j : ℕ) (ks : List ℕ) → Follow j ks → Found ahead n j ks
+find ahead offsets n j [] follow =
+    let one = one_firing ahead offsets (epoch_second (minute_of_day n j)) in
     record {
       fired = one.0 ∷ [];
       each = (one.0, one.1, refl);
       apart = (tt, tt);
       later = ((j, omega arith, (one.1 one.0).1 refl), tt);
     }
-find ahead offsets mapped n j (k ∷ ks) follow =
-    let one = one_firing ahead offsets mapped (epoch_second (minute_of_day n j)) in
+find ahead offsets n j (k ∷ ks) follow =
+    let one = one_firing ahead offsets (epoch_second (minute_of_day n j)) in
     let there : Takes once_each ahead (epoch_second (minute_of_day n j)) one.0 = (one.1 one.0).1 refl in
-    let rest = find ahead offsets mapped n k ks follow.1 in
+    let rest = find ahead offsets n k ks follow.1 in
     ⊎_elim
     (λ none. record {
       fired = rest.fired;
@@ -125,15 +124,15 @@ find ahead offsets mapped n j (k ∷ ks) follow =
       apart = (none_later ahead n j k one.0 rest.fired follow.0 some there rest.later, rest.apart);
       later = ((j, omega arith, there), from_earlier ahead n j k rest.fired (omega (arith, follow.0)) rest.later);
     })
-    (none_or_some ahead mapped n j k follow.0)
+    (none_or_some ahead offsets n j k follow.0)
 
-fires_all : (ahead : ℤ → ℤ) → ((u : ℤ) → IsOffset (ahead u)) → ((k : ℤ) → (found : MappedLocalTime ℤ) × IsMapped ahead k found) → (n : ℤ) (ks : List ℕ) → Ascend ks → (fired : List ℤ) × FireTogether ahead n ks fired × AreDifferent fired
-fires_all ahead offsets mapped n [] follow = ([], refl, tt)
-fires_all ahead offsets mapped n (j ∷ ks) follow = let found = find ahead offsets mapped n j ks follow in (found.fired, found.each, found.apart)
+fires_all : (ahead : ℤ → ℤ) → ((u : ℤ) → IsOffset (ahead u)) → (n : ℤ) (ks : List ℕ) → Ascend ks → (fired : List ℤ) × FireTogether ahead n ks fired × AreDifferent fired
+fires_all ahead offsets n [] follow = ([], refl, tt)
+fires_all ahead offsets n (j ∷ ks) follow = let found = find ahead offsets n j ks follow in (found.fired, found.each, found.apart)
 
-pub any_day_fires : (s : FieldSets) (ahead : ℤ → ℤ) → ((u : ℤ) → IsOffset (ahead u)) → ((k : ℤ) → (found : MappedLocalTime ℤ) × IsMapped ahead k found) → (n : ℤ) → (fired : List ℤ) × FireTogether ahead n (planned_minutes s n) fired × AreDifferent fired
+pub any_day_fires : (s : FieldSets) (ahead : ℤ → ℤ) → ((u : ℤ) → IsOffset (ahead u)) → (n : ℤ) → (fired : List ℤ) × FireTogether ahead n (planned_minutes s n) fired × AreDifferent fired
 unfolding planned_minutes
-any_day_fires s ahead offsets mapped n = fires_all ahead offsets mapped n (planned_minutes s n) (ascend_filter (λ k. is_due s (minute_of_day n k)) 0 1_440)
+any_day_fires s ahead offsets n = fires_all ahead offsets n (planned_minutes s n) (ascend_filter (λ k. is_due s (minute_of_day n k)) 0 1_440)
 
 -- ---- known values: the clock skips minutes 20 and 40 of 1 January 1970
 

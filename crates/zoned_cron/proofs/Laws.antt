@@ -87,10 +87,24 @@ fires_apart ahead l k u le (inr h) (inr m) j low high = h.skipped j low (omega (
 
 -- ---- and once at least
 
-pub first_found : (ahead : ℤ → ℤ) (k : ℤ) (found : MappedLocalTime ℤ) → IsMapped ahead k found → IsGap ahead k ⊎ ((u : ℤ) × IsFirst ahead k u)
-first_found ahead k NoInstant h = inl h
-first_found ahead k (Single a) h = inr (k -ℤ a, only_taken Earlier ahead k (k -ℤ a) h)
-first_found ahead k (Ambiguous a b) h = inr (k -ℤ a, (first_of_two ahead k (k -ℤ a) (k -ℤ b) (k -ℤ a) (AreTwo-mapped ahead k a b (k -ℤ a) (k -ℤ b) h refl refl)).1 refl)
+-- of n seconds in a row, the first at which the clock shows l, if it shows l at no other
+first_among : (ahead : ℤ → ℤ) (l : ℤ) (n : ℕ) (from : ℤ) → ((v : ℤ) → v <ℤ from → ¬ Shows ahead l v) → ((v : ℤ) → (from +ℤ pos n) ≤ℤ v → ¬ Shows ahead l v) → IsGap ahead l ⊎ ((u : ℤ) × IsFirst ahead l u)
+first_among ahead l zero from before behind = inl (λ v shows. by_lt_z v from (λ lt. before v lt shows) (λ ge. behind v (omega (arith, ints, ge)) shows))
+first_among ahead l (suc n) from before behind =
+    let goes_on : ¬ Shows ahead l from → IsGap ahead l ⊎ ((u : ℤ) × IsFirst ahead l u) = λ other.
+    first_among ahead l n (from +ℤ pos 1)
+    (λ v lt shows. by_lt_z v from (λ early. before v early shows) (λ ge. other (subst (λ (x : ℤ). Shows ahead l x) (omega (arith, ints, lt, ge)) shows)))
+    (λ v ge. behind v (omega (arith, ints, ge))) in
+    by_lt_z (from +ℤ ahead from) l (λ less. goes_on (λ is. omega (arith, ints, is, less)))
+    (λ most. by_lt_z l (from +ℤ ahead from) (λ more. goes_on (λ is. omega (arith, ints, is, more)))
+    (λ least. inr (from, (omega (arith, ints, most, least), λ v shows. by_lt_z v from (λ lt. absurd (before v lt shows)) (λ ge. ge)))))
+
+-- the clock shows l less than a day from it, if at all
+pub first_shown : (ahead : ℤ → ℤ) → ((u : ℤ) → IsOffset (ahead u)) → (l : ℤ) → IsGap ahead l ⊎ ((u : ℤ) × IsFirst ahead l u)
+first_shown ahead offsets l =
+    first_among ahead l 172_800 (l -ℤ pos 86_400)
+    (λ v lt shows. omega (arith, ints, lt, shows, near (ahead v) (offsets v)))
+    (λ v ge shows. omega (arith, ints, ge, shows, near (ahead v) (offsets v)))
 
 ends_gap : (ahead : ℤ → ℤ) (l k u : ℤ) → l <ℤ k → AreGaps ahead l k → IsFirst ahead k u → IsBehindGap ahead l u
 ends_gap ahead l k u later gaps first =
@@ -105,32 +119,32 @@ one_more : (ahead : ℤ → ℤ) (l k : ℤ) → AreGaps ahead l k → IsGap ahe
 one_more ahead l k gaps gap = λ j low high. by_lt_z j k (λ lt. gaps j low lt) (λ ge. subst (λ (x : ℤ). IsGap ahead x) (omega (arith, ints, ge, high)) gap)
 
 -- a gap in front of a second that the clock shows has an end
-find_end : (ahead : ℤ → ℤ) → ((k : ℤ) → (found : MappedLocalTime ℤ) × IsMapped ahead k found) → (n : ℕ) (l k v : ℤ) → l <ℤ k → AreGaps ahead l k → (k +ℤ pos n) ≡ (v +ℤ ahead v) → (u : ℤ) × IsBehindGap ahead l u
-find_end ahead mapped zero l k v later gaps is =
+find_end : (ahead : ℤ → ℤ) → ((u : ℤ) → IsOffset (ahead u)) → (n : ℕ) (l k v : ℤ) → l <ℤ k → AreGaps ahead l k → (k +ℤ pos n) ≡ (v +ℤ ahead v) → (u : ℤ) × IsBehindGap ahead l u
+find_end ahead offsets zero l k v later gaps is =
     ⊎_elim
     (λ gap. absurd (gap v (omega (arith, ints, is))))
     (λ first. (first.0, ends_gap ahead l k first.0 later gaps first.1))
-    (first_found ahead k (mapped k).0 (mapped k).1)
-find_end ahead mapped (suc n) l k v later gaps is =
+    (first_shown ahead offsets k)
+find_end ahead offsets (suc n) l k v later gaps is =
     ⊎_elim
-    (λ gap. find_end ahead mapped n l (k +ℤ pos 1) v (omega (arith, ints, later)) (one_more ahead l k gaps gap) (omega (arith, ints, is)))
+    (λ gap. find_end ahead offsets n l (k +ℤ pos 1) v (omega (arith, ints, later)) (one_more ahead l k gaps gap) (omega (arith, ints, is)))
     (λ first. (first.0, ends_gap ahead l k first.0 later gaps first.1))
-    (first_found ahead k (mapped k).0 (mapped k).1)
+    (first_shown ahead offsets k)
 
-fires_somewhere : (ahead : ℤ → ℤ) → ((u : ℤ) → IsOffset (ahead u)) → ((k : ℤ) → (found : MappedLocalTime ℤ) × IsMapped ahead k found) → (l : ℤ) → (u : ℤ) × Takes once_each ahead l u
-fires_somewhere ahead offsets mapped l =
+fires_somewhere : (ahead : ℤ → ℤ) → ((u : ℤ) → IsOffset (ahead u)) → (l : ℤ) → (u : ℤ) × Takes once_each ahead l u
+fires_somewhere ahead offsets l =
     ⊎_elim
     (λ gap.
     let v : ℤ = l +ℤ pos 86_400 in
     let n : ℕ = unsigned_abs (v +ℤ ahead v -ℤ (l +ℤ pos 1)) in
-    let end = find_end ahead mapped n l (l +ℤ pos 1) v (omega (arith, ints)) (λ j low high. subst (λ (x : ℤ). IsGap ahead x) (omega (arith, ints, low, high)) gap) (omega (arith, casts, near (ahead v) (offsets v))) in
+    let end = find_end ahead offsets n l (l +ℤ pos 1) v (omega (arith, ints)) (λ j low high. subst (λ (x : ℤ). IsGap ahead x) (omega (arith, ints, low, high)) gap) (omega (arith, casts, near (ahead v) (offsets v))) in
     (end.0, inr end.1))
     (λ first. (first.0, inl first.1))
-    (first_found ahead l (mapped l).0 (mapped l).1)
+    (first_shown ahead offsets l)
 
-pub one_firing : (ahead : ℤ → ℤ) → ((u : ℤ) → IsOffset (ahead u)) → ((k : ℤ) → (found : MappedLocalTime ℤ) × IsMapped ahead k found) → (l : ℤ) → (u : ℤ) × IsOnly (Takes once_each ahead l) u
-one_firing ahead offsets mapped l =
-    let there = fires_somewhere ahead offsets mapped l in
+pub one_firing : (ahead : ℤ → ℤ) → ((u : ℤ) → IsOffset (ahead u)) → (l : ℤ) → (u : ℤ) × IsOnly (Takes once_each ahead l) u
+one_firing ahead offsets l =
+    let there = fires_somewhere ahead offsets l in
     (there.0, λ v. (λ h. fires_once ahead l v there.0 h there.1, λ e. subst (λ (x : ℤ). Takes once_each ahead l x) (sym e) there.1))
 
 two_taken : (fold : Fold) (ahead : ℤ → ℤ) (l a b : ℤ) → IsMapped ahead l (Ambiguous a b) → (u : ℤ) × TakesShown fold ahead l u

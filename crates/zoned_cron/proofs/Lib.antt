@@ -1,6 +1,7 @@
 mod FiringLists
 mod Instants
 mod Windows
+mod TwoStretches
 mod Carried
 mod Gaps
 mod Stretches

@@ -1,5 +1,6 @@
 -- The first and the last firing where no change is near.
-use Rattle.std.proofs.Common.{◌≡◌, true, ℤ, pos, ◌+ℤ◌, ◌≤ℤ◌, ◌<ℤ◌, Some, refl, ◌∙◌}
+use Rattle.std.proofs.Common.{◌≡◌, true, ℤ, pos, ◌+ℤ◌, ◌≤ℤ◌, ◌-ℤ◌, ◌<ℤ◌, Some, ap, arith, refl, ◌∙◌}
+use Rattle.std.proofs.lemmas.Int.{ints}
 use Rattle.chrono_datetime.specs.Moment.{IsBefore, IsMoment, Moment}
 use Rattle.chrono_instant.specs.Instants.{LiesIn, epoch_second}
 use Rattle.chrono_instant.specs.Offsets.{IsOffset}
@@ -11,7 +12,8 @@ use Rattle.chrono_cron.specs.Due.{NotDueBetween, is_due}
 use Rattle.zoned_cron.specs.declared.schedule.ZonedSchedule.{ZonedSchedule}
 use Rattle.zoned_cron.specs.Fires.{Fires}
 use Rattle.zoned_cron.specs.FiringLists.{IsNextFiring}
-use Rattle.zoned_cron.specs.Private.{IsPreviousFiring, IsSettledAt}
+use Rattle.zoned_cron.specs.Private.{IsHeld, IsNextAtOffset, IsPreviousFiring, IsSettledAt, Outlasts, Precedes}
+use Rattle.zoned_cron.specs.declared.search.held.Held.{Held}
 use Rattle.zoned_cron.proofs.Stretches.{all_within, first_least, first_there, last_there, planned_at, planned_first, settled_greatest}
 use Rattle.zoned_cron.proofs.Windows.{due_fraction}
 
@@ -51,6 +53,18 @@ next_settled ahead z from until start local planned d stretch begun long i j is 
       later_there start d.utc c there.0 refl lies refl i,
       none_between (Fires s clock z.policy) start d.utc c least refl lies refl i,
     )
+
+-- by its offset the clock shows the next planned time after the start
+pub shown_later : {Z : Type 0} (z : ZonedSchedule Z) (offset : ℤ) (start m : Moment) → IsNextAtOffset z offset start m → epoch_second start <ℤ (epoch_second m -ℤ offset)
+shown_later z offset start m due =
+    let more = later_second due.local m due.local_exists due.later (due_fraction z.schedule.sets m due.due) in
+    omega (arith, ints, more, due.second)
+
+-- the same for a stretch that a search keeps
+pub next_held : {Z : Type 0} (ahead : Z → ℤ → ℤ) (z : ZonedSchedule Z) (h : Held) (start m : Moment) (d : Zoned Z) → IsHeld (ahead z.zone) h → Precedes h (epoch_second start) → Outlasts h (epoch_second start) → IsNextAtOffset z h.offset start m → IsSettledAt ahead z.zone m d → IsNextFiring ahead z start (Some d)
+next_held ahead z h start m d held begun high due found =
+    let is : epoch_second due.local ≡ (epoch_second start +ℤ ahead z.zone h.from) = due.second ∙ ap (λ (x : ℤ). epoch_second start +ℤ x) held.offset in
+    next_settled ahead z h.from h.until start due.local m d (record { holds = held.holds; near = held.near }) begun high due.begin due.local_exists is (record { exists = due.exists; due = due.due; later = due.later; least = due.least }) found
 
 pub last_settled_there : {Z : Type 0} (ahead : Z → ℤ → ℤ) (z : ZonedSchedule Z) (from until stop : ℤ) (end local planned : Moment) (d : Zoned Z) → IsStretch (ahead z.zone) from until → (from +ℤ pos 172_800) ≤ℤ stop → stop ≤ℤ until → IsFirstFrom stop end → IsMoment end → LiesIn (stop +ℤ ahead z.zone from) 0 local → IsLastDue z local planned → IsSettledAt ahead z.zone planned d → IsPreviousFiring ahead z end d
 last_settled_there ahead z from until stop end local planned d stretch begun high first i is last found =

@@ -1,5 +1,5 @@
 -- The first firing where the clock keeps its offset until then, and shows the planned local time at no other instant.
-use Rattle.std.proofs.Common.{◌≡◌, ℤ, ◌+ℤ◌, ◌-ℤ◌, ◌≤ℤ◌, ◌<ℤ◌, Some, arith, refl, subst, sym, ◌∙◌}
+use Rattle.std.proofs.Common.{◌≡◌, ℤ, ◌+ℤ◌, ◌-ℤ◌, ◌<ℤ◌, Some, ap, arith, refl, subst, sym, ◌∙◌}
 use Rattle.std.proofs.lemmas.Int.{ints}
 use Rattle.chrono_datetime.specs.Moment.{IsMoment, Moment}
 use Rattle.chrono_instant.specs.Instants.{LiesIn, epoch_second}
@@ -11,7 +11,10 @@ use Rattle.chrono_zoned.proofs.HeldSecondLemmas.{holds_there, later_second, late
 use Rattle.zoned_cron.specs.declared.schedule.ZonedSchedule.{ZonedSchedule}
 use Rattle.zoned_cron.specs.Fires.{Fires}
 use Rattle.zoned_cron.specs.FiringLists.{IsNextFiring}
-use Rattle.zoned_cron.proofs.Settled.{IsNextDue}
+use Rattle.zoned_cron.specs.Private.{IsHeld, IsNextAtOffset, IsOnceIn, Precedes}
+use Rattle.zoned_cron.specs.declared.search.held.Held.{Held}
+use Rattle.zoned_cron.proofs.HeldInstants.{begins_sooner, holds_from_start, only_between}
+use Rattle.zoned_cron.proofs.Settled.{IsNextDue, shown_later}
 use Rattle.zoned_cron.proofs.Stretches.{least_in_stretch, near_shows, only_fires, planned_at, planned_first}
 use Rattle.zoned_cron.proofs.Windows.{due_fraction}
 
@@ -42,3 +45,18 @@ next_shown_once ahead z until only start local planned d holds offsets i j is ne
       later_there start d.utc c (later_shown (epoch_second start) (epoch_second local) l (clock (epoch_second start)) c is later at) refl lies refl i,
       none_between (Fires s clock z.policy) start d.utc c least refl lies refl i,
     )
+
+-- so it is where all instants of the planned local time lie in a stretch that a search keeps
+pub next_between : {Z : Type 0} (ahead : Z → ℤ → ℤ) (z : ZonedSchedule Z) (h : Held) (start m : Moment) (d : Zoned Z) → IsHeld (ahead z.zone) h → Precedes h (epoch_second start) → IsNextAtOffset z h.offset start m → IsOnceIn ahead z.zone h m d → IsNextFiring ahead z start (Some d)
+next_between ahead z h start m d held begun due found =
+    let clock = ahead z.zone in
+    let x = epoch_second start in
+    let l = epoch_second m in
+    let later = shown_later z h.offset start m due in
+    let low = begins_sooner clock h x l held begun later in
+    let there = holds_from_start clock h x l held begun later found.high in
+    let is : epoch_second due.local ≡ (x +ℤ clock x) = due.second ∙ ap (λ (o : ℤ). x +ℤ o) (sym there.0) in
+    let same : (l -ℤ h.offset) ≡ (l -ℤ clock x) = ap (λ (o : ℤ). l -ℤ o) (sym there.0) in
+    next_shown_once ahead z h.until (l -ℤ h.offset) start due.local m d there.2 held.near due.begin due.local_exists is
+    (record { exists = due.exists; due = due.due; later = due.later; least = due.least }) (subst (λ (c : ℤ). c <ℤ h.until) same there.1)
+    (only_between clock h l held low found.high) (found.second ∙ same) found.fraction found.local

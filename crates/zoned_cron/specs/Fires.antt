@@ -3,7 +3,8 @@
 -- The rule is that of the cron of Paul Vixie, and of cronie after it, told in our words: its manual, cron(8), has it where it speaks of daylight
 -- saving time. A job at a fixed time that the clock skips is run when the clock has been set ahead. One whose time comes twice is not run again.
 -- A job with `*` in the minute or the hour goes by what the clock shows. The manual takes a change of more than three hours for a correction of
--- a wrong clock. Here a change of any length counts, which is our choice.
+-- a wrong clock. Here a change of any length counts, which is our choice. The program cronie starts a job once for each minute that was
+-- skipped. Here an instant is one firing, however many minutes it stands for.
 use Rattle.std.specs.Prelude.{◌≡◌, ◌⊎◌, ◌<◌, ℕ, true, ℤ, ◌+ℤ◌, ◌≤ℤ◌, ◌<ℤ◌}
 use Rattle.chrono_sets.specs.FiniteSets.{FiniteSet, has}
 use Rattle.chrono_datetime.specs.Moment.{IsMoment, Moment}
@@ -87,7 +88,8 @@ NotFiringBefore s ahead p end = HoldsNotBefore (Fires s ahead p) end
 
 -- ---- the two policies of Vixie's cron
 
--- a field lists each number below n, as `*` does; `*/2` does not, so that it is no wildcard, which is our choice
+-- a field lists each number below n, as `*` does. `*/2` does not, so it is no wildcard, which is our choice: the program cronie takes each field
+-- that begins with `*` for one
 abbrev pub ListsAll : FiniteSet → ℕ → Type 0
 ListsAll set n = (k : ℕ) → k < n → has set k ≡ true
 

@@ -1,5 +1,5 @@
 -- Words of functions that are not public.
-use Rattle.std.specs.Prelude.{◌≡◌, true, ℤ, ◌+ℤ◌, ◌-ℤ◌, ◌≤ℤ◌, ◌<ℤ◌, pos, neg_ℤ, Option, Some, None}
+use Rattle.std.specs.Prelude.{◌≡◌, ◌⊎◌, true, ℤ, ◌+ℤ◌, ◌-ℤ◌, ◌≤ℤ◌, ◌<ℤ◌, pos, neg_ℤ, Option, Some, None}
 use Rattle.chrono_datetime.specs.Moment.{IsBefore, IsMoment, Moment}
 use Rattle.chrono_instant.specs.Instants.{IsEpochSecond, epoch_second}
 use Rattle.chrono_instant.specs.Offsets.{IsOffset}
@@ -8,7 +8,7 @@ use Rattle.chrono_zoned.specs.declared.mapped_local_time.MappedLocalTime.TheVari
 use Rattle.chrono_zoned.specs.Zoned.{IsLocal, Zoned}
 use Rattle.chrono_zoned.specs.Zones.{HoldsUntil, Shows}
 use Rattle.chrono_cron.specs.declared.field_sets.FieldSets.{FieldSets}
-use Rattle.chrono_cron.specs.Due.{is_due}
+use Rattle.chrono_cron.specs.Due.{NotDueBetween, is_due}
 use Rattle.zoned_cron.specs.declared.policy.Policy.{Policy}
 use Rattle.zoned_cron.specs.declared.schedule.ZonedSchedule.{ZonedSchedule}
 use Rattle.zoned_cron.specs.declared.search.held.Held.{Held}
@@ -63,14 +63,56 @@ pub record IsHeld (ahead : ℤ → ℤ) (h : Held) : Type 0 where
 abbrev pub IsNearADate : ℤ → Type 0
 IsNearADate u = (neg_ℤ (pos 8_334_601_315_200) ≤ℤ u) × (u ≤ℤ pos 8_210_266_963_199)
 
--- a stretch holds for two days before the second u, and for two days from then on
-pub record Surrounds (h : Held) (u : ℤ) : Type 0 where
-  pub low : (h.from +ℤ pos 172_800) ≤ℤ u
-  pub high : (u +ℤ pos 172_800) ≤ℤ h.until
+-- a stretch begins two days before the second u or earlier
+abbrev pub Precedes : Held → ℤ → Type 0
+Precedes h u = (h.from +ℤ pos 172_800) ≤ℤ u
+
+-- and it holds for two days from u on
+abbrev pub Outlasts : Held → ℤ → Type 0
+Outlasts h u = (u +ℤ pos 172_800) ≤ℤ h.until
 
 -- if no change is near the instant of the local time m, it is the first instant after UTC's `start` at which z fires
 abbrev pub IsNextIfSettled : {Z : Type 0} → (Z → ℤ → ℤ) → ZonedSchedule Z → Moment → Moment → Type 0
 IsNextIfSettled {Z} ahead z start m = (d : Zoned Z) → IsSettledAt ahead z.zone m d → IsNextFiring ahead z start (Some d)
+
+-- m is the first local time that is planned after what a clock so far ahead of UTC shows where UTC shows `start`
+pub record IsNextAtOffset {Z : Type 0} (z : ZonedSchedule Z) (offset : ℤ) (start m : Moment) : Type 0 where
+  pub begin : IsMoment start
+  pub local : Moment
+  pub local_exists : IsMoment local
+  pub second : epoch_second local ≡ (epoch_second start +ℤ offset)
+  pub exists : IsMoment m
+  pub due : is_due z.schedule.sets m ≡ true
+  pub later : IsBefore local m
+  pub least : NotDueBetween z.schedule.sets local m
+
+-- a stretch begins a day before the local second l or earlier, as if that were one of UTC: where the clock shows l, it has begun
+abbrev pub BeginsBefore : Held → ℤ → Type 0
+BeginsBefore h l = (h.from +ℤ pos 86_400) ≤ℤ l
+
+-- and it ends no sooner than a day behind l
+abbrev pub EndsBehind : Held → ℤ → Type 0
+EndsBehind h l = (l +ℤ pos 86_400) ≤ℤ h.until
+
+-- d is the instant at which the clock of the zone z shows m by the offset of a stretch that ends behind m
+pub record IsOnceIn {Z : Type 0} (ahead : Z → ℤ → ℤ) (z : Z) (h : Held) (m : Moment) (d : Zoned Z) : Type 0 where
+  pub local : IsLocal ahead z m d
+  pub fraction : d.utc.time.fraction ≡ m.time.fraction
+  pub second : epoch_second d.utc ≡ (epoch_second m -ℤ h.offset)
+  pub high : EndsBehind h (epoch_second m)
+
+-- of two stretches that follow each other the clock shows the local second l at c alone, by the offset of the stretch in which c lies; no change
+-- but the one between them is near
+pub record IsInTwo (h k : Held) (l c : ℤ) : Type 0 where
+  pub begun : BeginsBefore h l
+  pub high : EndsBehind k l
+  pub only : ((c ≡ (l -ℤ h.offset)) × (c <ℤ k.from) × ((l -ℤ k.offset) <ℤ k.from)) ⊎ ((c ≡ (l -ℤ k.offset)) × (k.from ≤ℤ c) × (k.from ≤ℤ (l -ℤ h.offset)))
+
+-- and d is the instant c in the zone z
+pub record IsOnceInTwo {Z : Type 0} (ahead : Z → ℤ → ℤ) (z : Z) (h k : Held) (m : Moment) (d : Zoned Z) : Type 0 where
+  pub local : IsLocal ahead z m d
+  pub fraction : d.utc.time.fraction ≡ m.time.fraction
+  pub two : IsInTwo h k (epoch_second m) (epoch_second d.utc)
 
 -- d is the last instant before UTC's `end` at which z fires
 abbrev pub IsPreviousFiring : {Z : Type 0} → (Z → ℤ → ℤ) → ZonedSchedule Z → Moment → Zoned Z → Type 0

@@ -27,10 +27,10 @@ pub fn no_planned_time_fires_twice()
 
 /// By the policy of a schedule with fixed times, each planned local time fires at one instant, and at no other.
 ///
-/// So a day has a firing for each of its planned minutes. Those that one gap skips have their firing in common. The clock is ahead of UTC
-/// by less than a day, and each local second stands for at most two instants, as in every [`TimeZone`](crate::TimeZone).
+/// So a day has a firing for each of its planned minutes. Those that one gap skips have their firing in common. All that is asked of the clock is
+/// that each of its offsets is less than a day, as every [`TimeZone`](crate::TimeZone) promises.
 pub fn each_planned_time_fires_once()
-    ensures { (ahead : ℤ → ℤ) → ((u : ℤ) → IsOffset (ahead u)) → ((k : ℤ) → (found : MappedLocalTime ℤ) × IsMapped ahead k found)
+    ensures { (ahead : ℤ → ℤ) → ((u : ℤ) → IsOffset (ahead u))
         → (l : ℤ) → (u : ℤ) × IsOnly (Takes once_each ahead l) u }
 {}
 
@@ -39,7 +39,7 @@ pub fn each_planned_time_fires_once()
 /// Each planned minute fires at one instant, and no two at the same. Each moment at which the schedule is due is the beginning of one of them.
 /// A minute that the clock skips at the end of the day before may fire on this day besides.
 pub fn a_day_fires_as_often_as_planned()
-    ensures day { (s : FieldSets) (ahead : ℤ → ℤ) → ((u : ℤ) → IsOffset (ahead u)) → ((k : ℤ) → (found : MappedLocalTime ℤ) × IsMapped ahead k found)
+    ensures day { (s : FieldSets) (ahead : ℤ → ℤ) → ((u : ℤ) → IsOffset (ahead u))
         → (n : ℤ) → ShowsMinutes ahead n → (fired : List ℤ) × FireOnceEach ahead n (planned_minutes s n) fired × AreDifferent fired }
     ensures minutes { (s : FieldSets) (m : Moment) → IsMoment m → is_due s m ≡ true
         → (k : ℕ) × (m ≡ minute_of_day m.date k) × Contains (planned_minutes s m.date) k }
@@ -60,7 +60,7 @@ pub fn one_gap_fires_once()
 ///
 /// So the planned minutes of one gap count as one firing. A planned minute that begins where the gap ends shares it.
 pub fn minutes_of_a_gap_fire_together()
-    ensures { (s : FieldSets) (ahead : ℤ → ℤ) → ((u : ℤ) → IsOffset (ahead u)) → ((k : ℤ) → (found : MappedLocalTime ℤ) × IsMapped ahead k found)
+    ensures { (s : FieldSets) (ahead : ℤ → ℤ) → ((u : ℤ) → IsOffset (ahead u))
         → (n : ℤ) → (fired : List ℤ) × FireTogether ahead n (planned_minutes s n) fired × AreDifferent fired }
 {}
 

@@ -55,7 +55,9 @@ impl Policy {
     ///
     /// A schedule with fixed minutes and hours fires once for each planned local time: at the first instant behind a gap, and at the
     /// earlier instant of a fold. One that lists every minute of the hour, or every hour of the day, follows the clock as it runs.
-    /// A field such as `*/15` lists only some numbers. It counts as fixed.
+    /// A field such as `*/15` lists only some numbers, and counts as fixed. The program cronie takes it for `*`, as each field that begins so.
+    ///
+    /// Times that one gap skips fire together, at one instant. The program starts a job once for each of them.
     ///
     /// ```
     /// Policy::vixie(&read_schedule(b"30 2 * * *").ok()?) // Policy { gap: FirstAfter, fold: Earlier }

@@ -95,8 +95,8 @@ impl<Z: TimeZone> ZonedSchedule<Z> {
     {
         let utc = start.naive_utc();
         date_times_exist(utc);
-        let held = Held::around(self.zone, utc.timestamp());
-        self.first_by(utc, &held)
+        let held = Held::around(&self.zone, utc.timestamp());
+        self.first_by(&utc, &held)
     }
 
     /// Returns the last instant before `start` at which the schedule fires.

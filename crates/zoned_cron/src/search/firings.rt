@@ -2,7 +2,7 @@
 ghost use Rattle.std.specs.Prelude.{◌≡◌, Some};
 ghost use Rattle.chrono_instant.specs.Instants.{IsEpochSecond};
 ghost use Rattle.zoned_cron.specs.FiringLists.{GivesNext, instants_left};
-ghost use Rattle.zoned_cron.specs.Private.{IsHeld};
+ghost use Rattle.zoned_cron.specs.Private.{IsHeld, Precedes};
 
 use crate::schedule::ZonedSchedule;
 use crate::search::held::Held;
@@ -48,7 +48,7 @@ impl<Z: TimeZone> Firings<Z> {
         Firings {
             schedule,
             last: Some(start),
-            held: Held::around(schedule.zone, utc.timestamp()),
+            held: Held::around(&schedule.zone, utc.timestamp()),
         }
     }
 
@@ -56,12 +56,13 @@ impl<Z: TimeZone> Firings<Z> {
     #[inline]
     fn held_near(&self, second: i64) -> Held
         requires { IsEpochSecond second }
-        ensures { IsHeld (Z.ahead self.now.schedule.zone) result }
+        ensures held { IsHeld (Z.ahead self.now.schedule.zone) result }
+        ensures begun { Precedes result second }
     {
         if self.held.surrounds(second) {
             return self.held;
         }
-        Held::around(self.schedule.zone, second)
+        Held::around(&self.schedule.zone, second)
     }
 }
 
@@ -79,7 +80,7 @@ impl<Z: TimeZone> Iterator for Firings<Z> {
         date_times_exist(utc);
         let held = self.held_near(utc.timestamp());
         self.held = held;
-        self.last = self.schedule.first_by(utc, &held);
+        self.last = self.schedule.first_by(&utc, &held);
         self.last
     }
 }

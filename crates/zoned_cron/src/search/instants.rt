@@ -1,17 +1,17 @@
 //! The instants at which one planned local time fires.
-ghost use Rattle.std.specs.Prelude.{◌≡◌, ◌↔◌, ◌<◌, ℤ, pos, ◌+ℤ◌, ◌-ℤ◌, ◌≤ℤ◌, ◌<ℤ◌, neg_ℤ, IfNone, IfSome, IsTrue};
+ghost use Rattle.std.specs.Prelude.{◌≡◌, ◌↔◌, ◌<◌, ℤ, pos, ◌+ℤ◌, ◌*ℤ◌, ◌-ℤ◌, ◌≤ℤ◌, ◌<ℤ◌, neg_ℤ, IfNone, IfSome, IsTrue};
 ghost use Rattle.chrono_datetime.specs.Moment.{IsMoment};
 ghost use Rattle.chrono_instant.specs.Instants.{IsEpochSecond, LiesIn, epoch_second};
 ghost use Rattle.chrono_zoned.specs.Offsets.{IsOffset};
 ghost use Rattle.chrono_zoned.specs.Zones.{AreAll, IsAmong, Shows};
 ghost use Rattle.zoned_cron.specs.Fires.{Fires, IsGap};
-ghost use Rattle.zoned_cron.specs.Private.{EndsGap, IfTwo, IsHeld, IsLastIn, IsNearADate, IsSettledAt, TakesDated};
+ghost use Rattle.zoned_cron.specs.Private.{BeginsBefore, EndsGap, IfTwo, IsHeld, IsInTwo, IsLastIn, IsNearADate, IsOnceIn, IsOnceInTwo, IsSettledAt, TakesDated};
 
 use crate::policy::{Fold, Gap};
 use crate::schedule::ZonedSchedule;
 use crate::search::held::Held;
 use chrono_datetime::law::date_times_exist;
-use chrono_datetime::{NaiveDateTime, Timelike};
+use chrono_datetime::{NaiveDateTime, NaiveTime, Timelike};
 use chrono_instant::{FixedOffset, FromTimestamp, Timestamp};
 use chrono_zoned::{DateTime, MappedLocalTime, TimeZone};
 
@@ -141,6 +141,92 @@ pub(crate) fn settled_instant<Z: TimeZone>(
         DateTime::from_local_and_offset(planned, held.offset, zone)
     } else {
         None
+    }
+}
+
+// The instant at which the clock shows a planned local time by the offset of the stretch, if that ends behind all at which the clock may show it.
+#[inline(always)]
+pub(crate) fn instant_ahead<Z: TimeZone>(
+    zone: Z,
+    held: &Held,
+    planned: NaiveDateTime,
+) -> Option<DateTime<Z>>
+    requires held { IsHeld (Z.ahead zone) held.now }
+    requires begun { BeginsBefore held.now (epoch_second planned) }
+    ensures { IfSome result (IsOnceIn Z.ahead zone held.now planned) }
+{
+    date_times_exist(planned);
+    if held.ends_behind(planned.timestamp()) {
+        DateTime::from_local_and_offset(planned, held.offset, zone)
+    } else {
+        None
+    }
+}
+
+// The instant at which the clock shows a planned local time, in one of two stretches that follow each other, if it shows it at no other.
+pub(crate) fn instant_in_two<Z: TimeZone>(
+    zone: Z,
+    first: &Held,
+    next: &Held,
+    planned: NaiveDateTime,
+) -> Option<DateTime<Z>>
+    requires first { IsHeld (Z.ahead zone) first.now }
+    requires next { IsHeld (Z.ahead zone) next.now }
+    requires at { next.now.from ≡ first.now.until }
+    ensures { IfSome result (IsOnceInTwo Z.ahead zone first.now next.now planned) }
+{
+    date_times_exist(planned);
+    let offset = offset_in_two(first, next, planned.timestamp())?;
+    DateTime::from_local_and_offset(planned, offset, zone)
+}
+
+// The offset that leads from a local second to that instant.
+fn offset_in_two(first: &Held, next: &Held, local: i64) -> Option<FixedOffset>
+    requires { IsEpochSecond local }
+    ensures { IfSome result (λ offset. IsInTwo first.now next.now local (local -ℤ offset)) }
+{
+    if !first.begins_before(local) {
+        return None;
+    }
+    if !next.ends_behind(local) {
+        return None;
+    }
+    let by_first = before(local, first.offset);
+    let by_next = before(local, next.offset);
+    if by_first < next.from && by_next < next.from {
+        return Some(first.offset);
+    }
+    if next.from <= by_first && next.from <= by_next {
+        return Some(next.offset);
+    }
+    None
+}
+
+// The beginning of the second that a clock so far ahead of UTC shows. It is found without a division.
+#[inline(always)]
+pub(crate) fn shown_ahead(utc: NaiveDateTime, offset: FixedOffset) -> Option<NaiveDateTime>
+    ensures { IfSome result (λ m. epoch_second m ≡ epoch_second utc +ℤ offset) }
+{
+    let second = utc.num_seconds_from_midnight() as i32 + offset.local_minus_utc();
+    let (days, second) = day_and_second(second);
+    let date = utc.date().moved_by_days(days)?;
+    let time = NaiveTime::from_num_seconds_from_midnight_opt(second, 0)?;
+    Some(NaiveDateTime::new(date, time))
+}
+
+// By how many days a second lies outside its day, and which second of that other day it is.
+#[inline(always)]
+fn day_and_second(second: i32) -> (i64, u32)
+    requires low { neg_ℤ (pos 86_400) ≤ℤ second }
+    requires high { second <ℤ pos 172_800 }
+    ensures { result.0 *ℤ pos 86_400 +ℤ pos result.1 ≡ second }
+{
+    if second < 0 {
+        (-1, (second + 86_400) as u32)
+    } else if second < 86_400 {
+        (0, second as u32)
+    } else {
+        (1, (second - 86_400) as u32)
     }
 }
 

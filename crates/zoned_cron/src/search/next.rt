@@ -1,16 +1,18 @@
 //! The first instant after a start at which a schedule fires.
-ghost use Rattle.std.specs.Prelude.{ℤ, ◌<ℤ◌, IfSome, Some};
+ghost use Rattle.std.specs.Prelude.{◌≡◌, ℤ, ◌+ℤ◌, ◌-ℤ◌, ◌<ℤ◌, IfSome, Some};
 ghost use Rattle.chrono_instant.specs.Instants.{IsEpochSecond, epoch_second};
 ghost use Rattle.zoned_cron.specs.Fires.{Fires};
 ghost use Rattle.zoned_cron.specs.FiringLists.{IsNextFiring};
-ghost use Rattle.zoned_cron.specs.Private.{IsAtLeast, IsHeld, IsInDates, IsNextIfSettled, IsPlanned};
+ghost use Rattle.zoned_cron.specs.Private.{IsAtLeast, IsHeld, IsInDates, IsNextAtOffset, IsPlanned, IsSettledAt, Precedes};
 
 use crate::schedule::ZonedSchedule;
 use crate::search::held::Held;
-use crate::search::instants::{DAY, LAST_SECOND, before, settled_instant};
+use crate::search::instants::{
+    DAY, LAST_SECOND, before, instant_ahead, instant_in_two, settled_instant, shown_ahead,
+};
 use chrono_datetime::NaiveDateTime;
 use chrono_datetime::law::{date_times_exist, first_date_time};
-use chrono_instant::{FromTimestamp, Timestamp};
+use chrono_instant::{FixedOffset, FromTimestamp, Timestamp};
 use chrono_zoned::{AddOffset, DateTime, InZone, MappedLocalTime, TimeZone};
 
 impl<Z: TimeZone> ZonedSchedule<Z> {
@@ -30,27 +32,94 @@ impl<Z: TimeZone> ZonedSchedule<Z> {
         None
     }
 
-    // The first instant after `start` at which the schedule fires. `held` is any stretch of the zone's clock: one around the start makes it fast.
-    #[inline]
-    pub(crate) fn first_by(&self, start: NaiveDateTime, held: &Held) -> Option<DateTime<Z>>
-        requires { IsHeld (Z.ahead self.now.zone) held.now }
-        ensures { IsNextFiring Z.ahead self.now start result }
+    // The first instant after `start` at which the schedule fires. `held` is a stretch of the zone's clock that begins two days before the start or
+    // earlier. One that ends late makes it fast.
+    #[inline(always)]
+    pub(crate) fn first_by(&self, start: &NaiveDateTime, held: &Held) -> Option<DateTime<Z>>
+        requires held { IsHeld (Z.ahead self.now.zone) held.now }
+        requires begun { Precedes held.now (epoch_second start.now) }
+        ensures { IsNextFiring Z.ahead self.now start.now result }
     {
-        if let Some(found) = self.first_settled(start, held) {
+        let Some(planned) = self.planned_by(*start, held.offset) else {
+            return self.first_near(start);
+        };
+        if let Some(found) = instant_ahead(self.zone, held, planned) {
             return Some(found);
+        }
+        self.first_behind(start, held, &planned)
+    }
+
+    // The same, where the stretch ends near the next planned local time or before it.
+    #[inline(never)]
+    fn first_behind(
+        &self,
+        start: &NaiveDateTime,
+        held: &Held,
+        planned: &NaiveDateTime,
+    ) -> Option<DateTime<Z>>
+        requires held { IsHeld (Z.ahead self.now.zone) held.now }
+        requires begun { Precedes held.now (epoch_second start.now) }
+        requires next { IsNextAtOffset self.now held.now.offset start.now planned.now }
+        ensures { IsNextFiring Z.ahead self.now start.now result }
+    {
+        date_times_exist(*start);
+        if let Some(found) = self.first_in_two(*start, held, *planned) {
+            return Some(found);
+        }
+        if held.outlasts(start.timestamp()) {
+            if let Some(found) = self.settled_beyond(*planned) {
+                return Some(found);
+            }
         }
         self.first_near(start)
     }
 
-    // The same, where a change may be near.
-    #[inline(never)]
-    fn first_near(&self, start: NaiveDateTime) -> Option<DateTime<Z>>
-        ensures { IsNextFiring Z.ahead self.now start result }
+    // The same, by the stretch and the next one. `None` says nothing.
+    fn first_in_two(
+        &self,
+        start: NaiveDateTime,
+        held: &Held,
+        planned: NaiveDateTime,
+    ) -> Option<DateTime<Z>>
+        requires held { IsHeld (Z.ahead self.now.zone) held.now }
+        requires begun { Precedes held.now (epoch_second start) }
+        requires next { IsNextAtOffset self.now held.now.offset start planned }
+        ensures { IfSome result (λ d. IsNextFiring Z.ahead self.now start (Some d)) }
     {
-        if let Some(found) = self.first_shown_once(start) {
+        date_times_exist(start);
+        let second = start.timestamp();
+        let next = Held::from_second(&self.zone, held.until);
+        if held.until <= second {
+            let Some(planned) = self.planned_by(start, next.offset) else {
+                return None;
+            };
+            return instant_in_two(self.zone, held, &next, planned);
+        }
+        let again = shown_again(second, held.offset, next.offset);
+        if held.until <= again {
+            return None;
+        }
+        instant_in_two(self.zone, held, &next, planned)
+    }
+
+    // The same, where a change may be near the start.
+    #[inline(never)]
+    fn first_near(&self, start: &NaiveDateTime) -> Option<DateTime<Z>>
+        ensures { IsNextFiring Z.ahead self.now start.now result }
+    {
+        if let Some(found) = self.first_shown_once(*start) {
             return Some(found);
         }
-        self.first_searched(start)
+        self.first_searched(*start)
+    }
+
+    // The instant of a planned local time, if no change is near it.
+    fn settled_beyond(&self, planned: NaiveDateTime) -> Option<DateTime<Z>>
+        ensures { IfSome result (IsSettledAt Z.ahead self.now.zone planned) }
+    {
+        date_times_exist(planned);
+        let near = Held::from_second(&self.zone, planned.timestamp() - 3 * DAY);
+        settled_instant(self.zone, near, planned)
     }
 
     // The same, where the clock keeps its offset from the start until the instant, and shows the planned local time only there. `None` says
@@ -87,36 +156,16 @@ impl<Z: TimeZone> ZonedSchedule<Z> {
             .timestamp_opt(self.first_after(start.timestamp())?, 0)
     }
 
-    // The same, where the stretch surrounds the start, and no change is near the instant. `None` says nothing.
-    #[inline]
-    fn first_settled(&self, start: NaiveDateTime, held: &Held) -> Option<DateTime<Z>>
-        requires { IsHeld (Z.ahead self.now.zone) held.now }
-        ensures { IfSome result (λ d. IsNextFiring Z.ahead self.now start (Some d)) }
-    {
-        let Some(planned) = self.planned_around(start, held) else {
-            return None;
-        };
-        date_times_exist(planned);
-        if let Some(found) = settled_instant(self.zone, *held, planned) {
-            return Some(found);
-        }
-        let near = Held::from_second(self.zone, planned.timestamp() - 3 * DAY);
-        settled_instant(self.zone, near, planned)
-    }
-
-    // The first planned local time after `start`, if the stretch surrounds the start.
-    #[inline]
-    fn planned_around(&self, start: NaiveDateTime, held: &Held) -> Option<NaiveDateTime>
-        requires { IsHeld (Z.ahead self.now.zone) held.now }
-        ensures { IfSome result (IsNextIfSettled Z.ahead self.now start) }
+    // The first local time after the start that is planned, where the clock is so far ahead of UTC.
+    #[inline(always)]
+    fn planned_by(&self, start: NaiveDateTime, offset: FixedOffset) -> Option<NaiveDateTime>
+        ensures { IfSome result (IsNextAtOffset self.now offset start) }
     {
         date_times_exist(start);
-        if !held.surrounds(start.timestamp()) {
-            return None;
-        }
-        let Some(local) = start.checked_add_offset(held.offset) else {
+        let Some(local) = shown_ahead(start, offset) else {
             return None;
         };
+        date_times_exist(local);
         let Some(planned) = self.schedule.next_after(local) else {
             return None;
         };
@@ -189,6 +238,14 @@ impl<Z: TimeZone> ZonedSchedule<Z> {
         }
         self.planned_behind(first)
     }
+}
+
+// The instant from which on a clock that is set to the next offset shows no more what it has shown up to a second.
+fn shown_again(second: i64, first: FixedOffset, next: FixedOffset) -> i64
+    requires { IsEpochSecond second }
+    ensures { result ≡ second +ℤ first -ℤ next }
+{
+    second + i64::from(first.local_minus_utc()) - i64::from(next.local_minus_utc())
 }
 
 // A second, if it lies no later than UTC's dates.

@@ -44,7 +44,7 @@ impl<Z: TimeZone> ZonedSchedule<Z> {
         ensures { IfSome result (IsPreviousFiring Z.ahead self.now end) }
     {
         let end = begun_by(end);
-        let held = Held::from_second(self.zone, end - 5 * DAY);
+        let held = Held::from_second(&self.zone, end - 5 * DAY);
         if held.until < end {
             return None;
         }
@@ -59,7 +59,7 @@ impl<Z: TimeZone> ZonedSchedule<Z> {
         if let Some(found) = settled_instant(self.zone, held, planned) {
             return Some(found);
         }
-        let near = Held::from_second(self.zone, planned.timestamp() - 3 * DAY);
+        let near = Held::from_second(&self.zone, planned.timestamp() - 3 * DAY);
         settled_instant(self.zone, near, planned)
     }
 

@@ -15,7 +15,7 @@ returns-clause-value c =
     let second : c.self.inside.second ≡ c.args.self.now.second = ap (λ (x : YearlyChange). x.second) c.self.view_is in
     let number : to_z w32 (of_z w32 c.number_in.result) ≡ day_in_year c.args.year c.args.self.now.day =
     to_z-of_z w32 c.number_in.result (record { sfits = c.number_in.type_inv }) ∙ c.number_in.ensures.value ∙ ap (λ (y : ℤ). day_in_year y c.self.inside.day) year ∙ ap (λ (d : RuleDay). day_in_year c.args.year d) day in
-    let shown : to_z w32 (of_z w32 c.self.inside.second) ≡ c.args.self.now.second = to_z-of_z w32 c.self.inside.second (fits32 c.self.inside.second c.self.invariant.second) ∙ second in
+    let shown : to_z w32 (of_z w32 c.self.inside.second) ≡ c.args.self.now.second = to_z-of_z w32 c.self.inside.second (fits32 c.self.inside.second c.self.invariant.change.second) ∙ second in
     let offset : to_z w32 (of_z w32 c.local_minus_utc.result) ≡ c.args.offset = to_z-of_z w32 c.local_minus_utc.result (record { sfits = c.local_minus_utc.type_inv }) ∙ c.local_minus_utc.ensures.value in
     to_z-of_z w64 c.second_of.result (record { sfits = c.second_of.type_inv })
     ∙ c.second_of.ensures.value
