@@ -8,7 +8,7 @@ use Rattle.zoned_rules.specs.LocalTimes.{has_one_time, is_above_hours, lacks_tim
 use Rattle.zoned_rules.specs.declared.clock_steps.ClockSteps.{ClockSteps}
 use Rattle.zoned_rules.specs.declared.clock_steps.ClockUnit.{ClockUnit}
 use Rattle.zoned_rules.specs.declared.clock_steps.ClockUnit.TheVariants.{Day, Hour, Minute, Second}
-use Rattle.calendar_rules.specs.Recurrences.{IsRuleOf, start_alone}
+use Rattle.calendar_rules.specs.Recurrences.{IsRuleOf}
 use Rattle.calendar_rules.specs.TimedRuleTexts.{days_by, fits_clock, steps_by}
 use Rattle.calendar_rules.specs.declared.timed_rule.TimedRule.{TimedRule}
 

@@ -1,5 +1,5 @@
 -- What is read is the rule of the text, and no other.
-use Rattle.std.proofs.Common.{◌≡◌, true, false, Option, Some, None, IsSome, Ok, Err, IfOk, IsErr, List, ℕ, refl, sym, subst, ap, ◌∙◌}
+use Rattle.std.proofs.Common.{◌≡◌, ◌⊎◌, inl, inr, true, false, Option, Some, None, IsSome, Ok, Err, IfErr, IfOk, IsErr, List, ℕ, refl, sym, subst, ap, ◌∙◌}
 use Rattle.std.specs.Prelude.{Result, codes}
 use Rattle.std.proofs.lemmas.Bool.{both_ways}
 use Rattle.std.proofs.lemmas.Option.{same_Some}
@@ -13,7 +13,9 @@ use Rattle.zoned_rules.specs.declared.day_times.DayTimes.{DayTimes}
 use Rattle.calendar_rules.specs.TimedRuleTexts.{IsTimedRuleText, bound_of, text_of_days, days_by, fits_clock, number_list_of, clock_part_key, steps_by, unit_of}
 use Rattle.calendar_rules.specs.declared.clock_part.ClockPart.{ClockPart}
 use Rattle.calendar_rules.specs.declared.clock_part.ClockPart.TheVariants.{ByHour, ByMinute, BySecond}
+use Rattle.calendar_rules.specs.TimedRuleFaults.{HasTimedRuleFault}
 use Rattle.calendar_rules.specs.declared.timed_error.TimedRuleError.{TimedRuleError}
+use Rattle.calendar_rules.specs.declared.timed_error.TimedRuleError.TheVariants.{Until, NotTogether}
 use Rattle.calendar_rules.specs.declared.timed_rule.TimedRule.{TimedRule}
 
 none_some : {A : Type 0} (o : Option A) (x : A) → o ≡ None → o ≡ Some x → ⊥
@@ -101,3 +103,23 @@ found_ok text (Err e) read every = (
   λ err r h. both_ways false refl (subst (λ (q : Result TimedRule TimedRuleError). IsErr q) (every r h) refl),
   λ none. refl,
 )
+
+-- what the parts that were read lack, or how they do not go together, is wrong with the text
+pub fault_ok : (text : List ℕ) (res : Result TimedRule TimedRuleError) (unit : ClockUnit) (times : DayTimes) (others : Rule) → AreRead text unit times others
+    → IfErr res (λ e. ((e ≡ Until) × (bound_of others.end (values_in text (codes "UNTIL=")) ≡ None)) ⊎ ((e ≡ NotTogether) × (fits_clock unit others (lacks_times times) ≡ false)))
+    → IfErr res (HasTimedRuleFault text)
+fault_ok text (Ok r) unit times others a fault = tt
+fault_ok text (Err e) unit times others a (inl until) =
+    subst (λ (x : TimedRuleError). HasTimedRuleFault text x) (sym until.0) (record { others = others; written = a.written; bound = until.1 })
+fault_ok text (Err e) unit times others a (inr together) =
+    subst (λ (x : TimedRuleError). HasTimedRuleFault text x) (sym together.0) (record {
+      unit = unit;
+      frequency = a.frequency;
+      times = times;
+      hours = a.hours;
+      minutes = a.minutes;
+      seconds = a.seconds;
+      others = others;
+      written = a.written;
+      fitting = together.1;
+    })

@@ -5,6 +5,7 @@ ghost use Rattle.calendar_text.specs.TextParts.{parts_read};
 ghost use Rattle.calendar_text.specs.declared.calendar_time.CalendarTime.TheVariants.{Local};
 ghost use Rattle.calendar_rules.specs.Private.{IsShorter};
 ghost use Rattle.chrono_datetime.specs.Moment.{Moment};
+ghost use Rattle.calendar_rules.specs.RecurrenceFaults.{HasRuleFault, IsRecurrenceFault};
 ghost use Rattle.calendar_rules.specs.Recurrences.{IsRuleOf, MeansNoneWithin, MeansRecurrence, start_alone};
 
 use crate::instant_list::put_instants;
@@ -27,7 +28,7 @@ use zoned_rules::{Bound, ClockSteps, DayTimes, ZonedRecurrence};
 /// # Errors
 ///
 /// Returns an error if DTSTART is a date or a time of UTC, if RRULE is no rule over date-times, if a time of RDATE or EXDATE has no
-/// instant, or if a slice is too short for its list.
+/// instant, or if a slice is too short for its list. The fault that it names is one that the text has.
 ///
 /// ```
 /// use calendar_text::read_calendar_text;
@@ -52,6 +53,8 @@ pub fn recurrence_of<'a, Z: TimeZone>(
     ensures means { IfOk result (MeansRecurrence Z.ahead zone (parts_read calendar.entry)) }
     ensures within { IfOk result (λ s. (length s.dates.now ≤ length dates.old) × (length s.exceptions.now ≤ length exceptions.old)) }
     ensures none { IfErr result (λ _. MeansNoneWithin Z.ahead zone (parts_read calendar.entry) (length dates.old) (length exceptions.old)) }
+    // What the error says is wrong with the text is wrong with it.
+    ensures fault { IfErr result (IsRecurrenceFault Z.ahead zone (parts_read calendar.entry) (length dates.old) (length exceptions.old)) }
 {
     let Some(start) = local_start(calendar.start) else {
         return Err(CalendarRuleError::NotLocal);
@@ -88,6 +91,7 @@ fn rule_of(text: Option<&[u8]>, buffer: &mut [u8]) -> Result<TimedRule, TimedRul
     requires { IsShorter (text_in text) (length buffer.old) }
     ensures rule { IfOk result (IsRuleOf (text_in text.entry)) }
     ensures none { IfErr result (λ _. (r : TimedRule) → ¬ IsRuleOf (text_in text.entry) r) }
+    ensures fault { IfErr result (HasRuleFault (text_in text.entry)) }
 {
     match text {
         Some(text) => read_timed_rule(text, buffer),

@@ -3,6 +3,7 @@ ghost use Rattle.std.specs.Prelude.{◌≡◌, ◌≤◌, ◌<◌, IfErr, IfNone
 ghost use Rattle.chrono_instant.specs.Instants.{epoch_second};
 ghost use Rattle.chrono_zoned.specs.Zoned.{Zoned};
 ghost use Rattle.zoned_rules.specs.LocalInstants.{HasDates};
+ghost use Rattle.calendar_rules.specs.Private.{IsListFault};
 ghost use Rattle.calendar_rules.specs.Recurrences.{AreInstantsOf, IsInstantOfTime};
 
 use crate::recurrence_error::CalendarRuleError;
@@ -22,6 +23,7 @@ pub(crate) fn put_instants<Z: TimeZone>(
     ensures within { IfOk result (λ len. len ≤ length out.new) }
     ensures length { length out.new ≡ length out.old }
     ensures none { IfErr result (λ _. (ds : List (Zoned Z)) → AreInstantsOf Z.ahead zone times.entry ds → length out.old < length ds) }
+    ensures fault { IfErr result (IsListFault Z.ahead zone times.entry (length out.old)) }
 {
     let mut times = times;
     let mut len = 0;

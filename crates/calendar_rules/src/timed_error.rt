@@ -10,7 +10,8 @@ pub enum TimedRuleError {
     Frequency,
     /// The part is there twice, or lists a number that it cannot have.
     Part(ClockPart),
-    /// The rest is no rule of days. The byte of the error counts in the text without BYHOUR, BYMINUTE, BYSECOND and UNTIL.
+    /// The rest is no rule of days. The byte of the error counts in the text without BYHOUR, BYMINUTE, BYSECOND and UNTIL. There `YEARLY` stands
+    /// for `HOURLY`, `MINUTELY` and `SECONDLY`.
     Days(RuleError),
     /// UNTIL is there twice, or beside COUNT, or it is no date-time in UTC.
     Until,

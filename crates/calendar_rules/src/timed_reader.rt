@@ -1,5 +1,5 @@
 //! The texts of rules over date-times.
-ghost use Rattle.std.specs.Prelude.{◌≡◌, ◌↔◌, ◌<◌, length, Ok, IfOk, IsErr, Some, None, codes, true};
+ghost use Rattle.std.specs.Prelude.{◌≡◌, ◌↔◌, ◌⊎◌, ◌<◌, length, Ok, IfErr, IfOk, IsErr, Some, None, codes, true, false};
 ghost use Rattle.chrono_sets.specs.FiniteSets.{no_numbers};
 ghost use Rattle.chrono_rules.specs.RuleTexts.{said, values_in, lacks_numbers};
 ghost use Rattle.chrono_rules.specs.RuleParts.{lacks_positions, lacks_weeks};
@@ -7,6 +7,8 @@ ghost use Rattle.zoned_rules.specs.LocalTimes.{lacks_times};
 ghost use Rattle.chrono_rules.specs.declared.rule.Rule.{Rule};
 ghost use Rattle.zoned_rules.specs.declared.bound.Bound.{Bound};
 ghost use Rattle.calendar_rules.specs.declared.timed_rule.TimedRule.{TimedRule};
+ghost use Rattle.calendar_rules.specs.declared.timed_error.TimedRuleError.TheVariants.{Until, NotTogether};
+ghost use Rattle.calendar_rules.specs.TimedRuleFaults.{HasTimedRuleFault};
 ghost use Rattle.calendar_rules.specs.TimedRuleTexts.{IsTimedRuleText, bound_of, days_by, fits_clock, number_list_of, clock_part_key, steps_by, unit_of, until_of};
 
 use crate::clock_part::ClockPart;
@@ -29,8 +31,9 @@ use zoned_rules::{Bound, ClockSteps, ClockUnit, DayTimes};
 ///
 /// # Errors
 ///
-/// Returns an error if `text` is no such rule. BYWEEKNO and numbers of weekdays do not go with HOURLY, MINUTELY and SECONDLY. BYSETPOS counts
-/// days alone, so it goes with none of them, and not with times of day.
+/// Returns an error if `text` is no such rule. The fault that it names is one that the text has.
+/// BYWEEKNO and numbers of weekdays do not go with HOURLY, MINUTELY and SECONDLY. BYSETPOS counts days alone, so it goes with none of them,
+/// and not with times of day.
 ///
 /// ```
 /// let mut buffer = [0; 64];
@@ -45,6 +48,8 @@ pub fn read_timed_rule(text: &[u8], buffer: &mut [u8]) -> Result<TimedRule, Time
     // Whatever rule the text writes is the answer: no text is refused, and none has two meanings.
     ensures every { (r : TimedRule) → IsTimedRuleText text.now r → result ≡ Ok r }
     ensures found { IsErr result ↔ ((r : TimedRule) → ¬ IsTimedRuleText text.now r) }
+    // What the error says is wrong with the text is wrong with it.
+    ensures fault { IfErr result (HasTimedRuleFault text.now) }
 {
     let Some(unit) = read_unit(text) else {
         return Err(TimedRuleError::Frequency);
@@ -104,6 +109,7 @@ fn put_together(
     ensures fitting { IfOk result (λ r. fits_clock unit others (lacks_times times) ≡ true) }
     ensures every { (b : Bound) → bound_of others.end (values_in text.now (codes "UNTIL=")) ≡ Some b → fits_clock unit others (lacks_times times) ≡ true
         → result ≡ Ok (record { steps = steps_by unit others; days = days_by unit others; times = times; bound = b }) }
+    ensures fault { IfErr result (λ e. ((e ≡ Until) × (bound_of others.end (values_in text.now (codes "UNTIL=")) ≡ None)) ⊎ ((e ≡ NotTogether) × (fits_clock unit others (lacks_times times) ≡ false))) }
 {
     let Some(bound) = read_bound(text, others.end) else {
         return Err(TimedRuleError::Until);

@@ -3,7 +3,7 @@ use Rattle.std.specs.Prelude.{List, [], ◌∷◌, ℤ, pos, neg_ℤ}
 use Rattle.chrono_datetime.specs.declared.Month.TheVariants.{April, August, December, February, January, July, June, May, November, October, September}
 use Rattle.chrono_datetime.specs.declared.Weekday.TheVariants.{Mon, Thu}
 use Rattle.chrono_business.specs.declared.holiday_rule.HolidayDay.TheVariants.{Fixed, NthWeekday, LastWeekday, EasterPlus}
-use Rattle.chrono_business.specs.declared.holiday_rule.Moved.TheVariants.{Stays, ToMonday, ToNearer, TwoDaysOn}
+use Rattle.chrono_business.specs.declared.holiday_rule.Moved.TheVariants.{Stays, SundayToMonday, ToMonday, ToNearer, TwoDaysOn}
 use Rattle.chrono_business.specs.declared.holiday_rule.HolidayRule.{HolidayRule}
 use Rattle.chrono_business.specs.HolidayRules.{rule_of}
 
@@ -73,4 +73,81 @@ england_and_wales_rules =
     ∷ rule_of (Fixed April 29) Stays (pos 2_011) (pos 2_011)
     ∷ rule_of (Fixed September 19) Stays (pos 2_022) (pos 2_022)
     ∷ rule_of (Fixed May 8) Stays (pos 2_023) (pos 2_023)
+    ∷ []
+
+-- the days on which the Fedwire services are closed, from 1971 on: the federal holidays, moved off a Sunday alone
+unfoldable pub fedwire_rules : List HolidayRule
+fedwire_rules =
+    rule_of (Fixed January 1) SundayToMonday (pos 1_971) still
+    ∷ rule_of (NthWeekday 3 Mon January) Stays (pos 1_986) still
+    ∷ rule_of (NthWeekday 3 Mon February) Stays (pos 1_971) still
+    ∷ rule_of (LastWeekday Mon May) Stays (pos 1_971) still
+    ∷ rule_of (Fixed June 19) SundayToMonday (pos 2_022) still
+    ∷ rule_of (Fixed July 4) SundayToMonday (pos 1_971) still
+    ∷ rule_of (NthWeekday 1 Mon September) Stays (pos 1_971) still
+    ∷ rule_of (NthWeekday 2 Mon October) Stays (pos 1_971) still
+    ∷ rule_of (NthWeekday 4 Mon October) Stays (pos 1_971) (pos 1_977)
+    ∷ rule_of (Fixed November 11) SundayToMonday (pos 1_978) still
+    ∷ rule_of (NthWeekday 4 Thu November) Stays (pos 1_971) still
+    ∷ rule_of (Fixed December 25) SundayToMonday (pos 1_971) still
+    ∷ []
+
+-- the days on which the New York Stock Exchange is closed, from 1998 on: New Year's Day, King's birthday, Washington's
+-- Birthday, Good Friday, Memorial Day, Juneteenth, Independence Day, Labor Day, Thanksgiving and Christmas. Then days of
+-- single years
+unfoldable pub nyse_rules : List HolidayRule
+nyse_rules =
+    rule_of (Fixed January 1) SundayToMonday (pos 1_998) still
+    ∷ rule_of (NthWeekday 3 Mon January) Stays (pos 1_998) still
+    ∷ rule_of (NthWeekday 3 Mon February) Stays (pos 1_998) still
+    ∷ rule_of (EasterPlus (neg_ℤ (pos 2))) Stays (pos 1_998) still
+    ∷ rule_of (LastWeekday Mon May) Stays (pos 1_998) still
+    ∷ rule_of (Fixed June 19) ToNearer (pos 2_022) still
+    ∷ rule_of (Fixed July 4) ToNearer (pos 1_998) still
+    ∷ rule_of (NthWeekday 1 Mon September) Stays (pos 1_998) still
+    ∷ rule_of (NthWeekday 4 Thu November) Stays (pos 1_998) still
+    ∷ rule_of (Fixed December 25) ToNearer (pos 1_998) still
+    ∷ rule_of (Fixed September 11) Stays (pos 2_001) (pos 2_001)
+    ∷ rule_of (Fixed September 12) Stays (pos 2_001) (pos 2_001)
+    ∷ rule_of (Fixed September 13) Stays (pos 2_001) (pos 2_001)
+    ∷ rule_of (Fixed September 14) Stays (pos 2_001) (pos 2_001)
+    ∷ rule_of (Fixed June 11) Stays (pos 2_004) (pos 2_004)
+    ∷ rule_of (Fixed January 2) Stays (pos 2_007) (pos 2_007)
+    ∷ rule_of (Fixed October 29) Stays (pos 2_012) (pos 2_012)
+    ∷ rule_of (Fixed October 30) Stays (pos 2_012) (pos 2_012)
+    ∷ rule_of (Fixed December 5) Stays (pos 2_018) (pos 2_018)
+    ∷ rule_of (Fixed January 9) Stays (pos 2_025) (pos 2_025)
+    ∷ []
+
+-- the holidays that all Länder of Germany have, from 1995 on: New Year's Day, Good Friday, Easter Monday, 1 May,
+-- Ascension Day, Whit Monday, German Unity Day and two days of Christmas, and 31 October of one year
+unfoldable pub germany_rules : List HolidayRule
+germany_rules =
+    rule_of (Fixed January 1) Stays (pos 1_995) still
+    ∷ rule_of (EasterPlus (neg_ℤ (pos 2))) Stays (pos 1_995) still
+    ∷ rule_of (EasterPlus (pos 1)) Stays (pos 1_995) still
+    ∷ rule_of (Fixed May 1) Stays (pos 1_995) still
+    ∷ rule_of (EasterPlus (pos 39)) Stays (pos 1_995) still
+    ∷ rule_of (EasterPlus (pos 50)) Stays (pos 1_995) still
+    ∷ rule_of (Fixed October 3) Stays (pos 1_995) still
+    ∷ rule_of (Fixed December 25) Stays (pos 1_995) still
+    ∷ rule_of (Fixed December 26) Stays (pos 1_995) still
+    ∷ rule_of (Fixed October 31) Stays (pos 2_017) (pos 2_017)
+    ∷ []
+
+-- the legal holidays of France from 1982 on: New Year's Day, Easter Monday, 1 and 8 May, Ascension Day, Whit Monday,
+-- 14 July, Assumption Day, All Saints' Day, 11 November and Christmas Day
+unfoldable pub france_rules : List HolidayRule
+france_rules =
+    rule_of (Fixed January 1) Stays (pos 1_982) still
+    ∷ rule_of (EasterPlus (pos 1)) Stays (pos 1_982) still
+    ∷ rule_of (Fixed May 1) Stays (pos 1_982) still
+    ∷ rule_of (Fixed May 8) Stays (pos 1_982) still
+    ∷ rule_of (EasterPlus (pos 39)) Stays (pos 1_982) still
+    ∷ rule_of (EasterPlus (pos 50)) Stays (pos 1_982) still
+    ∷ rule_of (Fixed July 14) Stays (pos 1_982) still
+    ∷ rule_of (Fixed August 15) Stays (pos 1_982) still
+    ∷ rule_of (Fixed November 1) Stays (pos 1_982) still
+    ∷ rule_of (Fixed November 11) Stays (pos 1_982) still
+    ∷ rule_of (Fixed December 25) Stays (pos 1_982) still
     ∷ []

@@ -20,7 +20,7 @@ ghost use Rattle.chrono_business.specs.Rolls.{IsLastOpen, IsNextOpen, MonthBegin
 ghost use Rattle.chrono_business.specs.WrongHolidays.{IsWrong};
 ghost use Rattle.chrono_business.specs.OpenDayLists.{open_days_list};
 ghost use Rattle.chrono_business.specs.HolidayLists.{AreHolidaysWith, AreTooMany, IsOfRules};
-ghost use Rattle.chrono_business.specs.PublicHolidays.{england_and_wales_rules, target_rules, us_federal_rules};
+ghost use Rattle.chrono_business.specs.PublicHolidays.{england_and_wales_rules, fedwire_rules, france_rules, germany_rules, nyse_rules, target_rules, us_federal_rules};
 ghost use Rattle.chrono_business.specs.declared.holiday_error.HolidayError.TheVariants.{NotRising, OnWeekend};
 ghost use Rattle.chrono_business.specs.declared.holiday_error.HolidayError.{HolidayError};
 ghost use Rattle.chrono_business.specs.declared.roll.Roll.{Roll};
@@ -413,7 +413,8 @@ pub fn known_holiday_lists()
 
 /// Known holidays of the given calendars: what each rule names, in its order.
 ///
-/// TARGET and the federal holidays are those of 2024, and England and Wales those of 2022.
+/// TARGET, the federal holidays and those of France are of 2024. England and Wales are of 2022, and Germany of 2017.
+/// Fedwire and the New York Stock Exchange are of 2022 up to May, and of 2027 from June on.
 /// The last Mondays of May and August are left out, but for the rule of Memorial Day.
 pub fn known_given_calendars()
     ensures target { map (λ r. date_of_rule r (pos 2_024)) target_rules ≡
@@ -432,6 +433,18 @@ pub fn known_given_calendars()
         Some (pos 738_309) ∷ None ∷ [] }
     ensures england_and_wales_from_christmas { map (λ r. date_of_rule r (pos 2_022)) (drop 19 england_and_wales_rules) ≡
         Some (pos 738_516) ∷ Some (pos 738_515) ∷ None ∷ None ∷ None ∷ Some (pos 738_417) ∷ None ∷ [] }
+    ensures fedwire { map (λ r. date_of_rule r (pos 2_022)) (take 3 fedwire_rules) ≡
+        Some (pos 738_156) ∷ Some (pos 738_172) ∷ Some (pos 738_207) ∷ [] }
+    ensures fedwire_from_june { map (λ r. date_of_rule r (pos 2_027)) (drop 4 fedwire_rules) ≡
+        Some (pos 740_151) ∷ Some (pos 740_167) ∷ Some (pos 740_230) ∷ Some (pos 740_265) ∷ None ∷ Some (pos 740_296) ∷ Some (pos 740_310) ∷ Some (pos 740_340) ∷ [] }
+    ensures nyse { map (λ r. date_of_rule r (pos 2_022)) (take 4 nyse_rules) ≡
+        Some (pos 738_156) ∷ Some (pos 738_172) ∷ Some (pos 738_207) ∷ Some (pos 738_260) ∷ [] }
+    ensures nyse_from_june { map (λ r. date_of_rule r (pos 2_027)) (take 5 (drop 5 nyse_rules)) ≡
+        Some (pos 740_150) ∷ Some (pos 740_167) ∷ Some (pos 740_230) ∷ Some (pos 740_310) ∷ Some (pos 740_339) ∷ [] }
+    ensures germany { map (λ r. date_of_rule r (pos 2_017)) germany_rules ≡
+        Some (pos 736_330) ∷ Some (pos 736_433) ∷ Some (pos 736_436) ∷ Some (pos 736_450) ∷ Some (pos 736_474) ∷ Some (pos 736_485) ∷ Some (pos 736_605) ∷ Some (pos 736_688) ∷ Some (pos 736_689) ∷ Some (pos 736_633) ∷ [] }
+    ensures france { map (λ r. date_of_rule r (pos 2_024)) france_rules ≡
+        Some (pos 738_886) ∷ Some (pos 738_977) ∷ Some (pos 739_007) ∷ Some (pos 739_014) ∷ Some (pos 739_015) ∷ Some (pos 739_026) ∷ Some (pos 739_081) ∷ Some (pos 739_113) ∷ Some (pos 739_191) ∷ Some (pos 739_201) ∷ Some (pos 739_245) ∷ [] }
 {}
 
 /// Known holidays of the given calendars: what each rule names in its first year, or in its last one.
@@ -460,6 +473,24 @@ pub fn known_first_and_last_years()
         Some (pos 722_443) ∷ Some (pos 722_444) ∷ Some (pos 723_390) ∷ Some (pos 730_119) ∷ Some (pos 734_256) ∷ Some (pos 738_417) ∷ Some (pos 738_648) ∷ [] }
     ensures england_and_wales_last { map (λ r. date_of_rule r r.last_year) (drop 21 england_and_wales_rules) ≡
         Some (pos 723_390) ∷ Some (pos 730_119) ∷ Some (pos 734_256) ∷ Some (pos 738_417) ∷ Some (pos 738_648) ∷ [] }
+    ensures fedwire_first { map (λ r. date_of_rule r r.first_year) (take 3 fedwire_rules) ≡
+        Some (pos 719_528) ∷ Some (pos 725_026) ∷ Some (pos 719_573) ∷ [] }
+    ensures fedwire_first_from_june { map (λ r. date_of_rule r r.first_year) (drop 4 fedwire_rules) ≡
+        Some (pos 738_326) ∷ Some (pos 719_713) ∷ Some (pos 719_776) ∷ Some (pos 719_811) ∷ Some (pos 719_825) ∷ Some (pos 722_399) ∷ Some (pos 719_856) ∷ Some (pos 719_886) ∷ [] }
+    ensures fedwire_last { map (λ r. date_of_rule r r.last_year) (take 1 (drop 8 fedwire_rules)) ≡
+        Some (pos 722_016) ∷ [] }
+    ensures nyse_first { map (λ r. date_of_rule r r.first_year) (take 4 nyse_rules) ≡
+        Some (pos 729_390) ∷ Some (pos 729_408) ∷ Some (pos 729_436) ∷ Some (pos 729_489) ∷ [] }
+    ensures nyse_first_from_june { map (λ r. date_of_rule r r.first_year) (drop 5 nyse_rules) ≡
+        Some (pos 738_326) ∷ Some (pos 729_573) ∷ Some (pos 729_639) ∷ Some (pos 729_719) ∷ Some (pos 729_748) ∷ Some (pos 730_739) ∷ Some (pos 730_740) ∷ Some (pos 730_741) ∷ Some (pos 730_742) ∷ Some (pos 731_743) ∷ Some (pos 732_678) ∷ Some (pos 734_805) ∷ Some (pos 734_806) ∷ Some (pos 737_033) ∷ Some (pos 739_260) ∷ [] }
+    ensures nyse_last { map (λ r. date_of_rule r r.last_year) (drop 10 nyse_rules) ≡
+        Some (pos 730_739) ∷ Some (pos 730_740) ∷ Some (pos 730_741) ∷ Some (pos 730_742) ∷ Some (pos 731_743) ∷ Some (pos 732_678) ∷ Some (pos 734_805) ∷ Some (pos 734_806) ∷ Some (pos 737_033) ∷ Some (pos 739_260) ∷ [] }
+    ensures germany_first { map (λ r. date_of_rule r r.first_year) germany_rules ≡
+        Some (pos 728_294) ∷ Some (pos 728_397) ∷ Some (pos 728_400) ∷ Some (pos 728_414) ∷ Some (pos 728_438) ∷ Some (pos 728_449) ∷ Some (pos 728_569) ∷ Some (pos 728_652) ∷ Some (pos 728_653) ∷ Some (pos 736_633) ∷ [] }
+    ensures germany_last { map (λ r. date_of_rule r r.last_year) (drop 9 germany_rules) ≡
+        Some (pos 736_633) ∷ [] }
+    ensures france_first { map (λ r. date_of_rule r r.first_year) france_rules ≡
+        Some (pos 723_546) ∷ Some (pos 723_647) ∷ Some (pos 723_666) ∷ Some (pos 723_673) ∷ Some (pos 723_685) ∷ Some (pos 723_696) ∷ Some (pos 723_740) ∷ Some (pos 723_772) ∷ Some (pos 723_850) ∷ Some (pos 723_860) ∷ Some (pos 723_904) ∷ [] }
 {}
 
 /// Known last Mondays of May and August in the given calendars, in the first year of each rule and in its last one.
@@ -473,4 +504,6 @@ pub fn known_last_mondays()
     ensures spring_of_2021 { (r : HolidayRule) → date_of_rule (slice_index_or england_and_wales_rules 14 r) (pos 2_021) ≡ Some (pos 737_941) }
     ensures spring_of_2023 { (r : HolidayRule) → date_of_rule (slice_index_or england_and_wales_rules 17 r) (pos 2_023) ≡ Some (pos 738_669) }
     ensures summer_of_1978 { (r : HolidayRule) → date_of_rule (slice_index_or england_and_wales_rules 18 r) (pos 1_978) ≡ Some (pos 722_324) }
+    ensures memorial_day_of_fedwire { (r : HolidayRule) → date_of_rule (slice_index_or fedwire_rules 3 r) (pos 1_971) ≡ Some (pos 719_678) }
+    ensures memorial_day_of_nyse { (r : HolidayRule) → date_of_rule (slice_index_or nyse_rules 4 r) (pos 1_998) ≡ Some (pos 729_534) }
 {}

@@ -2,7 +2,7 @@
 //!
 //! Each rule has its source next to it. A day that was proclaimed once is a rule of one year.
 ghost use Rattle.std.specs.Prelude.{◌≡◌, pos};
-ghost use Rattle.chrono_business.specs.PublicHolidays.{england_and_wales_rules, target_rules, us_federal_rules};
+ghost use Rattle.chrono_business.specs.PublicHolidays.{england_and_wales_rules, fedwire_rules, france_rules, germany_rules, nyse_rules, target_rules, us_federal_rules};
 ghost use Rattle.chrono_business.specs.HolidayRules.{rule_of};
 ghost use Rattle.chrono_business.specs.declared.holiday_rule.HolidayDay.TheVariants.{EasterPlus, Fixed, LastWeekday, NthWeekday};
 ghost use Rattle.chrono_business.specs.declared.holiday_rule.Moved.TheVariants.{Stays};
@@ -136,6 +136,170 @@ pub fn england_and_wales() -> [HolidayRule; 26]
         fixed(Month::April, 29, Moved::Stays, 2011, 2011),
         fixed(Month::September, 19, Moved::Stays, 2022, 2022),
         fixed(Month::May, 8, Moved::Stays, 2023, 2023),
+    ]
+}
+
+/// Returns the rules of the days on which the Fedwire services are closed, from 1971 on, besides Saturdays and Sundays.
+///
+/// The source is the holiday schedule of the Federal Reserve Banks. They keep the federal holidays.
+/// They keep a holiday on a Sunday on Monday. For one on a Saturday they stay open on Friday.
+///
+/// ```
+/// fedwire()[0].date_in(2022) // Some(2022-01-01)
+/// ```
+#[tactic(auto, unfolding(crate::specs::PublicHolidays::fedwire_rules))]
+pub fn fedwire() -> [HolidayRule; 12]
+    ensures rules { result ≡ fedwire_rules }
+{
+    [
+        // New Year's Day, 1 January.
+        fixed(Month::January, 1, Moved::SundayToMonday, 1971, STILL),
+        // Birthday of Martin Luther King, Jr., the third Monday in January (Public Law 98-144, from 1986 on).
+        nth(3, Weekday::Mon, Month::January, 1986, STILL),
+        // Washington's Birthday, the third Monday in February.
+        nth(3, Weekday::Mon, Month::February, 1971, STILL),
+        // Memorial Day, the last Monday in May.
+        last(Weekday::Mon, Month::May, 1971, STILL),
+        // Juneteenth National Independence Day, 19 June, in the schedule from 2022 on. In 2021 it was a Saturday.
+        fixed(Month::June, 19, Moved::SundayToMonday, 2022, STILL),
+        // Independence Day, 4 July.
+        fixed(Month::July, 4, Moved::SundayToMonday, 1971, STILL),
+        // Labor Day, the first Monday in September.
+        nth(1, Weekday::Mon, Month::September, 1971, STILL),
+        // Columbus Day, the second Monday in October.
+        nth(2, Weekday::Mon, Month::October, 1971, STILL),
+        // Veterans Day, the fourth Monday in October up to 1977 (Public Law 90-363), and from 1978 on 11 November
+        // again (Public Law 94-97).
+        nth(4, Weekday::Mon, Month::October, 1971, 1977),
+        fixed(Month::November, 11, Moved::SundayToMonday, 1978, STILL),
+        // Thanksgiving Day, the fourth Thursday in November.
+        nth(4, Weekday::Thu, Month::November, 1971, STILL),
+        // Christmas Day, 25 December.
+        fixed(Month::December, 25, Moved::SundayToMonday, 1971, STILL),
+    ]
+}
+
+/// Returns the rules of the days on which the New York Stock Exchange is closed, from 1998 on.
+///
+/// The source is NYSE Rule 7.2. The Exchange announced the closings of single days.
+/// A holiday on a Saturday is kept on Friday, and one on a Sunday on Monday.
+/// Only New Year's Day is not kept on Friday, since an accounting period ends then.
+/// Days on which the Exchange opens late or closes early are not in the rules.
+///
+/// ```
+/// nyse()[0].date_in(2022) // Some(2022-01-01)
+/// nyse()[9].date_in(2021) // Some(2021-12-24)
+/// ```
+#[tactic(auto, unfolding(crate::specs::PublicHolidays::nyse_rules))]
+pub fn nyse() -> [HolidayRule; 20]
+    ensures rules { result ≡ nyse_rules }
+{
+    [
+        // New Year's Day, 1 January.
+        fixed(Month::January, 1, Moved::SundayToMonday, 1998, STILL),
+        // Martin Luther King, Jr. Day, the third Monday in January, which the Exchange keeps from 1998 on.
+        nth(3, Weekday::Mon, Month::January, 1998, STILL),
+        // Washington's Birthday, the third Monday in February.
+        nth(3, Weekday::Mon, Month::February, 1998, STILL),
+        // Good Friday.
+        easter(-2, 1998),
+        // Memorial Day, the last Monday in May.
+        last(Weekday::Mon, Month::May, 1998, STILL),
+        // Juneteenth National Independence Day, 19 June, which the Exchange keeps from 2022 on.
+        fixed(Month::June, 19, Moved::ToNearer, 2022, STILL),
+        // Independence Day, 4 July.
+        fixed(Month::July, 4, Moved::ToNearer, 1998, STILL),
+        // Labor Day, the first Monday in September.
+        nth(1, Weekday::Mon, Month::September, 1998, STILL),
+        // Thanksgiving Day, the fourth Thursday in November.
+        nth(4, Weekday::Thu, Month::November, 1998, STILL),
+        // Christmas Day, 25 December.
+        fixed(Month::December, 25, Moved::ToNearer, 1998, STILL),
+        // 11 to 14 September 2001, after the attack on New York.
+        fixed(Month::September, 11, Moved::Stays, 2001, 2001),
+        fixed(Month::September, 12, Moved::Stays, 2001, 2001),
+        fixed(Month::September, 13, Moved::Stays, 2001, 2001),
+        fixed(Month::September, 14, Moved::Stays, 2001, 2001),
+        // Mourning for the Presidents Reagan and Ford: 11 June 2004 and 2 January 2007.
+        fixed(Month::June, 11, Moved::Stays, 2004, 2004),
+        fixed(Month::January, 2, Moved::Stays, 2007, 2007),
+        // 29 and 30 October 2012, in Hurricane Sandy.
+        fixed(Month::October, 29, Moved::Stays, 2012, 2012),
+        fixed(Month::October, 30, Moved::Stays, 2012, 2012),
+        // Mourning for the Presidents Bush (the elder) and Carter: 5 December 2018 and 9 January 2025.
+        fixed(Month::December, 5, Moved::Stays, 2018, 2018),
+        fixed(Month::January, 9, Moved::Stays, 2025, 2025),
+    ]
+}
+
+/// Returns the rules of the holidays that all Länder of Germany have, from 1995 on.
+///
+/// The sources are the laws on holidays of the sixteen Länder. German Unity Day is in the Unification Treaty.
+/// Holidays of some Länder alone, such as Epiphany, are left out.
+///
+/// ```
+/// germany()[5].date_in(2024) // Some(2024-05-20)
+/// ```
+///
+/// The example is Whit Monday.
+#[tactic(auto, unfolding(crate::specs::PublicHolidays::germany_rules))]
+pub fn germany() -> [HolidayRule; 10]
+    ensures rules { result ≡ germany_rules }
+{
+    [
+        // New Year's Day.
+        fixed(Month::January, 1, Moved::Stays, 1995, STILL),
+        // Good Friday and Easter Monday.
+        easter(-2, 1995),
+        easter(1, 1995),
+        // 1 May.
+        fixed(Month::May, 1, Moved::Stays, 1995, STILL),
+        // Ascension Day and Whit Monday.
+        easter(39, 1995),
+        easter(50, 1995),
+        // German Unity Day, 3 October (Unification Treaty, article 2(2)).
+        fixed(Month::October, 3, Moved::Stays, 1995, STILL),
+        // Christmas Day and the day after it.
+        fixed(Month::December, 25, Moved::Stays, 1995, STILL),
+        fixed(Month::December, 26, Moved::Stays, 1995, STILL),
+        // Reformation Day, 500 years on, by laws and ordinances of the Länder that do not have it every year.
+        fixed(Month::October, 31, Moved::Stays, 2017, 2017),
+    ]
+}
+
+/// Returns the rules of the legal holidays of France, from 1982 on (Code du travail, L3133-1, and L222-1 before).
+///
+/// None moves off a weekend. Those of Alsace and Moselle alone are left out.
+///
+/// ```
+/// france()[4].date_in(2024) // Some(2024-05-09)
+/// ```
+///
+/// The example is Ascension Day.
+#[tactic(auto, unfolding(crate::specs::PublicHolidays::france_rules))]
+pub fn france() -> [HolidayRule; 11]
+    ensures rules { result ≡ france_rules }
+{
+    [
+        // New Year's Day.
+        fixed(Month::January, 1, Moved::Stays, 1982, STILL),
+        // Easter Monday.
+        easter(1, 1982),
+        // 1 May, and 8 May (Law 81-893, from 1982 on).
+        fixed(Month::May, 1, Moved::Stays, 1982, STILL),
+        fixed(Month::May, 8, Moved::Stays, 1982, STILL),
+        // Ascension Day and Whit Monday. Work on the day of solidarity does not change that it is a holiday.
+        easter(39, 1982),
+        easter(50, 1982),
+        // 14 July.
+        fixed(Month::July, 14, Moved::Stays, 1982, STILL),
+        // Assumption Day and All Saints' Day.
+        fixed(Month::August, 15, Moved::Stays, 1982, STILL),
+        fixed(Month::November, 1, Moved::Stays, 1982, STILL),
+        // 11 November.
+        fixed(Month::November, 11, Moved::Stays, 1982, STILL),
+        // Christmas Day.
+        fixed(Month::December, 25, Moved::Stays, 1982, STILL),
     ]
 }
 

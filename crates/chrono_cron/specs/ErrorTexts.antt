@@ -19,8 +19,8 @@ field_in_front (Some Weekday) = codes "weekday, "
 -- what is wrong
 unfoldable pub schedule_fault_text : ScheduleFault → List ℕ
 schedule_fault_text Empty = codes "nothing stands there"
-schedule_fault_text TooFewFields = codes "fewer than five fields"
-schedule_fault_text TooManyFields = codes "more than five fields"
+schedule_fault_text TooFewFields = codes "too few fields"
+schedule_fault_text TooManyFields = codes "too many fields"
 schedule_fault_text UnknownNickname = codes "an unknown nickname"
 schedule_fault_text Interval = codes "an interval, which is no schedule"
 schedule_fault_text Reboot = codes "the start of a machine, which is no schedule"
@@ -49,7 +49,7 @@ unfolding field_in_front
 field_in_front-each = refl
 
 schedule_fault_text-fields : map schedule_fault_text (Empty ∷ TooFewFields ∷ TooManyFields ∷ UnknownNickname ∷ Interval ∷ Reboot ∷ TimeZone ∷ [])
-    ≡ codes "nothing stands there" ∷ codes "fewer than five fields" ∷ codes "more than five fields" ∷ codes "an unknown nickname"
+    ≡ codes "nothing stands there" ∷ codes "too few fields" ∷ codes "too many fields" ∷ codes "an unknown nickname"
     ∷ codes "an interval, which is no schedule" ∷ codes "the start of a machine, which is no schedule" ∷ codes "a time zone, which no schedule has" ∷ []
 unfolding schedule_fault_text
 schedule_fault_text-fields = refl

@@ -17,6 +17,7 @@ mod ListsBack
 mod ListsWithin
 mod Moments
 mod Months
+mod NamedDays
 mod PartValues
 mod Passed
 mod PeriodMembers

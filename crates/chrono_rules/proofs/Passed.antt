@@ -1,6 +1,5 @@
 -- What a search for a member passes over.
-use Rattle.std.proofs.Common.{◌≡◌, false, refl, ap, ◌∙◌, arith, ℤ, ◌≤ℤ◌, ◌<ℤ◌, int_le}
-use Rattle.std.proofs.lemmas.Int.{by_lt_z}
+use Rattle.std.proofs.Common.{◌≡◌, false, refl, ap, ◌∙◌, arith, ℤ, ◌<ℤ◌, int_le}
 use Rattle.std.proofs.lemmas.Bool.{and_right}
 use Rattle.chrono_datetime.proofs.Signed.{signed}
 use Rattle.chrono_rules.specs.Instances.{in_interval, is_member, not_after}
@@ -26,10 +25,3 @@ pub behind_until : (r : Rule) (start u d : ℤ) → r.end ≡ Until u → u <ℤ
 unfolding is_member
 behind_until r start u d is behind =
     and_right (int_le start d) _ (rw (until-behind r.end u d is behind) refl)
-
--- the days so far, the one that is looked at, and those behind it
-pub passed_on : (r : Rule) (start from day d : ℤ) → ((d : ℤ) → from ≤ℤ d → d <ℤ day → is_member r start d ≡ false) → is_member r start day ≡ false → (day <ℤ d → is_member r start d ≡ false) → from ≤ℤ d → is_member r start d ≡ false
-passed_on r start from day d before here behind low =
-    by_lt_z d day
-    (λ lt. before d low lt)
-    (λ ge. by_lt_z day d (λ lt. behind lt) (λ le. let same : d ≡ day = omega (arith, signed, ge, le) in ap (is_member r start) same ∙ here))

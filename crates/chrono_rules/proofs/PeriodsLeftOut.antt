@@ -1,5 +1,5 @@
 -- Periods that INTERVAL leaves out.
-use Rattle.std.proofs.Common.{◌≡◌, ◌==◌, ℕ, ◌+◌, ◌-◌, ◌*◌, ◌<◌, ◌≤◌, false, cond, refl, sym, subst, ap, ◌∙◌, arith, ℤ, pos, ◌+ℤ◌, ◌-ℤ◌, ◌*ℤ◌, ◌≤ℤ◌, ◌<ℤ◌, int_le, unsigned_abs}
+use Rattle.std.proofs.Common.{◌≡◌, ◌==◌, ℕ, ◌+◌, ◌-◌, ◌<◌, true, false, cond, refl, sym, subst, ap, ◌∙◌, arith, ℤ, pos, ◌+ℤ◌, ◌-ℤ◌, ◌*ℤ◌, ◌≤ℤ◌, ◌<ℤ◌, int_le, unsigned_abs}
 use Rattle.std.specs.Int.{int_div_euclid, int_rem_euclid}
 use Rattle.std.proofs.lemmas.Bool.{and_right, ne_eqb}
 use Rattle.chrono_datetime.specs.Days.{month_of, year_of}
@@ -32,6 +32,14 @@ off_interval r start n d step j behind step-is behind-is some less at =
     ap (λ (z : ℤ). unsigned_abs (int_rem_euclid z (pos k))) apart ∙ rem-ahead a k j (omega (arith, signed, step-is, less)) (omega (arith, signed, step-is, less, here)) in
     let off : (unsigned_abs (int_rem_euclid b (pos k)) == 0) ≡ false = ne_eqb (unsigned_abs (int_rem_euclid b (pos k))) 0 (λ e. omega (arith, e, there, here, some)) in
     and_right (int_le start d) _ (and_right (not_after r.end d) _ (rw off refl))
+
+-- a period that is left out by none
+pub on_interval : (r : Rule) (start n step : ℤ) (behind : ℕ) → step ≡ pos (cond (r.interval == 0) 1 r.interval) → behind ≡ unsigned_abs (int_rem_euclid (period_of r.frequency r.week_start n -ℤ period_of r.frequency r.week_start start) step) → behind ≡ 0 → in_interval r start n ≡ true
+unfolding in_interval
+on_interval r start n step behind step-is behind-is none =
+    let a : ℤ = period_of r.frequency r.week_start n -ℤ period_of r.frequency r.week_start start in
+    let here : unsigned_abs (int_rem_euclid a (pos (cond (r.interval == 0) 1 r.interval))) ≡ 0 = ap (λ (s : ℤ). unsigned_abs (int_rem_euclid a s)) (sym step-is) ∙ (sym behind-is ∙ none) in
+    rw here refl
 
 -- later days are in no earlier period
 pub period-rises : (f : Frequency) (w : Weekday) (n d : ℤ) → n ≤ℤ d → period_of f w n ≤ℤ period_of f w d

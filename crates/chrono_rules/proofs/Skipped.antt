@@ -109,14 +109,14 @@ place_later r n d j false counts date at last =
     let day : ordinal_of d ≡ ordinal_of n + j = omega (arith, signed, at, number-ordinal_name n, number-ordinal_name d, ap (λ (y : ℤ). days_before_year y) year) in
     (omega (arith, here, there, day), omega (arith, behind, rest, day, length))
 
-pub named_later : (r : Rule) (n d : ℤ) (j w p b : ℕ) → IsDate n → d ≡ n +ℤ pos j → j ≤ days_behind r n → w ≡ (days_from_monday (weekday_of n) + j) % 7 → p ≡ counted_place r n + j → b ≡ days_behind r n - j → names_weekday r w p b ≡ false → on_weekday r d ≡ false
+pub named_later : (r : Rule) (n d : ℤ) (j w p b : ℕ) (x : Bool) → IsDate n → d ≡ n +ℤ pos j → j ≤ days_behind r n → w ≡ (days_from_monday (weekday_of n) + j) % 7 → p ≡ counted_place r n + j → b ≡ days_behind r n - j → names_weekday r w p b ≡ x → on_weekday r d ≡ x
 unfolding on_weekday
-named_later r n d j w p b date at last week-is place-is behind-is none =
+named_later r n d j w p b x date at last week-is place-is behind-is named =
     let it = place_later r n d j (counts_in_month r.frequency r) refl date at last in
     let week : days_from_monday (weekday_of d) ≡ w = omega (arith, signed, at, week-is, days_from_monday-of n, days_from_monday-of d) in
     ap (λ w. names_weekday r w (counted_place r d) (days_behind r d)) week
     ∙ (ap (λ p. names_weekday r w p (days_behind r d)) (it.0 ∙ sym place-is)
-    ∙ (ap (λ b. names_weekday r w p b) (it.1 ∙ sym behind-is) ∙ none))
+    ∙ (ap (λ b. names_weekday r w p b) (it.1 ∙ sym behind-is) ∙ named))
 
 -- a weekday of which neither each day is named nor the one by its numbers
 pub not_named : (r : Rule) (w p b front back : ℕ) → has r.weekdays.every w ≡ false → lists_nth r.weekdays.front w front ≡ false → lists_nth r.weekdays.back w back ≡ false

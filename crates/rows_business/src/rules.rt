@@ -1,6 +1,8 @@
 //! Easter, and what the rules of given calendars name in a year.
 
-use chrono_business::{HolidayRule, easter, england_and_wales, target, us_federal};
+use chrono_business::{
+    HolidayRule, easter, england_and_wales, fedwire, france, germany, nyse, target, us_federal,
+};
 use chrono_datetime::{Datelike, NaiveDate};
 
 // Of a year Easter by its number; of a given calendar how many of its rules name the date in the year, and with `_days`
@@ -20,6 +22,10 @@ fn naming_in(name: &str, date: Option<NaiveDate>, year: i32) -> Option<i64> {
         "us_federal" => Some(naming(&us_federal(), date, year)),
         "target" => Some(naming(&target(), date, year)),
         "england" => Some(naming(&england_and_wales(), date, year)),
+        "fedwire" => Some(naming(&fedwire(), date, year)),
+        "nyse" => Some(naming(&nyse(), date, year)),
+        "germany" => Some(naming(&germany(), date, year)),
+        "france" => Some(naming(&france(), date, year)),
         _ => None,
     }
 }

@@ -75,7 +75,7 @@ pub struct ScheduleError {
 impl fmt::Display for ScheduleError {
     ghost output = { λ error. Some (schedule_error_text error) };
 
-    /// Writes one line, such as `minute, byte 2: a number that is out of range`. Without a field it is such as `byte 9: fewer than five fields`.
+    /// Writes one line, such as `minute, byte 2: a number that is out of range`. Without a field it is such as `byte 9: too few fields`.
     fn fmt<W: fmt::Write>(&self, f: &mut fmt::Formatter<W>) -> fmt::Result {
         let field = field_in_front(self.field);
         let fault = schedule_fault_text(self.fault);
@@ -105,8 +105,8 @@ fn schedule_fault_text(fault: ScheduleFault) -> &'static str
 {
     match fault {
         ScheduleFault::Empty => "nothing stands there",
-        ScheduleFault::TooFewFields => "fewer than five fields",
-        ScheduleFault::TooManyFields => "more than five fields",
+        ScheduleFault::TooFewFields => "too few fields",
+        ScheduleFault::TooManyFields => "too many fields",
         ScheduleFault::UnknownNickname => "an unknown nickname",
         ScheduleFault::Interval => "an interval, which is no schedule",
         ScheduleFault::Reboot => "the start of a machine, which is no schedule",

@@ -2,7 +2,7 @@
 ghost use Rattle.std.specs.Prelude.{◌≡◌, ◌+◌, ◌*◌, ◌==◌, if◌then◌else◌, ◌≤ℤ◌, ◌<ℤ◌, ◌+ℤ◌, ℤ, pos, true, IfSome, IfNone};
 ghost use Rattle.chrono_datetime.specs.Days.{IsDate};
 ghost use Rattle.chrono_datetime.specs.Recurrence.{past_last_date};
-ghost use Rattle.chrono_datetime.specs.PassedOver.{NoDateAfter, NoDateFrom, NoneFrom, PassedBetween, PassedOver};
+ghost use Rattle.chrono_datetime.specs.PassedOver.{NoDateFrom, NoneFrom, PassedOver};
 ghost use Rattle.chrono_rules.specs.Instances.{is_member, not_after};
 
 use crate::rule::{End, Rule};
@@ -27,39 +27,7 @@ impl Rule {
         }
     }
 
-    // The first date from this one on that no part passes over, before which none is a member; none from a day on.
-    fn candidate(&self, start: NaiveDate, date: NaiveDate, end: i32) -> Option<NaiveDate>
-        ensures in_range { IfSome result (λ e. IsDate e) }
-        ensures not_before { IfSome result (λ e. date ≤ℤ e) }
-        ensures before { IfSome result (λ e. e <ℤ end) }
-        ensures passed { IfSome result (λ e. PassedOver (is_member self.now start) date e) }
-        ensures none { IfNone result (NoDateFrom (is_member self.now start) date end) }
-    {
-        let mut day = date;
-        while day.num_days_from_ce() < end {
-            let days = self.days_passed(start, day);
-            if days == 0 {
-                return Some(day);
-            }
-            day = day.moved_by_days(days)?;
-        }
-        None
-    }
-
-    // A later date, between which and this one no member lies; none from a day on.
-    #[inline]
-    fn later(&self, start: NaiveDate, day: NaiveDate, end: i32) -> Option<NaiveDate>
-        ensures in_range { IfSome result (λ e. IsDate e) }
-        ensures later { IfSome result (λ e. day <ℤ e) }
-        ensures before { IfSome result (λ e. e <ℤ end) }
-        ensures passed { IfSome result (λ e. PassedBetween (is_member self.now start) day e) }
-        ensures none { IfNone result (NoDateAfter (is_member self.now start) day end) }
-    {
-        let next = day.succ_opt()?;
-        self.candidate(start, next, end)
-    }
-
-    // The first member from the date on that lies before a day. It looks at one candidate after another.
+    // The first member from the date on that lies before a day. It looks at the days that no part passes over so far.
     pub(crate) fn first_between(
         &self,
         start: NaiveDate,
@@ -74,12 +42,18 @@ impl Rule {
         ensures none { IfNone result (NoDateFrom (is_member self.now start) date end) }
     {
         let last = self.end_before(end);
-        let first = self.candidate(start, date, last)?;
-        let mut day = first;
-        while !self.is_member(start, day) {
-            day = self.later(start, day, last)?;
+        let first = self.period_of_start(start);
+        let mut day = later_of(start, date);
+        while day.num_days_from_ce() < last {
+            let periods = self.passed_by_interval(start, first, day);
+            let counted = day.moved_by_days(periods)?;
+            let parts = self.passed_by_parts(start, counted);
+            if periods + parts == 0 {
+                return Some(day);
+            }
+            day = counted.moved_by_days(parts)?;
         }
-        Some(day)
+        None
     }
 
     // The first member from the date on that lies before a day. It looks at one cycle and at the calendar's last year.

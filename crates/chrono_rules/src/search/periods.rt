@@ -14,7 +14,7 @@ use chrono_datetime::{Datelike, NaiveDate, Weekday};
 impl Rule {
     // The number of the date's period: days, weeks, months or years in a row.
     #[tactic(auto, unfolding(crate::specs::Periods::period_of))]
-    fn period_of(&self, date: NaiveDate) -> i64
+    pub(crate) fn period_of(&self, date: NaiveDate) -> i64
         ensures value { result ≡ period_of self.now.frequency self.now.week_start date }
         ensures low { neg_ℤ (pos 100_000_000) ≤ℤ result }
         ensures high { result ≤ℤ pos 100_000_000 }
@@ -41,15 +41,16 @@ impl Rule {
         }
     }
 
-    // How many periods the date's lies behind the start's, negative before it.
+    // How many periods the date's lies behind the one with a number, negative before it.
     #[inline]
-    pub(crate) fn periods_apart(&self, start: NaiveDate, date: NaiveDate) -> i64
-        ensures value { result ≡ period_of self.now.frequency self.now.week_start date
-            -ℤ period_of self.now.frequency self.now.week_start start }
+    pub(crate) fn periods_apart(&self, first: i64, date: NaiveDate) -> i64
+        requires low { neg_ℤ (pos 100_000_000) ≤ℤ first }
+        requires high { first ≤ℤ pos 100_000_000 }
+        ensures value { result ≡ period_of self.now.frequency self.now.week_start date -ℤ first }
         ensures low { neg_ℤ (pos 200_000_000) ≤ℤ result }
         ensures high { result ≤ℤ pos 200_000_000 }
     {
-        self.period_of(date) - self.period_of(start)
+        self.period_of(date) - first
     }
 
     /// Returns whether the period of `date` is a whole number of intervals from that of `start`, earlier or later.
@@ -64,7 +65,8 @@ impl Rule {
     pub fn in_interval(&self, start: NaiveDate, date: NaiveDate) -> bool
         ensures { result ≡ in_interval self.now start date }
     {
-        self.interval <= 1 || remainder(self.periods_apart(start, date), self.step()) == 0
+        self.interval <= 1
+            || remainder(self.periods_apart(self.period_of(start), date), self.step()) == 0
     }
 }
 
@@ -118,7 +120,9 @@ fn week_number(date: NaiveDate, start: Weekday) -> i64
     ensures low { neg_ℤ (pos 100_000_000) ≤ℤ result }
     ensures high { result ≤ℤ pos 100_000_000 }
 {
-    week_first(date, start).div_euclid(7)
+    // 7 divides the number of each Sunday.
+    let sunday = i64::from(date.num_days_from_ce()) - i64::from(start.num_days_from_sunday());
+    sunday.div_euclid(7)
 }
 
 // The number of the date's month.

@@ -73,6 +73,7 @@ pub(crate) fn first_of_last_366_days() -> NaiveDate
 pub(crate) fn later_of(first: NaiveDate, second: NaiveDate) -> NaiveDate
     ensures not_before { first ≤ℤ result }
     ensures from { second ≤ℤ result }
+    ensures before { (d : ℤ) → second ≤ℤ d → d <ℤ result → d <ℤ first }
     ensures date { IsDate second }
 {
     let (a, b) = (first.num_days_from_ce(), second.num_days_from_ce());

@@ -5,7 +5,7 @@ ghost use Rattle.chrono_datetime.specs.Recurrence.{count_between};
 ghost use Rattle.chrono_datetime.specs.PassedOver.{PassedOver};
 ghost use Rattle.chrono_sets.specs.FiniteSets.{has, is_empty};
 ghost use Rattle.chrono_rules.specs.ByParts.{date_passes, passes};
-ghost use Rattle.chrono_rules.specs.Instances.{is_member};
+ghost use Rattle.chrono_rules.specs.Instances.{in_positions, is_member};
 ghost use Rattle.chrono_rules.specs.RuleParts.{lacks_positions};
 ghost use Rattle.chrono_rules.specs.Periods.{period_end, period_first};
 
@@ -152,12 +152,27 @@ impl Rule {
     #[inline]
     pub(crate) fn passed_by_position(&self, start: NaiveDate, day: NaiveDate) -> i64
         ensures passed { PassedOver (is_member self.now start) day (day +ℤ result) }
+        ensures named { result ≡ pos 0 → in_positions self.now start day ≡ true }
         ensures low { pos 0 ≤ℤ result }
         ensures high { result ≤ℤ pos 366 }
     {
         if self.lacks_positions() {
             return 0;
         }
+        let days = self.days_to_named_place(start, day);
+        if days > 0 {
+            return days;
+        }
+        if self.in_positions(start, day) { 0 } else { 1 }
+    }
+
+    // The same, where the rule names places: but it may be 0 too where none is that of the day.
+    fn days_to_named_place(&self, start: NaiveDate, day: NaiveDate) -> i64
+        requires { lacks_positions self.now ≡ false }
+        ensures passed { PassedOver (is_member self.now start) day (day +ℤ result) }
+        ensures low { pos 0 ≤ℤ result }
+        ensures high { result ≤ℤ pos 366 }
+    {
         if self.frequency == Frequency::Daily {
             // The one day of the period is looked at by itself.
             return 0;

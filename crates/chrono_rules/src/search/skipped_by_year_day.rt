@@ -1,9 +1,10 @@
 //! What a search passes over by BYYEARDAY.
-ghost use Rattle.std.specs.Prelude.{◌≡◌, ◌≤◌, ◌<◌, ◌+◌, ◌-◌, ◌≤ℤ◌, ◌<ℤ◌, ◌+ℤ◌, ℤ, ℕ, pos, false};
+ghost use Rattle.std.specs.Prelude.{◌≡◌, ◌||◌, ◌≤◌, ◌<◌, ◌+◌, ◌-◌, ◌≤ℤ◌, ◌<ℤ◌, ◌+ℤ◌, ℤ, ℕ, pos, true, false};
 ghost use Rattle.chrono_datetime.specs.PassedOver.{PassedOver};
 ghost use Rattle.chrono_sets.specs.FiniteSets.{has};
 ghost use Rattle.chrono_rules.specs.Instances.{is_member};
 ghost use Rattle.chrono_rules.specs.ByParts.{on_year_day};
+ghost use Rattle.chrono_rules.specs.RuleParts.{lacks_year_days};
 
 use crate::by_parts::days_of_year;
 use crate::rule::Rule;
@@ -14,6 +15,7 @@ impl Rule {
     #[inline]
     pub(crate) fn passed_by_year_day(&self, start: NaiveDate, day: NaiveDate) -> u32
         ensures passed { PassedOver (is_member self.now start) day (day +ℤ pos result) }
+        ensures named { result ≡ 0 → (lacks_year_days self.now || on_year_day self.now day) ≡ true }
         ensures few { result ≤ 31 }
     {
         if self.lacks_year_days() {
@@ -26,6 +28,7 @@ impl Rule {
     // How many days from this one on to one that BYYEARDAY names, or at most to the end of its month.
     fn days_to_year_day(&self, day: NaiveDate) -> u32
         ensures passed { PassedOver (on_year_day self.now) day (day +ℤ pos result) }
+        ensures named { result ≡ 0 → on_year_day self.now day ≡ true }
         ensures few { result ≤ 31 }
     {
         let place = day.ordinal();

@@ -1,23 +1,29 @@
 //! How many days a search for a member skips at once, by each part of the rule.
-ghost use Rattle.std.specs.Prelude.{◌≡◌, ◌≤◌, ◌<◌, ◌+◌, ◌-◌, ◌*◌, ◌%◌, ◌==◌, ◌≤ℤ◌, ◌<ℤ◌, ◌+ℤ◌, ℤ, ℕ, neg_ℤ, pos, false, IsFalse, IsTrue};
+ghost use Rattle.std.specs.Prelude.{◌≡◌, ◌≤◌, ◌<◌, ◌+◌, ◌-◌, ◌*◌, ◌%◌, ◌==◌, ◌||◌, not, ◌≤ℤ◌, ◌<ℤ◌, ◌+ℤ◌, ℤ, ℕ, neg_ℤ, pos, true, false, IsFalse, IsTrue};
 ghost use Rattle.std.specs.Int.{IsInRange};
 ghost use Rattle.chrono_datetime.specs.Days.{IsDate, day_of, month_of};
 ghost use Rattle.chrono_datetime.specs.MonthMoves.{month_index, month_index_of, month_length_of};
+ghost use Rattle.chrono_datetime.specs.Weekday.{days_from_monday};
+ghost use Rattle.chrono_datetime.specs.Weeks.{weekday_of};
 ghost use Rattle.chrono_datetime.specs.Years.{month_length};
 ghost use Rattle.chrono_datetime.specs.PassedOver.{PassedOver};
-ghost use Rattle.chrono_rules.specs.Instances.{is_member};
-ghost use Rattle.chrono_rules.specs.ByParts.{names_weekday, on_month_day, on_weekday};
+ghost use Rattle.chrono_sets.specs.FiniteSets.{has};
+ghost use Rattle.chrono_rules.specs.Instances.{in_interval, is_member, not_after};
+ghost use Rattle.chrono_rules.specs.ByParts.{fills_day, fills_month, fills_weekday, has_numbers, in_week, names_weekday, on_month_day, on_weekday};
+ghost use Rattle.chrono_rules.specs.RuleParts.{lacks_month_days, lacks_months, lacks_weekdays, lacks_weeks};
 
 use crate::rule::Rule;
 use crate::search::repeats::PAST_LAST_DAY;
 use crate::weekday_places::numbers_of;
-use chrono_datetime::{Datelike, Month, NaiveDate};
+use chrono_datetime::{Datelike, LAST_DAY, Month, NaiveDate};
 
 impl Rule {
     // How many months in a row, from one on, are none of the rule's.
     fn months_left_out(&self, start: NaiveDate, month: u32) -> u32
         requires { IsInRange 1 12 month }
         ensures passed { (d : ℤ) (j : ℕ) → j < result → month_of d ≡ 1 + (month - 1 + j) % 12 → is_member self.now start d ≡ false }
+        ensures named { result ≡ 0 → (lacks_months self.now || has self.now.months month) ≡ true }
+        ensures filled { result ≡ 0 → (not (fills_month self.now.frequency self.now) || (month == month_of start)) ≡ true }
         ensures few { result ≤ 12 }
     {
         if !self.lacks_months() {
@@ -75,6 +81,8 @@ impl Rule {
     // None where BYMONTH names the day's own month, whose days are looked at one by one.
     fn months_passed(&self, start: NaiveDate, day: NaiveDate) -> u32
         ensures passed { (d : ℤ) (j : ℕ) → j < result → month_index_of d ≡ month_index_of day +ℤ pos j → is_member self.now start d ≡ false }
+        ensures named { result ≡ 0 → (lacks_months self.now || has self.now.months (month_of day)) ≡ true }
+        ensures filled { result ≡ 0 → (not (fills_month self.now.frequency self.now) || (month_of day == month_of start)) ≡ true }
         ensures few { result ≤ 60 }
     {
         if self.lacks_months() && !self.fills_month() {
@@ -103,10 +111,15 @@ impl Rule {
     #[inline]
     fn passed_by_month(&self, start: NaiveDate, day: NaiveDate) -> i64
         ensures passed { PassedOver (is_member self.now start) day (day +ℤ result) }
+        ensures named { result ≡ pos 0 → (lacks_months self.now || has self.now.months (month_of day)) ≡ true }
+        ensures filled { result ≡ pos 0 → (not (fills_month self.now.frequency self.now) || (month_of day == month_of start)) ≡ true }
         ensures low { pos 0 ≤ℤ result }
         ensures high { result ≤ℤ pos 1_000_000_000 }
     {
         let months = self.months_passed(start, day);
+        if months == 0 {
+            return 0;
+        }
         days_to_month(day, i64::from(months))
     }
 
@@ -114,6 +127,8 @@ impl Rule {
     #[inline]
     fn passed_by_month_day(&self, start: NaiveDate, day: NaiveDate) -> u32
         ensures passed { PassedOver (is_member self.now start) day (day +ℤ pos result) }
+        ensures named { result ≡ 0 → (lacks_month_days self.now || on_month_day self.now day) ≡ true }
+        ensures filled { result ≡ 0 → (not (fills_day self.now.frequency self.now) || (day_of day == day_of start)) ≡ true }
         ensures few { result ≤ 31 }
     {
         if !self.lacks_month_days() {
@@ -128,6 +143,7 @@ impl Rule {
     // How many days from this one on to one that BYMONTHDAY names, or to the end of its month.
     fn days_to_month_day(&self, day: NaiveDate) -> u32
         ensures passed { PassedOver (on_month_day self.now) day (day +ℤ pos result) }
+        ensures named { result ≡ 0 → on_month_day self.now day ≡ true }
         ensures few { result ≤ 31 }
     {
         let (place, length) = (day.day(), u32::from(day.num_days_in_month()));
@@ -140,6 +156,9 @@ impl Rule {
     fn passed_by_weekday(&self, start: NaiveDate, day: NaiveDate) -> u32
         requires { IsDate day }
         ensures passed { PassedOver (is_member self.now start) day (day +ℤ pos result) }
+        ensures named { result ≡ 0 → (lacks_weekdays self.now || on_weekday self.now day) ≡ true }
+        ensures filled { result ≡ 0 → (not (fills_weekday self.now.frequency self.now)
+            || (days_from_monday (weekday_of day) == days_from_monday (weekday_of start))) ≡ true }
         ensures few { result ≤ 366 }
     {
         if self.fills_weekday() {
@@ -154,6 +173,7 @@ impl Rule {
     // How many days from this one on lie in its week, if that is none that BYWEEKNO names.
     fn passed_by_week(&self, start: NaiveDate, day: NaiveDate) -> u32
         ensures passed { PassedOver (is_member self.now start) day (day +ℤ pos result) }
+        ensures named { result ≡ 0 → (lacks_weeks self.now || in_week self.now day) ≡ true }
         ensures few { result ≤ 7 }
     {
         if self.lacks_weeks() {
@@ -165,10 +185,26 @@ impl Rule {
         7 - day.weekday().days_since(self.week_start)
     }
 
-    // How many days from this one on to one that BYDAY names, or to the end of its month or year, where numbered weekdays count.
+    // How many days from this one on to one that BYDAY names. Where numbers count, at most those of its month or year.
     fn days_to_weekday(&self, day: NaiveDate) -> u32
         requires { IsDate day }
         ensures passed { PassedOver (on_weekday self.now) day (day +ℤ pos result) }
+        ensures named { result ≡ 0 → on_weekday self.now day ≡ true }
+        ensures few { result ≤ 366 }
+    {
+        if self.has_numbers() {
+            return self.days_to_numbered(day);
+        }
+        let weekday = day.weekday().num_days_from_monday();
+        self.weekdays.every.gap_around(0, weekday, 7)
+    }
+
+    // How many days from this one on to one that BYDAY names, or to the end of the month or year in which numbered weekdays count.
+    fn days_to_numbered(&self, day: NaiveDate) -> u32
+        requires date { IsDate day }
+        requires numbers { has_numbers self.now.frequency ≡ true }
+        ensures passed { PassedOver (on_weekday self.now) day (day +ℤ pos result) }
+        ensures named { result ≡ 0 → on_weekday self.now day ≡ true }
         ensures few { result ≤ 366 }
     {
         let place = self.counted_place(day);
@@ -192,7 +228,10 @@ impl Rule {
         requires first { first < 7 }
         requires place { IsInRange 1 366 place }
         requires behind { behind < 366 }
+        requires numbers { has_numbers self.now.frequency ≡ true }
         ensures passed { (j : ℕ) → j < result → j ≤ behind → j % 7 ≡ first → names_weekday self.now weekday (place + j) (behind - j) ≡ false }
+        ensures named { result ≡ 0 → names_weekday self.now weekday place behind ≡ true }
+        ensures here { result ≡ 0 → first ≡ 0 }
         ensures few { result ≤ behind + 1 }
     {
         if first > behind || !self.has_weekday(weekday) {
@@ -200,9 +239,6 @@ impl Rule {
         }
         if self.weekdays.every.contains(weekday) {
             return first;
-        }
-        if !self.has_numbers() {
-            return behind + 1;
         }
         let day = weekday as usize;
         let numbers = numbers_of(&self.weekdays.front, day);
@@ -223,22 +259,17 @@ impl Rule {
         self.weekdays.every.contains(weekday) || (!front.is_empty() || !back.is_empty())
     }
 
-    // How many days from this one on one of the rule's parts passes over, 0 if none does.
-    pub(crate) fn days_passed(&self, start: NaiveDate, day: NaiveDate) -> i64
+    // How many days from this one on one of the rule's BY parts passes over, 0 if none does.
+    // Then the day is a member if its period counts, unless it is after UNTIL.
+    pub(crate) fn passed_by_parts(&self, start: NaiveDate, day: NaiveDate) -> i64
+        requires { start ≤ℤ day }
         ensures passed { PassedOver (is_member self.now start) day (day +ℤ result) }
+        ensures member { result ≡ pos 0 → in_interval self.now start day ≡ true → not_after self.now.end day ≡ true → is_member self.now start day ≡ true }
         ensures low { pos 0 ≤ℤ result }
-        ensures high { result ≤ℤ pos 50_000_000_000 }
+        ensures high { result ≤ℤ pos 1_000_000_000 }
         ensures in_range { IsDate day }
     {
-        let here = day.num_days_from_ce();
-        let before = i64::from(start.num_days_from_ce()) - i64::from(here);
-        if before > 0 {
-            return before;
-        }
-        let periods = self.passed_by_interval(start, day);
-        if periods > 0 {
-            return periods;
-        }
+        prove!(day.num_days_from_ce() <= LAST_DAY);
         let months = self.passed_by_month(start, day);
         if months > 0 {
             return months;
@@ -266,15 +297,12 @@ impl Rule {
 // How many days from this one on lie before the month that is so many months later; all that are left if the calendar has none.
 #[inline]
 pub(crate) fn days_to_month(day: NaiveDate, months: i64) -> i64
-    requires low { pos 0 ≤ℤ months }
+    requires some { pos 0 <ℤ months }
     requires high { months ≤ℤ pos 100_000_000_000 }
     ensures earlier { (d : ℤ) → day ≤ℤ d → d <ℤ (day +ℤ result) → month_index_of d <ℤ (month_index_of day +ℤ months) }
-    ensures low { pos 0 ≤ℤ result }
+    ensures low { pos 0 <ℤ result }
     ensures high { result ≤ℤ pos 1_000_000_000 }
 {
-    if months == 0 {
-        return 0;
-    }
     let here = i64::from(day.num_days_from_ce());
     match day.first_day_of_month().moved_by_months(months) {
         Some(first) => i64::from(first.num_days_from_ce()) - here,
@@ -298,6 +326,7 @@ fn is_shorter(year: i32, month: u32, days: u32) -> bool
 #[inline]
 fn days_to_place(place: u32, day: NaiveDate) -> u32
     ensures passed { (d : ℤ) → day ≤ℤ d → d <ℤ (day +ℤ pos result) → (day_of d == place) ≡ false }
+    ensures here { result ≡ 0 → day_of day ≡ place }
     ensures few { result ≤ 31 }
 {
     let (here, end) = (day.day(), u32::from(day.num_days_in_month()) + 1);

@@ -1,4 +1,4 @@
-use Rattle.std.proofs.Common.{ap, inr, length}
+use Rattle.std.proofs.Common.{ap, inl, inr, length}
 use Rattle.std.proofs.lemmas.Bool.{false≢true}
 use Rattle.calendar_text.specs.Lines.{text_in}
 use Rattle.calendar_text.specs.TextParts.{parts_read}
@@ -34,3 +34,13 @@ returns-in_err-exception_count-clause-none g c =
     of_error c.from_residual-in_err-exception_count.result
     (MeansNoneWithin g.Z.TimeZone.ahead c.args.zone (parts_read c.args.calendar) (length c.args.dates.now) (length c.args.exceptions.now))
     (λ s means. inr (c.in_err-exception_count.ensures.none s.exceptions.now means.exceptions))
+
+pub returns-in_default-in_zone-clause-fault : goal.returns-in_default-in_zone-clause-fault
+returns-in_default-in_zone-clause-fault g c =
+    absurd (false≢true (c.in_default-in_zone.ensures.exists.1 (fits_zone (text_in c.args.calendar.rule) c.in-Ok.rule c.in-Ok.ensures.rule)))
+
+pub returns-in_err-date_count-clause-none : goal.returns-in_err-date_count-clause-none
+returns-in_err-date_count-clause-none g c =
+    of_error c.from_residual.result
+    (MeansNoneWithin g.Z.TimeZone.ahead c.args.zone (parts_read c.args.calendar) (length c.args.dates.now) (length c.args.exceptions.now))
+    (λ s means. inl (c.in_err-date_count.ensures.none s.dates.now means.dates))

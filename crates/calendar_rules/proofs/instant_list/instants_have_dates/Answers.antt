@@ -1,4 +1,4 @@
-use Rattle.std.proofs.Common.{ap, subst, sym, ◌∙◌}
+use Rattle.std.proofs.Common.{subst}
 use Rattle.chrono_datetime.specs.Moment.{IsMoment}
 use Rattle.chrono_instant.specs.Instants.{IsEpochSecond}
 use Rattle.chrono_instant.proofs.InstantLemmas.{IsEpochSecond-moment}

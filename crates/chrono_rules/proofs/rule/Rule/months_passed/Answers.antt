@@ -20,6 +20,7 @@ loop-gap-init c =
       omega (arith, signed, fits, month, year),
       omega arith,
       c.months_left_out-gap.ensures.few,
+      omega arith,
       omega (arith, signed, fits, range),
       omega (arith, signed, fits, range),
       λ d j lt at. absurd (omega (arith, lt)),
@@ -33,9 +34,16 @@ loop-gap-preserved c = (
   omega (arith, casts, c.loop-gap.invariant.1),
   omega (arith, c.loop-gap.invariant.3),
   c.months_left_out_or_short-gap.ensures.few,
+  omega arith,
   omega (arith, casts),
   omega (arith, casts),
-  λ d j lt at. months_on c.args.self.now c.args.start c.args.day d (to_z w32 c.loop-gap.year-bits) c.loop-gap.month c.loop-gap.months c.loop-gap.gap j c.loop-gap.invariant.1 c.loop-gap.invariant.6 c.loop-gap.invariant.7 lt at,
+  λ d j lt at. months_on c.args.self.now c.args.start c.args.day d (to_z w32 c.loop-gap.year-bits) c.loop-gap.month c.loop-gap.months c.loop-gap.gap j c.loop-gap.invariant.1 c.loop-gap.invariant.7 c.loop-gap.invariant.8 lt at,
   c.months_left_out_or_short-gap.ensures.passed,
-  c.loop-gap.invariant.8,
+  c.loop-gap.invariant.9,
 )
+
+pub returns-after-loop-gap-clause-named : goal.returns-after-loop-gap-clause-named
+returns-after-loop-gap-clause-named c = λ none. absurd (omega (arith, none))
+
+pub returns-after-loop-gap-clause-filled : goal.returns-after-loop-gap-clause-filled
+returns-after-loop-gap-clause-filled c = λ none. absurd (omega (arith, none))

@@ -1,17 +1,14 @@
-use Rattle.std.proofs.Common.{arith}
-use Rattle.chrono_datetime.specs.Days.{IsDate}
-use Rattle.chrono_datetime.proofs.Signed.{casts, signed}
-use Rattle.chrono_rules.proofs.PlacesFromEnd.{behind_front}
+use Rattle.std.proofs.Common.{◌≡◌, refl, sym, ap, ◌∙◌, arith}
+use Rattle.chrono_datetime.proofs.Signed.{signed}
+use Rattle.chrono_rules.specs.Instances.{in_positions, is_member}
+use Rattle.chrono_rules.proofs.NamedDays.{off_position}
 use Rattle.chrono_rules.proofs.rule.Rule.passed_by_position.Goals as goal
 
-pub days_to_place_from_end-requires-clause-front : goal.days_to_place_from_end-requires-clause-front
-days_to_place_from_end-requires-clause-front c = λ d low high is.
-    let here = c.num_days_from_ce.ensures in
-    let date : IsDate d = (omega (arith, signed, low, here.value, here.in_range), omega (arith, casts, high, c.if-from-end.false, here.value, here.in_range, c.from.ensures, c.from-2.ensures, c.to_period_end-end.ensures.low, c.to_period_end-end.ensures.high)) in
-    behind_front c.args.self.now c.args.start c.args.day d c.passing_before-before.result c.last_place.result low
-    (omega (arith, signed, high, c.to_period_end-end.ensures.value)) date c.passing_before-before.ensures.value c.if-before-last_place.false c.last_place.ensures.none is
+pub returns-then-lacks_positions-clause-named : goal.returns-then-lacks_positions-clause-named
+unfolding in_positions
+returns-then-lacks_positions-clause-named c = λ none. rw (sym c.lacks_positions.ensures ∙ c.if-lacks_positions.true) refl
 
-pub returns-clause-passed : goal.returns-clause-passed
-returns-clause-passed c = λ d low high.
-    let end = c.days_to_place_from_end.ensures in
-    end.passed d low (omega (arith, casts, high, end.low, end.high))
+pub returns-else-in_positions-clause-passed : goal.returns-else-in_positions-clause-passed
+returns-else-in_positions-clause-passed c = λ d low high.
+    let same : d ≡ c.args.day = omega (arith, signed, low, high) in
+    ap (is_member c.args.self.now c.args.start) same ∙ off_position c.args.self.now c.args.start c.args.day (sym c.in_positions.ensures ∙ c.if-in_positions.false)

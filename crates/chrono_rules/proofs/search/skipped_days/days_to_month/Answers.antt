@@ -27,7 +27,7 @@ returns-in-Some-clause-earlier c = λ d low high.
 pub returns-in-Some-clause-low : goal.returns-in-Some-clause-low
 returns-in-Some-clause-low c =
     let found = first_later c.args.day c.first_day_of_month.result c.in-Some.first c.args.months c.first_day_of_month.ensures.month c.first_day_of_month.ensures.day (omega (arith, casts, c.in-Some.ensures.month)) c.in-Some.ensures.day in
-    omega (arith, casts, later_month c.args.day c.in-Some.first (omega (arith, casts, found.0, c.requires.low)))
+    omega (arith, casts, later_month c.args.day c.in-Some.first (omega (arith, casts, found.0, c.requires.some)))
 
 pub returns-in-None-clause-earlier : goal.returns-in-None-clause-earlier
 returns-in-None-clause-earlier c = λ d low high.
@@ -39,5 +39,5 @@ returns-in-None-clause-earlier c = λ d low high.
     by_lt_z (month_index_of d) (month_index_of day +ℤ c.args.months) (λ less. less)
     (λ more.
     absurd (none_later c.first_day_of_month.result day d months (λ year. false≢true (c.in-None.ensures.exists.1 year))
-    c.first_day_of_month.ensures.month (year_of-range day own) (year_of-range d date) (omega (arith, casts, c.requires.low, c.requires.high))
-    (omega (arith, casts, c.requires.low, c.requires.high, more))))
+    c.first_day_of_month.ensures.month (year_of-range day own) (year_of-range d date) (omega (arith, casts, c.requires.some, c.requires.high))
+    (omega (arith, casts, c.requires.some, c.requires.high, more))))
