@@ -1,24 +1,23 @@
--- The numbers of what a move reaches, a text writes and a distance is stand for it again.
-use Rattle.std.proofs.Common.{◌≡◌, ℕ, ◌+◌, ◌<◌, ◌≤◌, ◌==◌, ◌&&◌, nat_lt, nat_le, Bool, true, false, cond, List, Option, Some, None, refl, sym, subst, arith, ℤ, pos, ◌+ℤ◌, ◌-ℤ◌, unsigned_abs}
+-- The numbers of what a move reaches and a text writes stand for it again.
+use Rattle.std.proofs.Common.{◌≡◌, ℕ, ◌+◌, ◌<◌, ◌≤◌, ◌==◌, ◌&&◌, Bool, true, false, cond, List, Option, Some, None, refl, sym, subst, arith, ℤ, pos, ◌+ℤ◌, ◌-ℤ◌}
 use Rattle.std.proofs.lemmas.Bool.{and_parts}
 use Rattle.std.proofs.lemmas.Bool.Decides.{nat_tests}
 use Rattle.std.proofs.lemmas.Option.{cond_some}
-use Rattle.std.specs.Option.{option_and_then, option_map}
-use Rattle.chrono_clock.specs.Duration.{IsDuration, duration_named as duration_of_parts, floor_secs, longest, nanos_of, past_floor}
-use Rattle.chrono_clock.specs.Time.{Landing, TimeOfDay, distance, is_leap, land, leap_landing, place, plain_landing, time_at}
+use Rattle.std.specs.Option.{option_and_then}
+use Rattle.chrono_clock.specs.Time.{Landing, TimeOfDay, land, leap_landing, place, plain_landing, time_at}
 use Rattle.chrono_clock.proofs.TimeLemmas.{by_leap, by_parts, land-leap, land-plain, leap_landing-before, leap_landing-inside, leap_landing-past}
 use Rattle.chrono_units.specs.Years.{IsYear, is_year}
 use Rattle.chrono_calendar.specs.Days.{IsDate, date_of_day, date_of_ymd, day_number_of_ymd, is_calendar_name}
 use Rattle.chrono_calendar.proofs.Dates.{is_year-fact}
 use Rattle.chrono_calendar.proofs.NamedDates.{IsDate-year, date_of_day-number, date_of_ymd-name}
 use Rattle.chrono_calendar.proofs.Signed.{signed}
-use Rattle.chrono_datetime.specs.Moment.{Moment, moment_distance, reach}
+use Rattle.chrono_datetime.specs.Moment.{Moment, reach}
 use Rattle.chrono_reading.specs.DateTimeTexts.{IsDateTimeText}
 use Rattle.chrono_reading.specs.TimeTexts.{IsTimeText}
 use Rattle.chrono_text.proofs.FractionLemmas.{IsFractionText-below}
-use Rattle.numbers_c.specs.DateTimes.{duration_from_c, duration_or_none, moment_from_c, numbers_for_c, numbers_or_none}
+use Rattle.numbers_c.specs.DateTimes.{moment_from_c, numbers_for_c, numbers_or_none, time_for_c, time_from_c}
 use Rattle.numbers_c.specs.declared.date_time_numbers.CalendarDateTime.{CalendarDateTime}
-use Rattle.numbers_c.proofs.DateTimeLemmas.{IsTimeNamed, found, moment_from_c-facts, moment_from_c-none, numbers_for_c-again}
+use Rattle.numbers_c.proofs.DateTimeLemmas.{IsTimeNamed, found, moment_from_c-facts, moment_from_c-none, numbers_for_c-again, time_for_c-again}
 
 -- ---- moves
 
@@ -83,34 +82,5 @@ pub text-again : (text : List ℕ) (m : Moment) → IsDateTimeText text m → mo
 text-again text m h =
     numbers_for_c-again m (IsDate-named m.date h.date_written.year h.date_written.month h.date_written.day h.date_written.names) (IsNamed-shown h.time m.time h.time_written)
 
--- ---- distances
-
-few : (b : Bool) → cond b 1_000_000_000 0 ≤ 1_000_000_000
-few true = omega arith
-few false = omega arith
-
--- no two date-times are farther apart than a duration may be
-IsDuration-moment_distance : (m n : Moment) → IsDate m.date → IsDate n.date → IsNamed m.time → IsNamed n.time → IsDuration (moment_distance m n)
-unfolding moment_distance distance
-IsDuration-moment_distance m n d e t u =
-    omega (arith, signed, d.0, d.1, e.0, e.1, t.0, t.1.0, u.0, u.1.0, few (is_leap n.time && nat_lt n.time.second m.time.second), few (is_leap m.time && nat_lt m.time.second n.time.second))
-
-duration_from_c-again : (x : ℤ) → IsDuration x → duration_from_c (duration_or_none (Some x)) ≡ Some x
-unfolding duration_from_c duration_of_parts
-duration_from_c-again x h =
-    let is : nanos_of (floor_secs x) (past_floor x) ≡ x = omega (arith, signed) in
-    let test : (nat_lt (past_floor x) 1_000_000_000 && nat_le (unsigned_abs x) longest) ≡ true = grind (arith, nat_tests) in
-    rw (is, test) refl
-
-duration_from_c-none : (o : Option ℤ) → o ≡ None → duration_from_c (duration_or_none o) ≡ o
-unfolding duration_from_c duration_of_parts
-duration_from_c-none None e = refl
-duration_from_c-none (Some x) e = absurd cc
-
-pub distance-again : (a b : CalendarDateTime) (m n : Option Moment) → m ≡ moment_from_c a → n ≡ moment_from_c b → duration_from_c (duration_or_none (option_and_then (λ o. option_map (moment_distance o) n) m)) ≡ option_and_then (λ o. option_map (moment_distance o) n) m
-distance-again a b None n d e = duration_from_c-none None refl
-distance-again a b (Some m) None d e = duration_from_c-none None refl
-distance-again a b (Some m) (Some n) d e =
-    let is = moment_from_c-facts a m d in
-    let also = moment_from_c-facts b n e in
-    duration_from_c-again (moment_distance m n) (IsDuration-moment_distance m n is.0 also.0 is.1 also.1)
+pub time_text-again : (text : List ℕ) (t : TimeOfDay) → IsTimeText text t → time_from_c (time_for_c t) ≡ Some t
+time_text-again text t h = time_for_c-again t (IsNamed-shown text t h)

@@ -10,9 +10,12 @@
 
 mod columns;
 mod date_times;
+mod durations;
 mod fields;
 mod moves;
 mod names;
 mod split;
 mod texts;
+mod times;
+mod versions;
 mod weekdays;

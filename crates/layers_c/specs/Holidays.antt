@@ -1,18 +1,23 @@
 -- Calendars of holidays by their numbers, and what is wrong with holidays.
-use Rattle.std.specs.Prelude.{◌≡◌, ℕ, ◌<◌, ◌≤◌, nat_le, if◌then◌else◌, true, List, [], ◌∷◌, length, slice_get, slice_index_or, ℤ, pos, Option}
+use Rattle.std.specs.Prelude.{◌≡◌, ℕ, ◌<◌, ◌≤◌, nat_le, if◌then◌else◌, true, List, [], ◌∷◌, ◌++◌, codes, length, slice_get, slice_index_or, ℤ, pos, Option}
+use Rattle.std.specs.Fmt.{decimal}
 use Rattle.std.specs.List.{All}
+use Rattle.std.specs.Option.{option_map}
 use Rattle.chrono_datetime.specs.Days.{IsDate}
 use Rattle.chrono_datetime.specs.WeekdaySet.{DaySet}
 use Rattle.chrono_business.specs.HolidayLists.{AreTooMany, IsOfRules}
 use Rattle.chrono_business.specs.OpenDays.{AreHolidays, is_holiday, is_workday}
-use Rattle.chrono_business.specs.PublicHolidays.{england_and_wales_rules, target_rules, us_federal_rules}
+use Rattle.chrono_business.specs.PublicHolidays.{england_and_wales_rules, fedwire_rules, france_rules, germany_rules, nyse_rules, target_rules, us_federal_rules}
 use Rattle.chrono_business.specs.WrongHolidays.{IsWrong}
 use Rattle.chrono_business.specs.declared.holiday_error.HolidayError.TheVariants.{NotRising, OnWeekend}
 use Rattle.chrono_business.specs.declared.holiday_rule.HolidayRule.{HolidayRule}
+use Rattle.layers_c.specs.Faults.{numbered}
+use Rattle.layers_c.specs.declared.faults.CalendarFault.{CalendarFault}
 
 -- the rules of the calendars, numbered from 0
 abbrev pub rules_numbered : ℕ → Option (List HolidayRule)
-rules_numbered n = slice_get (us_federal_rules ∷ target_rules ∷ england_and_wales_rules ∷ []) n
+rules_numbered n =
+    slice_get (us_federal_rules ∷ target_rules ∷ england_and_wales_rules ∷ fedwire_rules ∷ nyse_rules ∷ germany_rules ∷ france_rules ∷ []) n
 
 -- the holidays of rules for some years, but for those on the weekend
 pub record AreHolidaysOf (rules : List HolidayRule) (first last : ℤ) (weekend : DaySet) (xs : List ℤ) : Type 0 where
@@ -41,3 +46,11 @@ pub record IsHolidayFault (weekend : DaySet) (xs : List ℤ) (code place : ℕ) 
   pub no_date : code ≡ 2 → IsFirstNoDate xs place
   pub not_rising : code ≡ 3 → All IsDate xs × IsWrong weekend xs (NotRising place)
   pub on_weekend : code ≡ 4 → All IsDate xs × IsWrong weekend xs (OnWeekend place)
+
+-- what is said of a wrong holiday, by the number of what is wrong
+abbrev pub holiday_fault_texts : List (List ℕ)
+holiday_fault_texts = codes " is one too many" ∷ codes " is no date" ∷ codes " does not come after the one before" ∷ codes " is on the weekend" ∷ []
+
+-- what a fault of holidays says, if there is such a fault: the place of the holiday, from 0, and what is wrong with it
+abbrev pub holiday_line_from_c : CalendarFault → Option (List ℕ)
+holiday_line_from_c a = option_map (λ said. codes "holiday " ++ (decimal a.byte ++ said)) (numbered holiday_fault_texts a.code)

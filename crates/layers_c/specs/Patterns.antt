@@ -1,8 +1,9 @@
 -- Patterns and texts by the numbers of C.
-use Rattle.std.specs.Prelude.{◌≡◌, ℕ, ◌-◌, ◌≤◌, false, List, [], ◌∷◌, length, Option, Some, ℤ, pos}
+use Rattle.std.specs.Prelude.{◌≡◌, ℕ, ◌-◌, ◌≤◌, nat_le, if◌then◌else◌, false, List, [], ◌∷◌, length, Option, Some, ℤ, pos}
 use Rattle.std.specs.Option.{option_map}
 use Rattle.chrono_datetime.specs.Moment.{Moment, moment}
 use Rattle.chrono_clock.specs.Time.{time_at}
+use Rattle.chrono_pattern.specs.ErrorTexts.{pattern_error_text, read_error_text}
 use Rattle.chrono_pattern.specs.Needs.{needs_offset, needs_time}
 use Rattle.chrono_pattern.specs.Patterns.{IsPattern, pattern_text}
 use Rattle.chrono_pattern.specs.declared.error.PatternError.{PatternError}
@@ -30,6 +31,11 @@ pattern_error_from_c a = option_map (λ cause. record { byte = a.byte; cause = c
 -- what is wrong with a text, by the numbers of a fault
 unfoldable pub read_error_from_c : CalendarFault → Option PatternReadError
 read_error_from_c a = option_map (λ cause. record { byte = a.byte; cause = cause }) (numbered read_faults (a.code - 2))
+
+-- what a fault says, if there is such a fault: the line of a pattern's error by the first two numbers, and of a text's error by the others
+abbrev pub pattern_line_from_c : CalendarFault → Option (List ℕ)
+pattern_line_from_c a =
+    if nat_le a.code 2 then option_map pattern_error_text (pattern_error_from_c a) else option_map read_error_text (read_error_from_c a)
 
 -- a fault has no field, and goes on to the end of the pattern or of the text
 pub record GoesToEnd (text : List ℕ) (fault : CalendarFault) : Type 0 where

@@ -1,7 +1,10 @@
 -- Schedules with seconds and years by their texts and the numbers of dialects.
-use Rattle.std.specs.Prelude.{◌≡◌, ℕ, List, [], ◌∷◌, slice_get, Option, Some, IfSome, IfNone, IsSomeAnd, IsTrue}
+use Rattle.std.specs.Prelude.{◌≡◌, ℕ, ◌==◌, if◌then◌else◌, List, [], ◌∷◌, slice_get, Option, Some, IfSome, IfNone, IsSomeAnd, IsTrue}
+use Rattle.std.specs.Option.{option_map}
+use Rattle.chrono_cron.specs.declared.text.schedule_error.ScheduleError.{ScheduleError}
 use Rattle.chrono_datetime.specs.Moment.{IsBefore, Moment}
 use Rattle.timed_cron.specs.DueSeconds.{NoSecondAfter, NoSecondBefore, NoSecondBetween, is_timed_due}
+use Rattle.timed_cron.specs.TimedErrors.{timed_error_text}
 use Rattle.timed_cron.specs.TimedTexts.{IsTimedText}
 use Rattle.timed_cron.specs.declared.dialect.Dialect.{Dialect}
 use Rattle.timed_cron.specs.declared.dialect.Dialect.TheVariants.{Crontab, Seconds, Quartz}
@@ -40,3 +43,15 @@ IsTimedFault (InSeconds e) a = (numbered schedule_faults a.code ≡ Some e.fault
 IsTimedFault (InFields e) a = schedule_error_from_c a ≡ Some e
 IsTimedFault (QuestionMarks byte) a = (a.code ≡ 15) × (a.field ≡ 5) × (a.byte ≡ byte)
 IsTimedFault (InYears e) a = (numbered schedule_faults a.code ≡ Some e.fault) × (a.field ≡ 7) × (a.byte ≡ e.byte)
+
+-- the error of a schedule in the field with a number
+abbrev pub error_in_field : ℕ → ScheduleError → TimedError
+error_in_field field e = if field == 6 then InSeconds e else (if field == 7 then InYears e else InFields e)
+
+-- what is wrong, by the numbers of a fault
+abbrev pub timed_error_from_c : CalendarFault → Option TimedError
+timed_error_from_c a = if a.code == 15 then Some (QuestionMarks a.byte) else option_map (error_in_field a.field) (schedule_error_from_c a)
+
+-- what a fault says, if there is such a fault
+abbrev pub timed_line_from_c : CalendarFault → Option (List ℕ)
+timed_line_from_c a = option_map timed_error_text (timed_error_from_c a)

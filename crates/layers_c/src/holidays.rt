@@ -7,16 +7,19 @@ ghost use Rattle.chrono_business.specs.Easter.{date_of_easter};
 ghost use Rattle.chrono_business.specs.WrongHolidays.{IsWrong};
 ghost use Rattle.chrono_business.specs.declared.holiday_rule.HolidayRule.{HolidayRule};
 ghost use Rattle.numbers_c.specs.Answers.{count_or_none, none_number, or_none};
-ghost use Rattle.layers_c.specs.Holidays.{AreHolidaysOf, AreTooManyFor, IsFirstNoDate, IsHolidayFault, most_within, rules_numbered};
+ghost use Rattle.numbers_c.specs.Texts.{length_of, overwritten, text_within};
+ghost use Rattle.layers_c.specs.Holidays.{AreHolidaysOf, AreTooManyFor, IsFirstNoDate, IsHolidayFault, holiday_line_from_c, most_within, rules_numbered};
 ghost use Rattle.layers_c.specs.OpenDays.{IsCalendar};
 
 use crate::faults::CalendarFault;
+use crate::holiday_words::holiday_line;
 use crate::open_days::{MOST, dates_of};
 use chrono_business::{
-    Calendar, HolidayError, easter, england_and_wales, holidays_of, target, us_federal,
+    Calendar, HolidayError, easter, england_and_wales, fedwire, france, germany, holidays_of, nyse,
+    target, us_federal,
 };
 use chrono_datetime::{Datelike, MAX_YEAR, MIN_YEAR, NaiveDate, WeekdaySet};
-use numbers_c::{NONE, date_of, number_or_none, set_of};
+use numbers_c::{NONE, date_of, number_or_none, set_of, write_over};
 
 /// Returns Easter Sunday of a year, as the Gregorian churches have it.
 #[unsafe(no_mangle)]
@@ -37,6 +40,7 @@ pub extern "C" fn calendar_holidays_of(
 ) -> i32
     ensures holidays { (n : ℕ) → (rules : List HolidayRule) → result ≡ pos n → rules_numbered which ≡ Some rules
         → AreHolidaysOf rules first_year last_year (set_at weekend) (take n out.new) }
+    ensures within { result ≤ℤ pos (length out.old) }
     ensures rest { (n : ℕ) → result ≡ pos n → drop n out.new ≡ drop n out.old }
     ensures none { (rules : List HolidayRule) → result ≡ none_number → rules_numbered which ≡ Some rules → IsYear first_year → IsYear last_year
         → AreTooManyFor (most_within (length out.old)) rules first_year last_year (set_at weekend) }
@@ -103,6 +107,18 @@ pub extern "C" fn calendar_holidays_check(
     }
 }
 
+/// Writes what a fault of holidays says over the first bytes, if they are enough, and returns how many it took.
+#[unsafe(no_mangle)]
+pub extern "C" fn calendar_holidays_fault_text(fault: &CalendarFault, text: &mut [u8]) -> i32
+    ensures length { result ≡ count_or_none (length_of (text_within (length text.old) (holiday_line_from_c fault.now))) }
+    ensures bytes { text.new ≡ overwritten (text_within (length text.old) (holiday_line_from_c fault.now)) text.old }
+{
+    match holiday_line(fault) {
+        Some(line) => write_over(text, line.as_bytes()),
+        None => NONE,
+    }
+}
+
 // The fault with a number at a place.
 fn fault_at(code: u32, place: usize) -> CalendarFault
     requires { place < 2 ^ 63 }
@@ -163,6 +179,10 @@ fn found_holidays(
         0 => holidays_of(&us_federal(), first_year, last_year, weekend, dates),
         1 => holidays_of(&target(), first_year, last_year, weekend, dates),
         2 => holidays_of(&england_and_wales(), first_year, last_year, weekend, dates),
+        3 => holidays_of(&fedwire(), first_year, last_year, weekend, dates),
+        4 => holidays_of(&nyse(), first_year, last_year, weekend, dates),
+        5 => holidays_of(&germany(), first_year, last_year, weekend, dates),
+        6 => holidays_of(&france(), first_year, last_year, weekend, dates),
         _ => None,
     }
 }

@@ -8,12 +8,14 @@ ghost use Rattle.chrono_pattern.specs.Patterns.{IsPattern, pattern_error, patter
 ghost use Rattle.chrono_pattern.specs.TimeParts.{IsClockTime};
 ghost use Rattle.chrono_pattern.specs.ZonedParts.{names_moment};
 ghost use Rattle.chrono_pattern.specs.declared.error.PatternReadError.{PatternReadError};
-ghost use Rattle.numbers_c.specs.Answers.{none_number};
+ghost use Rattle.numbers_c.specs.Answers.{count_or_none, none_number};
 ghost use Rattle.numbers_c.specs.DateTimes.{moment_from_c, numbers_for_c, numbers_or_none};
-ghost use Rattle.layers_c.specs.Patterns.{FitsDate, FitsMoment, GoesToEnd, IsWritten, midnight_of, pattern_error_from_c, read_error_from_c};
+ghost use Rattle.numbers_c.specs.Texts.{length_of, overwritten, text_within};
+ghost use Rattle.layers_c.specs.Patterns.{FitsDate, FitsMoment, GoesToEnd, IsWritten, midnight_of, pattern_error_from_c, pattern_line_from_c, read_error_from_c};
 
 use crate::faults::CalendarFault;
 use crate::pattern_faults::{pattern_fault, read_fault};
+use crate::pattern_words::pattern_line;
 use chrono_pattern::Pattern;
 use numbers_c::{
     CalendarDateTime, NONE, date_of, date_time_of, number_or_none, numbers_or_none, write_over,
@@ -37,6 +39,19 @@ pub extern "C" fn calendar_pattern_check(pattern: &[u8], fault: &mut CalendarFau
             *fault = pattern_fault(pattern, error);
             false
         }
+    }
+}
+
+/// Writes what a fault of a pattern, or of a text that a pattern reads, says over the first bytes, if they are enough. Returns how many
+/// it took.
+#[unsafe(no_mangle)]
+pub extern "C" fn calendar_pattern_fault_text(fault: &CalendarFault, text: &mut [u8]) -> i32
+    ensures length { result ≡ count_or_none (length_of (text_within (length text.old) (pattern_line_from_c fault.now))) }
+    ensures bytes { text.new ≡ overwritten (text_within (length text.old) (pattern_line_from_c fault.now)) text.old }
+{
+    match pattern_line(fault) {
+        Some(line) => write_over(text, line.as_bytes()),
+        None => NONE,
     }
 }
 

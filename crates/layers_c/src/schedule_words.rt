@@ -48,8 +48,8 @@ fn words_of(fault: ScheduleFault) -> &'static str
 {
     match fault {
         ScheduleFault::Empty => "nothing stands there",
-        ScheduleFault::TooFewFields => "fewer than five fields",
-        ScheduleFault::TooManyFields => "more than five fields",
+        ScheduleFault::TooFewFields => "too few fields",
+        ScheduleFault::TooManyFields => "too many fields",
         ScheduleFault::UnknownNickname => "an unknown nickname",
         ScheduleFault::Interval => "an interval, which is no schedule",
         ScheduleFault::Reboot => "the start of a machine, which is no schedule",

@@ -1,17 +1,20 @@
 //! Schedules with seconds and years, by their texts: when one is due, and the next and the last time.
 ghost use Rattle.std.specs.Prelude.{◌≡◌, ◌≤◌, false, true, IfNone, IfSome, None, Some, length};
 ghost use Rattle.chrono_datetime.specs.Moment.{Moment};
+ghost use Rattle.numbers_c.specs.Answers.{count_or_none};
 ghost use Rattle.numbers_c.specs.DateTimes.{moment_from_c, numbers_or_none};
+ghost use Rattle.numbers_c.specs.Texts.{length_of, overwritten, text_within};
 ghost use Rattle.timed_cron.specs.DueSeconds.{is_timed_due};
 ghost use Rattle.timed_cron.specs.TimedErrors.{error_byte, timed_error};
 ghost use Rattle.layers_c.specs.Faults.{IsPartEnd};
-ghost use Rattle.layers_c.specs.TimedSchedules.{IsLastSecond, IsNextSecond, IsTimedFault, WritesTimed, dialect_numbered};
+ghost use Rattle.layers_c.specs.TimedSchedules.{IsLastSecond, IsNextSecond, IsTimedFault, WritesTimed, dialect_numbered, timed_line_from_c};
 
 use crate::faults::CalendarFault;
 use crate::part_end::part_end;
 use crate::schedule_faults::{fault_number, fault_of};
 use crate::schedules::{no_numbers, plain_numbers};
-use numbers_c::{CalendarDateTime, date_time_of};
+use crate::timed_words::timed_line;
+use numbers_c::{CalendarDateTime, NONE, date_time_of, write_over};
 use timed_cron::{Dialect, TimedError, TimedSchedule, read_timed_schedule};
 
 /// Returns the first date-time after `start` at which the schedule of a text is due.
@@ -102,6 +105,18 @@ pub extern "C" fn calendar_timed_schedule_check(
             *fault = timed_fault_of(text, error);
             false
         }
+    }
+}
+
+/// Writes what a fault of a schedule with seconds and years says over the first bytes, if they are enough, and returns how many it took.
+#[unsafe(no_mangle)]
+pub extern "C" fn calendar_timed_schedule_fault_text(fault: &CalendarFault, text: &mut [u8]) -> i32
+    ensures length { result ≡ count_or_none (length_of (text_within (length text.old) (timed_line_from_c fault.now))) }
+    ensures bytes { text.new ≡ overwritten (text_within (length text.old) (timed_line_from_c fault.now)) text.old }
+{
+    match timed_line(fault) {
+        Some(line) => write_over(text, line.as_bytes()),
+        None => NONE,
     }
 }
 

@@ -1,15 +1,15 @@
 //! The version of the library.
-ghost use Rattle.std.specs.Prelude.{◌≡◌, Some, codes, length};
+ghost use Rattle.std.specs.Prelude.{◌≡◌, Some, length};
 ghost use Rattle.numbers_c.specs.Answers.{count_or_none};
-ghost use Rattle.numbers_c.specs.Texts.{length_of, overwritten, text_within};
+ghost use Rattle.numbers_c.specs.Texts.{length_of, overwritten, text_within, version};
 
-use numbers_c::write_over;
+use numbers_c::write_version;
 
 /// Writes the version over the first bytes, if they are enough, and returns how many it took.
 #[unsafe(no_mangle)]
-pub extern "C" fn calendar_version(text: &mut [u8]) -> i32
-    ensures length { result ≡ count_or_none (length_of (text_within (length text.old) (Some (codes "0.1.0")))) }
-    ensures bytes { text.new ≡ overwritten (text_within (length text.old) (Some (codes "0.1.0"))) text.old }
+pub extern "C" fn calendar_layers_version(text: &mut [u8]) -> i32
+    ensures length { result ≡ count_or_none (length_of (text_within (length text.old) (Some version))) }
+    ensures bytes { text.new ≡ overwritten (text_within (length text.old) (Some version)) text.old }
 {
-    write_over(text, b"0.1.0")
+    write_version(text)
 }

@@ -1,5 +1,5 @@
--- A text that is written over the first of some bytes.
-use Rattle.std.specs.Prelude.{ℕ, ◌++◌, nat_le, if◌then◌else◌, List, length, drop, Option, Some, None}
+-- A text that is written over the first of some bytes, and the version of the libraries.
+use Rattle.std.specs.Prelude.{ℕ, ◌++◌, nat_le, if◌then◌else◌, List, codes, length, drop, Option, Some, None}
 
 -- the text, if there is one and so many bytes hold it
 abbrev pub text_within : ℕ → Option (List ℕ) → Option (List ℕ)
@@ -15,3 +15,7 @@ overwritten None bytes = bytes
 abbrev pub length_of : Option (List ℕ) → Option ℕ
 length_of (Some text) = Some (length text)
 length_of None = None
+
+-- the version of the libraries for C
+abbrev pub version : List ℕ
+version = codes "0.1.0"

@@ -1,7 +1,7 @@
 //! Date-times and durations as the two numbers that stand for them.
 ghost use Rattle.std.specs.Prelude.{◌≡◌};
-ghost use Rattle.chrono_clock.specs.Duration.{floor_secs, past_floor};
-ghost use Rattle.numbers_c.specs.DateTimes.{duration_from_c, duration_or_none, moment_at, moment_from_c, numbers_for_c, numbers_or_none};
+ghost use Rattle.chrono_clock.specs.Duration.{IsDuration};
+ghost use Rattle.numbers_c.specs.DateTimes.{duration_for_c, duration_from_c, duration_or_none, moment_at, moment_from_c, numbers_for_c, numbers_or_none};
 
 use crate::arguments::date_of;
 use chrono_calendar::ends::FIRST_DAY;
@@ -14,8 +14,8 @@ const FIRST_SECOND: i64 = -8_334_601_228_800;
 
 const LAST_SECOND: i64 = 8_210_266_876_799;
 
-// The nanoseconds that stand for no date-time and no duration.
-const NO_NANOS: u32 = u32::MAX;
+// The nanoseconds that stand for no date-time, time of day or duration.
+pub(crate) const NO_NANOS: u32 = u32::MAX;
 
 /// A date-time without time zone: the seconds since 1970-01-01T00:00:00, with 86,400 for every day, and nanoseconds.
 ///
@@ -116,8 +116,9 @@ pub fn duration_of(duration: CalendarDuration) -> Option<TimeDelta>
 
 // The numbers of a duration.
 #[inline]
-fn duration_numbers(duration: TimeDelta) -> CalendarDuration
-    ensures { result ≡ record { seconds = floor_secs duration; nanos = past_floor duration } }
+fn duration_for_c(duration: TimeDelta) -> CalendarDuration
+    ensures numbers { result ≡ duration_for_c duration }
+    ensures in_range { IsDuration duration }
 {
     let seconds = duration.num_seconds();
     let nanos = duration.subsec_nanos();
@@ -142,10 +143,12 @@ fn duration_numbers(duration: TimeDelta) -> CalendarDuration
 /// ```
 #[inline]
 pub fn duration_or_none(duration: Option<TimeDelta>) -> CalendarDuration
-    ensures { result ≡ duration_or_none duration }
+    ensures numbers { result ≡ duration_or_none duration }
+    // The numbers that are answered stand for that duration again, and for none if there is none.
+    ensures named { duration_from_c result ≡ duration }
 {
     match duration {
-        Some(duration) => duration_numbers(duration),
+        Some(duration) => duration_for_c(duration),
         None => CalendarDuration {
             seconds: 0,
             nanos: NO_NANOS,

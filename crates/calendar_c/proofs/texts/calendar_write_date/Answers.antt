@@ -1,30 +1,26 @@
-use Rattle.std.proofs.Common.{◌≡◌, ◌∙◌, ◌++◌, ap, [], List, ℕ, ℤ, Option, Some, length, arith, FitsSigned, rules, w32}
+use Rattle.std.proofs.Common.{◌≡◌, ◌∙◌, ◌++◌, ap, List, ℕ, Option, length, arith, FitsSigned, rules, w32}
 use Rattle.std.proofs.lemmas.Int.{to_z-of_z}
-use Rattle.std.specs.Option.{option_map}
 use Rattle.chrono_calendar.proofs.NamedDates.{date_of_day-Some, none-date_of_day}
 use Rattle.chrono_datetime.specs.DateText.{date_text}
 use Rattle.chrono_text.proofs.AnswerLemmas.{the_one}
 use Rattle.numbers_c.specs.Answers.{count_or_none}
 use Rattle.numbers_c.specs.Texts.{length_of, overwritten, text_within}
 use Rattle.numbers_c.proofs.LengthLemmas.{enough}
+use Rattle.calendar_c.proofs.PutLemmas.{put-found}
 use Rattle.calendar_c.proofs.texts.calendar_write_date.Goals as goal
-
--- the bytes that were put are the text of the date that was found
-put : (o : Option ℤ) (n : ℤ) (bytes text start : List ℕ) → Some n ≡ o → bytes ≡ text → text ≡ start ++ date_text n → start ≡ [] → Some bytes ≡ option_map date_text o
-put o n bytes text start e f g h = rw (← e) (ap Some (f ∙ g ∙ ap (λ s. s ++ date_text n) h))
 
 pub returns-clause-length : goal.returns-clause-length
 returns-clause-length c =
     let fits : FitsSigned w32 c.write_over.result = search rules in
     let date = rw (to_z-of_z w32 c.args.date c.ranges.date) at c.in-Some.ensures.date in
     to_z-of_z w32 c.write_over.result fits ∙ c.write_over.ensures.length
-    ∙ ap (λ (o : Option (List ℕ)). count_or_none (length_of (text_within (length c.args.text.now) o))) (put _ _ _ _ _ date c.as_bytes.ensures.value c.put_into.ensures.text c.new-written.ensures)
+    ∙ ap (λ (o : Option (List ℕ)). count_or_none (length_of (text_within (length c.args.text.now) o))) (put-found date_text _ _ _ _ _ date c.as_bytes.ensures.value c.put_into.ensures.text c.new-written.ensures)
 
 pub returns-clause-bytes : goal.returns-clause-bytes
 returns-clause-bytes c =
     let date = rw (to_z-of_z w32 c.args.date c.ranges.date) at c.in-Some.ensures.date in
     c.write_over.ensures.bytes
-    ∙ ap (λ (o : Option (List ℕ)). overwritten (text_within (length c.args.text.now) o) c.args.text.now) (put _ _ _ _ _ date c.as_bytes.ensures.value c.put_into.ensures.text c.new-written.ensures)
+    ∙ ap (λ (o : Option (List ℕ)). overwritten (text_within (length c.args.text.now) o) c.args.text.now) (put-found date_text _ _ _ _ _ date c.as_bytes.ensures.value c.put_into.ensures.text c.new-written.ensures)
 
 pub returns-in_default-clause-enough : goal.returns-in_default-clause-enough
 returns-in_default-clause-enough c =

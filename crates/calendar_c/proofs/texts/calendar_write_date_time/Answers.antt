@@ -1,29 +1,24 @@
-use Rattle.std.proofs.Common.{◌≡◌, ◌∙◌, ◌++◌, ap, [], List, ℕ, Option, Some, length, arith, FitsSigned, rules, w32}
+use Rattle.std.proofs.Common.{◌≡◌, ◌∙◌, ◌++◌, ap, List, ℕ, Option, length, arith, FitsSigned, rules, w32}
 use Rattle.std.proofs.lemmas.Int.{to_z-of_z}
-use Rattle.std.specs.Option.{option_map}
-use Rattle.chrono_datetime.specs.Moment.{Moment}
 use Rattle.chrono_datetime.specs.MomentText.{moment_text}
 use Rattle.chrono_text.proofs.AnswerLemmas.{no_one, the_one}
 use Rattle.numbers_c.specs.Answers.{count_or_none}
 use Rattle.numbers_c.specs.DateTimes.{moment_from_c}
 use Rattle.numbers_c.specs.Texts.{length_of, overwritten, text_within}
 use Rattle.numbers_c.proofs.LengthLemmas.{enough}
+use Rattle.calendar_c.proofs.PutLemmas.{put-found}
 use Rattle.calendar_c.proofs.texts.calendar_write_date_time.Goals as goal
-
--- the bytes that were put are the text of the date-time that was found
-put : (o : Option Moment) (m : Moment) (bytes text start : List ℕ) → Some m ≡ o → bytes ≡ text → text ≡ start ++ moment_text 84 m → start ≡ [] → Some bytes ≡ option_map (moment_text 84) o
-put o m bytes text start e f g h = rw (← e) (ap Some (f ∙ g ∙ ap (λ s. s ++ moment_text 84 m) h))
 
 pub returns-clause-length : goal.returns-clause-length
 returns-clause-length c =
     let fits : FitsSigned w32 c.write_over.result = search rules in
     to_z-of_z w32 c.write_over.result fits ∙ c.write_over.ensures.length
-    ∙ ap (λ (o : Option (List ℕ)). count_or_none (length_of (text_within (length c.args.text.now) o))) (put _ _ _ _ _ c.in-Some.ensures c.as_bytes.ensures.value c.put_into.ensures.text c.new-written.ensures)
+    ∙ ap (λ (o : Option (List ℕ)). count_or_none (length_of (text_within (length c.args.text.now) o))) (put-found (moment_text 84) _ _ _ _ _ c.in-Some.ensures c.as_bytes.ensures.value c.put_into.ensures.text c.new-written.ensures)
 
 pub returns-clause-bytes : goal.returns-clause-bytes
 returns-clause-bytes c =
     c.write_over.ensures.bytes
-    ∙ ap (λ (o : Option (List ℕ)). overwritten (text_within (length c.args.text.now) o) c.args.text.now) (put _ _ _ _ _ c.in-Some.ensures c.as_bytes.ensures.value c.put_into.ensures.text c.new-written.ensures)
+    ∙ ap (λ (o : Option (List ℕ)). overwritten (text_within (length c.args.text.now) o) c.args.text.now) (put-found (moment_text 84) _ _ _ _ _ c.in-Some.ensures c.as_bytes.ensures.value c.put_into.ensures.text c.new-written.ensures)
 
 pub returns-in_default-clause-enough : goal.returns-in_default-clause-enough
 returns-in_default-clause-enough c = λ m is _. absurd (no_one (moment_from_c c.args.moment) m c.in_default.ensures is)

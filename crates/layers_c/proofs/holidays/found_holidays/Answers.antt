@@ -2,7 +2,7 @@ use Rattle.std.proofs.Common.{subst, List, IfNone, w32}
 use Rattle.std.proofs.lemmas.Int.{to_z-of_z}
 use Rattle.chrono_business.specs.declared.holiday_rule.HolidayRule.{HolidayRule}
 use Rattle.layers_c.specs.Holidays.{AreTooManyFor}
-use Rattle.layers_c.proofs.KnownHolidays.{england, target, united_states}
+use Rattle.layers_c.proofs.KnownHolidays.{england, fedwire, france, germany, stock_exchange, target, united_states}
 use Rattle.layers_c.proofs.holidays.found_holidays.Goals as goal
 
 pub returns-in-0-clause-none : goal.returns-in-0-clause-none
@@ -19,3 +19,23 @@ pub returns-in-2-clause-none : goal.returns-in-2-clause-none
 returns-in-2-clause-none c = λ rules numbered.
     subst (λ (rs : List HolidayRule). IfNone c.holidays_of-in-2.result (AreTooManyFor c.args.most rs c.args.first_year c.args.last_year c.args.weekend)) (england c.args.which rules c.in-2.is numbered)
     (rw (to_z-of_z w32 c.args.first_year c.ranges.first_year, to_z-of_z w32 c.args.last_year c.ranges.last_year, c.england_and_wales.ensures.rules, c.requires) at c.holidays_of-in-2.ensures.none)
+
+pub returns-in-3-clause-none : goal.returns-in-3-clause-none
+returns-in-3-clause-none c = λ rules numbered.
+    subst (λ (rs : List HolidayRule). IfNone c.holidays_of-in-3.result (AreTooManyFor c.args.most rs c.args.first_year c.args.last_year c.args.weekend)) (fedwire c.args.which rules c.in-3.is numbered)
+    (rw (to_z-of_z w32 c.args.first_year c.ranges.first_year, to_z-of_z w32 c.args.last_year c.ranges.last_year, c.fedwire.ensures.rules, c.requires) at c.holidays_of-in-3.ensures.none)
+
+pub returns-in-4-clause-none : goal.returns-in-4-clause-none
+returns-in-4-clause-none c = λ rules numbered.
+    subst (λ (rs : List HolidayRule). IfNone c.holidays_of-in-4.result (AreTooManyFor c.args.most rs c.args.first_year c.args.last_year c.args.weekend)) (stock_exchange c.args.which rules c.in-4.is numbered)
+    (rw (to_z-of_z w32 c.args.first_year c.ranges.first_year, to_z-of_z w32 c.args.last_year c.ranges.last_year, c.nyse.ensures.rules, c.requires) at c.holidays_of-in-4.ensures.none)
+
+pub returns-in-5-clause-none : goal.returns-in-5-clause-none
+returns-in-5-clause-none c = λ rules numbered.
+    subst (λ (rs : List HolidayRule). IfNone c.holidays_of-in-5.result (AreTooManyFor c.args.most rs c.args.first_year c.args.last_year c.args.weekend)) (germany c.args.which rules c.in-5.is numbered)
+    (rw (to_z-of_z w32 c.args.first_year c.ranges.first_year, to_z-of_z w32 c.args.last_year c.ranges.last_year, c.germany.ensures.rules, c.requires) at c.holidays_of-in-5.ensures.none)
+
+pub returns-in-6-clause-none : goal.returns-in-6-clause-none
+returns-in-6-clause-none c = λ rules numbered.
+    subst (λ (rs : List HolidayRule). IfNone c.holidays_of-in-6.result (AreTooManyFor c.args.most rs c.args.first_year c.args.last_year c.args.weekend)) (france c.args.which rules c.in-6.is numbered)
+    (rw (to_z-of_z w32 c.args.first_year c.ranges.first_year, to_z-of_z w32 c.args.last_year c.ranges.last_year, c.france.ensures.rules, c.requires) at c.holidays_of-in-6.ensures.none)
