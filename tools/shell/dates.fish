@@ -1,6 +1,6 @@
 complete -c dates -n __fish_use_subcommand -a add -d 'move a day or a date-time by each span in turn'
 complete -c dates -n '__fish_seen_subcommand_from add' -l weekend -r -a 'mon tue wed thu fri sat sun none '
-complete -c dates -n '__fish_seen_subcommand_from add' -l calendar -r -a 'us-federal target england '
+complete -c dates -n '__fish_seen_subcommand_from add' -l calendar -r -a 'us-federal target england fedwire nyse germany france '
 complete -c dates -n '__fish_seen_subcommand_from add' -l holidays -r -a ''
 complete -c dates -n '__fish_seen_subcommand_from add' -l zone -r -a ''
 complete -c dates -n '__fish_seen_subcommand_from add' -l now -r -a ''
@@ -9,11 +9,14 @@ complete -c dates -n '__fish_seen_subcommand_from add' -l parse -r -a ''
 complete -c dates -n '__fish_seen_subcommand_from add' -l order -r -a 'dmy mdy '
 complete -c dates -n '__fish_seen_subcommand_from add' -l format -r -a ''
 complete -c dates -n '__fish_seen_subcommand_from add' -l long
+complete -c dates -n '__fish_seen_subcommand_from add' -l within
+complete -c dates -n '__fish_seen_subcommand_from add' -l field -r -a ''
+complete -c dates -n '__fish_seen_subcommand_from add' -l separator -r -a 'comma tab semicolon space '
 complete -c dates -n '__fish_seen_subcommand_from add' -l json
 complete -c dates -n '__fish_seen_subcommand_from add' -l help
 complete -c dates -n __fish_use_subcommand -a diff -d 'print the days or whole units between two days'
 complete -c dates -n '__fish_seen_subcommand_from diff' -l weekend -r -a 'mon tue wed thu fri sat sun none '
-complete -c dates -n '__fish_seen_subcommand_from diff' -l calendar -r -a 'us-federal target england '
+complete -c dates -n '__fish_seen_subcommand_from diff' -l calendar -r -a 'us-federal target england fedwire nyse germany france '
 complete -c dates -n '__fish_seen_subcommand_from diff' -l holidays -r -a ''
 complete -c dates -n '__fish_seen_subcommand_from diff' -l zone -r -a ''
 complete -c dates -n '__fish_seen_subcommand_from diff' -l now -r -a ''
@@ -52,6 +55,9 @@ complete -c dates -n '__fish_seen_subcommand_from first' -l parse -r -a ''
 complete -c dates -n '__fish_seen_subcommand_from first' -l order -r -a 'dmy mdy '
 complete -c dates -n '__fish_seen_subcommand_from first' -l format -r -a ''
 complete -c dates -n '__fish_seen_subcommand_from first' -l long
+complete -c dates -n '__fish_seen_subcommand_from first' -l within
+complete -c dates -n '__fish_seen_subcommand_from first' -l field -r -a ''
+complete -c dates -n '__fish_seen_subcommand_from first' -l separator -r -a 'comma tab semicolon space '
 complete -c dates -n '__fish_seen_subcommand_from first' -l json
 complete -c dates -n '__fish_seen_subcommand_from first' -l help
 complete -c dates -n __fish_use_subcommand -a last -d 'print the last day of the week, month, quarter or year'
@@ -60,14 +66,22 @@ complete -c dates -n '__fish_seen_subcommand_from last' -l parse -r -a ''
 complete -c dates -n '__fish_seen_subcommand_from last' -l order -r -a 'dmy mdy '
 complete -c dates -n '__fish_seen_subcommand_from last' -l format -r -a ''
 complete -c dates -n '__fish_seen_subcommand_from last' -l long
+complete -c dates -n '__fish_seen_subcommand_from last' -l within
+complete -c dates -n '__fish_seen_subcommand_from last' -l field -r -a ''
+complete -c dates -n '__fish_seen_subcommand_from last' -l separator -r -a 'comma tab semicolon space '
 complete -c dates -n '__fish_seen_subcommand_from last' -l json
 complete -c dates -n '__fish_seen_subcommand_from last' -l help
-complete -c dates -n __fish_use_subcommand -a round -d 'print the first such weekday from a day on'
+complete -c dates -n __fish_use_subcommand -a round -d 'print the next such weekday, or part of the day'
+complete -c dates -n '__fish_seen_subcommand_from round' -l zone -r -a ''
 complete -c dates -n '__fish_seen_subcommand_from round' -l now -r -a ''
+complete -c dates -n '__fish_seen_subcommand_from round' -l unix
 complete -c dates -n '__fish_seen_subcommand_from round' -l parse -r -a ''
 complete -c dates -n '__fish_seen_subcommand_from round' -l order -r -a 'dmy mdy '
 complete -c dates -n '__fish_seen_subcommand_from round' -l format -r -a ''
 complete -c dates -n '__fish_seen_subcommand_from round' -l long
+complete -c dates -n '__fish_seen_subcommand_from round' -l within
+complete -c dates -n '__fish_seen_subcommand_from round' -l field -r -a ''
+complete -c dates -n '__fish_seen_subcommand_from round' -l separator -r -a 'comma tab semicolon space '
 complete -c dates -n '__fish_seen_subcommand_from round' -l json
 complete -c dates -n '__fish_seen_subcommand_from round' -l help
 complete -c dates -n __fish_use_subcommand -a easter -d 'print Easter Sunday of a year'
@@ -80,7 +94,7 @@ complete -c dates -n '__fish_seen_subcommand_from leap' -l json
 complete -c dates -n '__fish_seen_subcommand_from leap' -l help
 complete -c dates -n __fish_use_subcommand -a open -d 'print whether a day is open'
 complete -c dates -n '__fish_seen_subcommand_from open' -l weekend -r -a 'mon tue wed thu fri sat sun none '
-complete -c dates -n '__fish_seen_subcommand_from open' -l calendar -r -a 'us-federal target england '
+complete -c dates -n '__fish_seen_subcommand_from open' -l calendar -r -a 'us-federal target england fedwire nyse germany france '
 complete -c dates -n '__fish_seen_subcommand_from open' -l holidays -r -a ''
 complete -c dates -n '__fish_seen_subcommand_from open' -l now -r -a ''
 complete -c dates -n '__fish_seen_subcommand_from open' -l parse -r -a ''
@@ -89,13 +103,16 @@ complete -c dates -n '__fish_seen_subcommand_from open' -l json
 complete -c dates -n '__fish_seen_subcommand_from open' -l help
 complete -c dates -n __fish_use_subcommand -a roll -d 'print where a closed day goes'
 complete -c dates -n '__fish_seen_subcommand_from roll' -l weekend -r -a 'mon tue wed thu fri sat sun none '
-complete -c dates -n '__fish_seen_subcommand_from roll' -l calendar -r -a 'us-federal target england '
+complete -c dates -n '__fish_seen_subcommand_from roll' -l calendar -r -a 'us-federal target england fedwire nyse germany france '
 complete -c dates -n '__fish_seen_subcommand_from roll' -l holidays -r -a ''
 complete -c dates -n '__fish_seen_subcommand_from roll' -l now -r -a ''
 complete -c dates -n '__fish_seen_subcommand_from roll' -l parse -r -a ''
 complete -c dates -n '__fish_seen_subcommand_from roll' -l order -r -a 'dmy mdy '
 complete -c dates -n '__fish_seen_subcommand_from roll' -l format -r -a ''
 complete -c dates -n '__fish_seen_subcommand_from roll' -l long
+complete -c dates -n '__fish_seen_subcommand_from roll' -l within
+complete -c dates -n '__fish_seen_subcommand_from roll' -l field -r -a ''
+complete -c dates -n '__fish_seen_subcommand_from roll' -l separator -r -a 'comma tab semicolon space '
 complete -c dates -n '__fish_seen_subcommand_from roll' -l json
 complete -c dates -n '__fish_seen_subcommand_from roll' -l help
 complete -c dates -n __fish_use_subcommand -a check -d 'print the lines that are no days, and why'
@@ -106,13 +123,22 @@ complete -c dates -n '__fish_seen_subcommand_from check' -l help
 complete -c dates -n __fish_use_subcommand -a grep -d 'print the lines whose day is looked for'
 complete -c dates -n '__fish_seen_subcommand_from grep' -l before -r -a ''
 complete -c dates -n '__fish_seen_subcommand_from grep' -l after -r -a ''
+complete -c dates -n '__fish_seen_subcommand_from grep' -l from -r -a ''
+complete -c dates -n '__fish_seen_subcommand_from grep' -l until -r -a ''
 complete -c dates -n '__fish_seen_subcommand_from grep' -l in -r -a ''
 complete -c dates -n '__fish_seen_subcommand_from grep' -l on -r -a ''
+complete -c dates -n '__fish_seen_subcommand_from grep' -l not
+complete -c dates -n '__fish_seen_subcommand_from grep' -l only
+complete -c dates -n '__fish_seen_subcommand_from grep' -l field -r -a ''
+complete -c dates -n '__fish_seen_subcommand_from grep' -l separator -r -a 'comma tab semicolon space '
 complete -c dates -n '__fish_seen_subcommand_from grep' -l now -r -a ''
 complete -c dates -n '__fish_seen_subcommand_from grep' -l parse -r -a ''
 complete -c dates -n '__fish_seen_subcommand_from grep' -l order -r -a 'dmy mdy '
 complete -c dates -n '__fish_seen_subcommand_from grep' -l help
 complete -c dates -n __fish_use_subcommand -a sort -d 'print lines in the order of their days'
+complete -c dates -n '__fish_seen_subcommand_from sort' -l reverse
+complete -c dates -n '__fish_seen_subcommand_from sort' -l field -r -a ''
+complete -c dates -n '__fish_seen_subcommand_from sort' -l separator -r -a 'comma tab semicolon space '
 complete -c dates -n '__fish_seen_subcommand_from sort' -l now -r -a ''
 complete -c dates -n '__fish_seen_subcommand_from sort' -l parse -r -a ''
 complete -c dates -n '__fish_seen_subcommand_from sort' -l order -r -a 'dmy mdy '
@@ -170,7 +196,7 @@ complete -c dates -n __fish_use_subcommand -a cal -d 'print a month or a year as
 complete -c dates -n '__fish_seen_subcommand_from cal' -l first -r -a 'mon tue wed thu fri sat sun '
 complete -c dates -n '__fish_seen_subcommand_from cal' -l now -r -a ''
 complete -c dates -n '__fish_seen_subcommand_from cal' -l weekend -r -a 'mon tue wed thu fri sat sun none '
-complete -c dates -n '__fish_seen_subcommand_from cal' -l calendar -r -a 'us-federal target england '
+complete -c dates -n '__fish_seen_subcommand_from cal' -l calendar -r -a 'us-federal target england fedwire nyse germany france '
 complete -c dates -n '__fish_seen_subcommand_from cal' -l holidays -r -a ''
 complete -c dates -n '__fish_seen_subcommand_from cal' -l json
 complete -c dates -n '__fish_seen_subcommand_from cal' -l help
@@ -195,6 +221,9 @@ complete -c dates -n '__fish_seen_subcommand_from format' -l now -r -a ''
 complete -c dates -n '__fish_seen_subcommand_from format' -l unix
 complete -c dates -n '__fish_seen_subcommand_from format' -l parse -r -a ''
 complete -c dates -n '__fish_seen_subcommand_from format' -l order -r -a 'dmy mdy '
+complete -c dates -n '__fish_seen_subcommand_from format' -l within
+complete -c dates -n '__fish_seen_subcommand_from format' -l field -r -a ''
+complete -c dates -n '__fish_seen_subcommand_from format' -l separator -r -a 'comma tab semicolon space '
 complete -c dates -n '__fish_seen_subcommand_from format' -l json
 complete -c dates -n '__fish_seen_subcommand_from format' -l help
 complete -c dates -n __fish_use_subcommand -a parse -d 'read a day or a date-time by a pattern'
@@ -204,6 +233,9 @@ complete -c dates -n '__fish_seen_subcommand_from parse' -l json
 complete -c dates -n '__fish_seen_subcommand_from parse' -l help
 complete -c dates -n __fish_use_subcommand -a in -d 'print what a time zone's clock shows'
 complete -c dates -n '__fish_seen_subcommand_from in' -l from-zone -r -a ''
+complete -c dates -n '__fish_seen_subcommand_from in' -l within
+complete -c dates -n '__fish_seen_subcommand_from in' -l field -r -a ''
+complete -c dates -n '__fish_seen_subcommand_from in' -l separator -r -a 'comma tab semicolon space '
 complete -c dates -n '__fish_seen_subcommand_from in' -l now -r -a ''
 complete -c dates -n '__fish_seen_subcommand_from in' -l unix
 complete -c dates -n '__fish_seen_subcommand_from in' -l parse -r -a ''

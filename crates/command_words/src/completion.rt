@@ -132,16 +132,13 @@ fn put_fish(out: &mut Buffer, program: &Program<'_>) {
     }
 }
 
+// How fish asks whether a command is given.
+const SEEN: &str = " -n '__fish_seen_subcommand_from ";
+
 // The line of an option of a command.
 fn put_fish_option(out: &mut Buffer, name: &'static str, word: &'static str, option: &Opt) {
     let long = option.name.strip_prefix("--").unwrap_or("");
-    put!(
-        out,
-        "complete -c ",
-        name,
-        " -n '__fish_seen_subcommand_from "
-    );
-    put!(out, word, "' -l ", long);
+    put!(out, "complete -c ", name, SEEN, word, "' -l ", long);
     if !option.value.is_empty() {
         out.put(" -r -a '");
         put_each(out, option.values, " ");

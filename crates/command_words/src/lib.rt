@@ -23,7 +23,7 @@ mod words;
 pub use completion::{Shell, put_completion};
 pub use help::{put_choices, put_command_help, put_program_help, put_usage};
 pub use man::{put_man_page, put_reference};
-pub use near::nearest;
+pub use near::Nearest;
 pub use pieces::{Buffer, gap_before};
 pub use table::{CommandRow, OPERAND, OPTION, Operand, Opt, Program};
 pub use words::{Arguments, GivenOption, Why, Word, Wrong, read_words};

@@ -3,31 +3,56 @@
 use std::alloc::{AllocError, Global};
 use strsim::osa_distance;
 
-/// Returns the name that is most like a word, if one is like it: every third character of it may be another.
-///
-/// ```
-/// nearest(rt.alloc(), "folowing", &["following", "preceding"]).ok()? // Some("following")
-/// nearest(rt.alloc(), "soon", &["following", "preceding"]).ok()? // None
-/// ```
-pub fn nearest(
-    alloc: Global,
-    word: &str,
-    names: &[&'static str],
-) -> Result<Option<&'static str>, AllocError> {
-    let mut best = None;
-    let mut least = usize::MAX;
-    if word.len() > LONGEST {
-        return Ok(best);
-    }
-    for name in names {
-        let distance = osa_distance(alloc.clone()?, word, name)?;
-        if distance <= name.len() / 3 && distance < least {
-            best = Some(*name);
-            least = distance;
-        }
-    }
-    Ok(best)
-}
-
 // No longer word is compared.
 const LONGEST: usize = 64;
+
+/// The name that is most like a word, of those that are offered.
+///
+/// ```
+/// let mut near = Nearest::to("folowing");
+/// near.offer(rt.alloc(), "preceding");
+/// near.offer(rt.alloc(), "following");
+/// near.found() // Ok("following")
+/// ```
+#[derive(Clone, Copy)]
+pub struct Nearest<'a> {
+    word: &'a str,
+    name: &'static str,
+    least: usize,
+    is_short: bool,
+}
+
+impl<'a> Nearest<'a> {
+    /// Returns the name that is most like a word, where none is offered so far.
+    pub fn to(word: &'a str) -> Nearest<'a> {
+        Nearest {
+            word,
+            name: "",
+            least: usize::MAX,
+            is_short: false,
+        }
+    }
+
+    /// Takes a name that is more like the word than those before: of each three of its characters, one may be another.
+    pub fn offer(&mut self, alloc: Global, name: &'static str) {
+        if self.word.len() > LONGEST {
+            return;
+        }
+        match osa_distance(alloc, self.word, name) {
+            Ok(distance) if distance <= name.len() / 3 && distance < self.least => {
+                self.name = name;
+                self.least = distance;
+            }
+            Ok(_) => {}
+            Err(_) => self.is_short = true,
+        }
+    }
+
+    /// Returns the name, which is empty where none is like the word, or that memory was short.
+    pub fn found(&self) -> Result<&'static str, AllocError> {
+        if self.is_short {
+            return Err(AllocError);
+        }
+        Ok(self.name)
+    }
+}

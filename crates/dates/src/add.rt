@@ -6,7 +6,7 @@ use dates_answer::moved;
 pub(crate) fn command() -> &'static CommandRow {
     row!(
         "add", &[DAY_OR_LINES, operand!("SPAN"; many: true)], 
-        &[WEEKEND, CALENDAR, HOLIDAYS, ZONED, NOW, UNIX, PARSE, ORDER, FORMAT, LONG, JSON, HELP];
+        &[WEEKEND, CALENDAR, HOLIDAYS, ZONED, NOW, UNIX, PARSE, ORDER, FORMAT, LONG, WITHIN, FIELD, SEPARATOR, JSON, HELP];
         help: "move a day or a date-time by each span in turn",
         more: "A SPAN is a whole number of days, weeks, months or years, as 3d, -2w, 1mo and\n\
             4y, or of open days, as 5b. Of a day, 1m is 1mo too. Also 1y2mo, +3days, P1Y2M.\n\
@@ -21,25 +21,22 @@ pub(crate) fn command() -> &'static CommandRow {
     )
 }
 
-// What moves days and date-times.
+// What moves days and date-times: moves, in turn, and the words that write them; the first word that writes months by `m`; whether one
+// is a time, and whether one is not; and the holidays of open days.
 #[derive(Drop)]
 struct Add<'a> {
-    moves: Moves<'a>,
-    holidays: Holidays,
-}
-
-// Moves, in turn, and the words that write them; the first that writes months by `m`; and whether one is a time.
-#[derive(Drop)]
-struct Moves<'a> {
-    list: Vec<Move>,
+    moves: Vec<Move>,
     texts: Vec<&'a str>,
     short: Option<Word<'a>>,
     is_timed: bool,
+    is_dated: bool,
+    holidays: Holidays,
 }
 
 // The day or the date-time, or that of each line, moved.
 pub(crate) fn answer(asked: &mut Asked<'_>) {
     asked.take_zone();
+    asked.reading.takes_clock = true;
     let first = asked.word(0);
     let is_moved = read_move(first.text.as_bytes()).is_none();
     let mut start = None;
@@ -47,63 +44,60 @@ pub(crate) fn answer(asked: &mut Asked<'_>) {
         asked.none = asked.reading.none_of_text(first.text.as_bytes());
         start = Some(asked.start(first));
     }
-    let moves = asked.moves(if is_moved { 1 } else { 0 }, start);
     let mut add = Add {
-        moves,
+        moves: Vec::new(asked.rt.alloc()),
+        texts: Vec::new(asked.rt.alloc()),
+        short: None,
+        is_timed: false,
+        is_dated: false,
         holidays: asked.holidays(),
     };
+    add.take_moves(asked, if is_moved { 1 } else { 0 }, &start);
     match start {
         Some(start) => add.answer_start(asked, start),
-        None => take_input(asked, &mut add),
+        None => {
+            asked.take_clocks(add.is_timed && !add.is_dated);
+            take_input(asked, &mut add)
+        }
     }
 }
 
-impl<'a> Asked<'a> {
-    // The moves that the operands write from a place on. No time moves a day, and no `m`, which was meant for minutes, stands beside a
-    // time of day.
-    fn moves(&mut self, from: usize, start: Option<Start>) -> Moves<'a> {
-        let (of_day, of_moment) = match start {
-            Some(start) => (start.is_day(), !start.is_day()),
-            None => (false, false),
-        };
-        let mut moves = Moves {
-            list: Vec::new(self.rt.alloc()),
-            texts: Vec::new(self.rt.alloc()),
-            short: None,
-            is_timed: false,
-        };
-        let count = self.words.operands.len();
+// What is said of a word that writes months by `m` beside a time of day, in front of its text.
+const MONTHS: &str = "months; minutes are ";
+
+impl<'a> Add<'a> {
+    // Takes the moves that the operands write from a place on. No `m`, which was meant for minutes, stands beside a time of day.
+    fn take_moves(&mut self, asked: &mut Asked<'a>, from: usize, start: &Option<Start>) {
+        let count = asked.words.operands.len();
         for place in from..count {
-            self.put_moves(&mut moves, self.word(place), of_day);
+            self.take_word(asked, asked.word(place), start);
         }
         if from >= count {
-            self.missing_operand(1);
+            asked.missing_operand(1);
         }
-        match moves.short {
-            Some(word) if moves.is_timed || of_moment => self.wrong_months(word),
+        let is_moment = matches!(start, Some(Start::DateTime(_) | Start::Stamp(_)));
+        match self.short {
+            Some(word) if self.is_timed || is_moment => asked.wrong_months(word),
             _ => {}
         }
-        moves
     }
 
-    // Puts the moves that a word writes behind others.
-    fn put_moves(&mut self, moves: &mut Moves<'a>, word: Word<'a>, of_day: bool) {
+    // Takes the moves that a word writes.
+    fn take_word(&mut self, asked: &mut Asked<'_>, word: Word<'a>, start: &Option<Start>) {
         let mut place: usize = 0;
         for _ in word.text.as_bytes() {
             let Some((by, next)) = move_at(word.text.as_bytes(), place) else {
-                return self.wrong(
-                    word,
-                    "expected a span as 3d, -2w, 1mo, 4y, 5b, 36h, 90min, 15s or PT1.5S",
-                );
+                return asked.wrong(word, SPAN_EXPECTED);
             };
-            if of_day && matches!(by, Move::Time(_)) {
-                return self.wrong(
-                    word,
-                    "expected a span of days, or a date-time before it as 2024-02-29T00:00",
-                );
+            if let Some(why) = unfit(start, matches!(by, Move::Time(_))) {
+                return asked.wrong(word, why);
             }
-            let put = moves.put(word, by);
-            self.done(put);
+            match by {
+                Move::Time(_) => self.is_timed = true,
+                Move::ShortMonths(_) if self.short.is_none() => self.short = Some(word),
+                _ => self.is_dated = true,
+            }
+            asked.done(self.put(word, by));
             place = next;
             if place >= word.text.len() {
                 break;
@@ -111,6 +105,32 @@ impl<'a> Asked<'a> {
         }
     }
 
+    // Puts a move behind the others.
+    fn put(&mut self, word: Word<'a>, by: Move) -> io::Result<()> {
+        put_move(&mut self.moves, by)?;
+        Ok(self.texts.push(word.text)?)
+    }
+
+    // What is moved, by each move in turn, or `none` where one leads nowhere.
+    fn answer_start(&mut self, asked: &mut Asked<'_>, start: Start) {
+        let mut last = start;
+        let mut step: usize = 0;
+        for by in self.moves.as_slice() {
+            match moved_by(asked, &last, *by, &mut self.holidays) {
+                Ok(reached) => last = reached,
+                Err(why) => {
+                    let text = self.texts.as_slice().get(step).copied().unwrap_or("");
+                    asked.none = asked.reading.none_of(&last);
+                    return asked.print_nowhere(&last, text, why);
+                }
+            }
+            step = step.saturating_add(1);
+        }
+        asked.print_start(&last);
+    }
+}
+
+impl Asked<'_> {
     // Ends since a word writes months where it was meant for minutes.
     fn wrong_months(&mut self, word: Word<'_>) {
         let mut said = self.blame(word);
@@ -119,47 +139,23 @@ impl<'a> Asked<'a> {
     }
 }
 
-// What is said of a word that writes months by `m` beside a time of day, in front of its text.
-const MONTHS: &str = "months; minutes are ";
-
-impl<'a> Moves<'a> {
-    // Puts a move behind the others.
-    fn put(&mut self, word: Word<'a>, by: Move) -> io::Result<()> {
-        match by {
-            Move::Time(_) => self.is_timed = true,
-            Move::ShortMonths(_) if self.short.is_none() => self.short = Some(word),
-            _ => {}
-        }
-        put_move(&mut self.list, by)?;
-        Ok(self.texts.push(word.text)?)
-    }
-}
+const SPAN_EXPECTED: &str = "expected a span as 3d, -2w, 1mo, 4y, 5b, 36h, 90min, 15s or PT1.5S";
 
 // Puts a move behind others.
 fn put_move<A: Allocator>(moves: &mut Vec<Move, A>, by: Move) -> io::Result<()> {
     Ok(moves.push(by)?)
 }
 
-impl<'a> Add<'a> {
-    // What is moved, by each move in turn, or `none` where one leads nowhere.
-    fn answer_start(&mut self, asked: &mut Asked<'_>, start: Start) {
-        let mut last = start;
-        let mut step: usize = 0;
-        for by in self.moves.list.as_slice() {
-            let why = match moved_by(asked, &last, *by, &mut self.holidays) {
-                Moved::To(reached) => {
-                    last = reached;
-                    step = step.saturating_add(1);
-                    continue;
-                }
-                Moved::Past => PAST,
-                Moved::NotOnce => NOT_ONCE,
-            };
-            let text = self.moves.texts.as_slice().get(step).copied().unwrap_or("");
-            asked.none = asked.reading.none_of(&last);
-            return asked.print_nowhere(&last, text, why);
+// Why a move, of a time or not, is none of what is moved, where it is not: no time moves a day, and no days move a time of day.
+fn unfit(start: &Option<Start>, is_time: bool) -> Option<&'static str> {
+    match start {
+        Some(Start::Day(_)) if is_time => {
+            Some("expected a span of days, or a date-time before it as 2024-02-29T00:00")
         }
-        asked.print_start(&last);
+        Some(Start::Clock(_)) if !is_time => {
+            Some("expected a span of times as 90min, or a date-time before it as 2024-02-29T04:30")
+        }
+        _ => None,
     }
 }
 
@@ -167,20 +163,22 @@ impl<'a> EachLine for Add<'a> {
     // Moves what a line names; no `m` moves a date-time.
     fn take_line(&mut self, asked: &mut Asked<'_>, line: &[u8]) {
         match asked.read(line) {
-            Some(Start::Day(_)) | None if self.moves.is_timed => {
+            Some(Start::Day(_)) | None if self.is_timed => {
                 let none = asked.reading.no_moment();
                 asked.print(none);
             }
+            Some(Start::Clock(_)) if self.is_dated => asked.print(Reply::Nothing(Key::Time)),
             None => {
                 let none = asked.reading.none_of_text(line);
                 asked.print(none);
             }
-            Some(start) => match self.moves.short {
+            Some(start) => match self.short {
                 Some(word) if !start.is_day() => {
                     let mut why = Buffer::new(asked.rt.alloc());
                     put!(why, MONTHS, word.text, "in");
                     asked.none = asked.reading.no_moment();
-                    asked.print_nowhere(&start, word.text, why.text().unwrap_or(MONTHS));
+                    let why = asked.text(&why);
+                    asked.print_nowhere(&start, word.text, why);
                 }
                 _ => self.answer_start(asked, start),
             },
@@ -188,38 +186,22 @@ impl<'a> EachLine for Add<'a> {
     }
 }
 
-// What lies a move away, or why nothing does: it is past the calendar's end, or the zone's clock does not show it once.
-#[derive(Clone, Copy)]
-enum Moved {
-    To(Start),
-    Past,
-    NotOnce,
-}
-
-// What lies a move away. A move of days keeps the time of day.
-fn moved_by(asked: &mut Asked<'_>, start: &Start, by: Move, holidays: &mut Holidays) -> Moved {
+// What lies a move away, or why nothing does. A move of days keeps the time of day.
+fn moved_by(
+    asked: &mut Asked<'_>,
+    start: &Start,
+    by: Move,
+    holidays: &mut Holidays,
+) -> Result<Start, &'static str> {
     let date = start.local().date();
-    match by {
-        Move::Calendar(span) | Move::ShortMonths(span) => moved_to(asked, start, moved(date, span)),
-        Move::OpenDays(count) => {
-            let reached = open_days_later(asked, date, count, holidays);
-            moved_to(asked, start, reached)
-        }
-        Move::Time(time) => match asked.later(*start, time) {
-            Some(reached) => Moved::To(reached),
-            None => Moved::Past,
-        },
-    }
-}
-
-// The day that is reached at the time of day of the start.
-fn moved_to(asked: &Asked<'_>, start: &Start, reached: Option<NaiveDate>) -> Moved {
-    let Some(date) = reached else {
-        return Moved::Past;
+    let reached = match by {
+        Move::Time(time) => return asked.later(*start, time).ok_or(PAST),
+        Move::OpenDays(count) => open_days_later(asked, date, count, holidays),
+        Move::Calendar(span) | Move::ShortMonths(span) => moved(date, span),
     };
-    match asked.on(*start, date) {
-        Some(there) => Moved::To(there),
-        None => Moved::NotOnce,
+    match reached {
+        Some(date) => asked.on(*start, date).ok_or(NOT_ONCE),
+        None => Err(PAST),
     }
 }
 

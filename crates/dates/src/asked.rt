@@ -30,6 +30,10 @@ pub(crate) struct Asked<'a> {
     pub reading: Reading<'a>,
     /// The zone by whose clock date-times are read and moved, if one is named.
     pub zone: Option<OwnedZone>,
+    /// Which parts of a line are days.
+    pub within: Within,
+    /// The answers to a part of a line, which are not printed yet.
+    pub held: Option<Buffer>,
     /// What is printed where there is no answer.
     pub none: Reply,
     /// The number of the line that is answered, from 1 on; 0 where a word is.
@@ -55,6 +59,8 @@ impl<'a> Asked<'a> {
             format: None,
             reading: Reading::plain(),
             zone: None,
+            within: Within::Line,
+            held: None,
             none: Reply::Nothing(Key::Date),
             line: 0,
             status: ANSWERED,
@@ -85,32 +91,34 @@ impl<'a> Asked<'a> {
         }
     }
 
-    // Prints a reply: a day, a date-time or an instant by the pattern, if one is given.
+    // Prints a reply: a day, or those of a week, by the pattern, if one is given.
     pub(crate) fn print(&mut self, reply: Reply) {
         let form = self.form;
+        let has_format = self.format.is_some();
         let status = match reply {
+            Reply::Date(date) | Reply::Names(date) if has_format => {
+                return self.print_by_pattern(&Start::Day(date));
+            }
+            Reply::Week(first, last) if has_format => {
+                return self.print_week_by_pattern(first, last);
+            }
             Reply::Nothing(_) | Reply::NoParts | Reply::NoWeek(_) | Reply::NoClock => NONE,
             _ => ANSWERED,
         };
-        if let Reply::Week(first, last) = reply
-            && self.format.is_some()
-        {
-            return self.print_week_by_pattern(first, last);
-        }
-        match dated(&reply) {
-            Some(start) if self.format.is_some() => self.print_by_pattern(&start),
-            _ => self.print_line(&ReplyLine { form, reply }, status),
-        }
+        self.print_line(&ReplyLine { form, reply }, status);
     }
 
     // Prints a day, a date-time or an instant.
     pub(crate) fn print_start(&mut self, start: &Start) {
+        if self.format.is_some() {
+            return self.print_by_pattern(start);
+        }
         let reply = self.reading.reply(*start);
         self.print(reply);
     }
 
     // Prints a day, a date-time or an instant by the pattern, or that it lacks what the pattern asks for.
-    fn print_by_pattern(&mut self, start: &Start) {
+    pub(crate) fn print_by_pattern(&mut self, start: &Start) {
         let key = start.key();
         match self.text_by_pattern(start) {
             Ok(Some(text)) => self.print_text(key, text.as_str()),
@@ -125,7 +133,11 @@ impl<'a> Asked<'a> {
         self.print_line(&ReplyLine { form, reply }, NONE);
         let mut said = Buffer::new(self.rt.alloc());
         said.show(start);
-        said.put(": the pattern asks for a time of day or an offset, which it has not");
+        if start.is_clock() {
+            said.put(": the pattern asks for a day, which it has not");
+        } else {
+            said.put(": the pattern asks for a time of day or an offset, which it has not");
+        }
         self.say(&said);
     }
 
@@ -146,14 +158,36 @@ impl<'a> Asked<'a> {
         self.print_line(&TextLine { form, key, text }, ANSWERED);
     }
 
+    // Prints a text that was put together, in an object under a key.
+    pub(crate) fn print_buffer(&mut self, key: Key, text: &Buffer) {
+        let text = self.text(text);
+        self.print_text(key, text);
+    }
+
     // Prints a line, which has that exit status.
     pub(crate) fn print_line<T: fmt::Display>(&mut self, line: &T, status: u8) {
         if self.is_over {
             return;
         }
-        let printed = println!(self.rt; "{line}");
-        self.done(printed);
+        if let Some(held) = &mut self.held {
+            if !held.is_empty() {
+                held.put(" ");
+            }
+            held.show(line);
+        } else if !matches!(self.within, Within::Line) {
+            return self.refuse_outside();
+        } else {
+            let printed = println!(self.rt; "{line}");
+            self.done(printed);
+        }
         self.end_by(status);
+    }
+
+    // Ends since an answer is in no line, although the days are those of lines.
+    fn refuse_outside(&mut self) {
+        let mut said = Buffer::new(self.rt.alloc());
+        said.put("dates: --within and --field answer lines, so expected no day beside them");
+        self.refuse(&said);
     }
 
     // Sets the exit status, unless something is wrong.
@@ -165,9 +199,9 @@ impl<'a> Asked<'a> {
 
     // Prints a page.
     pub(crate) fn print_page(&mut self, page: &Buffer) {
-        match page.text() {
-            Ok(text) => self.done(print!(self.rt; "{text}")),
-            Err(error) => self.fail(io::Error::from(error)),
+        let page = self.text(page);
+        if !self.is_over {
+            self.done(print!(self.rt; "{page}"));
         }
     }
 

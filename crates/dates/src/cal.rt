@@ -1,8 +1,8 @@
 //! A month or a year as a sheet.
 
+use crate::explain::month_name;
 use crate::prelude::*;
 use chrono_business::Calendar;
-use chrono_datetime::Month;
 use chrono_text::read_year;
 use dates_answer::{DayObject, MonthSheet};
 
@@ -49,6 +49,25 @@ struct Time {
     marked: Option<NaiveDate>,
 }
 
+impl Time {
+    // The month or the year that begins on a day, with no day marked.
+    fn from(first: NaiveDate, is_year: bool) -> Time {
+        let marked = None;
+        Time {
+            first,
+            is_year,
+            marked,
+        }
+    }
+
+    // The month of a day that is marked.
+    fn about(date: NaiveDate) -> Time {
+        let mut time = Time::from(date.first_day_of_month(), false);
+        time.marked = Some(date);
+        time
+    }
+}
+
 // Prints a month or a year whose weeks begin on a weekday.
 fn print_time(
     rt: &HostRuntime,
@@ -57,20 +76,12 @@ fn print_time(
     start: Weekday,
     holidays: &mut Holidays,
 ) -> io::Result<()> {
-    let (month, marked) = (time.first, time.marked);
-    let calendar = holidays.calendar(years_of(month, month))?;
+    let first = time.first;
+    let calendar = holidays.calendar(years_of(first, first))?;
     match form {
-        OutputForm::Text if time.is_year => print_year(rt, month, start, &calendar),
-        OutputForm::Text => print_month(
-            rt,
-            MonthSheet {
-                month,
-                start,
-                marked,
-            },
-            &calendar,
-        ),
-        OutputForm::Json => print_days(rt, month, days_of(month, time.is_year), &calendar),
+        OutputForm::Text if time.is_year => print_year(rt, first, start, &calendar),
+        OutputForm::Text => print_month(rt, time, start, &calendar),
+        OutputForm::Json => print_days(rt, first, days_of(first, time.is_year), &calendar),
     }
 }
 
@@ -78,30 +89,21 @@ impl Asked<'_> {
     // The month or the year that the word names, or that of its day, or of today.
     fn time(&mut self) -> Time {
         let Some(word) = self.words.operand(0) else {
-            return time_about(self.day_shown());
+            return Time::about(self.day_shown());
         };
-        let (is_year, marked) = (false, None);
-        match read_month(word.text.as_bytes()) {
-            Ok(first) => Time {
-                first,
-                is_year,
-                marked,
-            },
-            Err(_) if read_year(word.text.as_bytes()).is_some() => {
-                let first = self.start_of_year(word);
-                Time {
-                    first,
-                    is_year: true,
-                    marked,
-                }
-            }
+        let text = word.text.as_bytes();
+        if read_year(text).is_some() {
+            return Time::from(self.start_of_year(word), true);
+        }
+        match read_month(text) {
+            Ok(first) => Time::from(first, false),
             Err(error) if error.cause != ReadCause::NotThisForm => {
                 self.unread(word, Unreadable::Form(error), MONTH_EXPECTED);
-                time_about(NaiveDate::MIN)
+                Time::about(NaiveDate::MIN)
             }
             Err(_) => {
                 let start = self.start_as(word, MONTH_EXPECTED);
-                time_about(self.day_at(word, start, MONTH_EXPECTED))
+                Time::about(self.day_at(word, start, MONTH_EXPECTED))
             }
         }
     }
@@ -109,20 +111,17 @@ impl Asked<'_> {
 
 const MONTH_EXPECTED: &str = "expected a month as 2024-02, a year as 2024 or a day as 2024-02-29";
 
-// The month of a day that is marked.
-fn time_about(date: NaiveDate) -> Time {
-    Time {
-        first: date.first_day_of_month(),
-        is_year: false,
-        marked: Some(date),
-    }
-}
-
 // A month alone.
-fn print_month(rt: &HostRuntime, sheet: MonthSheet, calendar: &Calendar) -> io::Result<()> {
-    let year = sheet.month.year();
+fn print_month(
+    rt: &HostRuntime,
+    time: Time,
+    start: Weekday,
+    calendar: &Calendar,
+) -> io::Result<()> {
+    let (year, mut sheet) = (time.first.year(), month_of(time.first, 0, start));
+    sheet.marked = time.marked;
     println!(rt; "    {} {}", name_of(&sheet), Year { year })?;
-    println!(rt; "{}", heading(sheet.start))?;
+    println!(rt; "{}", heading(start))?;
     print_rows(rt, &[sheet], calendar)
 }
 
@@ -140,9 +139,8 @@ fn print_year(
         let middle = month_of(first, months + 1, start);
         let right = month_of(first, months + 2, start);
         let (a, b, c) = (name_of(&left), name_of(&middle), name_of(&right));
-        println!(rt; "\n    {a:<23}    {b:<23}    {c}")?;
         let heading = heading(start);
-        println!(rt; "{heading}  {heading}  {heading}")?;
+        println!(rt; "\n    {a:<23}    {b:<23}    {c}\n{heading}  {heading}  {heading}")?;
         print_rows(rt, &[left, middle, right], calendar)?;
     }
     Ok(())
@@ -160,15 +158,14 @@ fn month_of(first: NaiveDate, months: i64, start: Weekday) -> MonthSheet {
 // The weeks of months, side by side.
 fn print_rows(rt: &HostRuntime, sheets: &[MonthSheet], calendar: &Calendar) -> io::Result<()> {
     for row in 0..6 {
-        if !has_days(sheets, row) {
-            continue;
-        }
         let mut gap = "";
-        for sheet in sheets {
-            print!(rt; "{gap}{}", sheet.row(row, calendar))?;
-            gap = "  ";
+        if has_days(sheets, row) {
+            for sheet in sheets {
+                print!(rt; "{gap}{}", sheet.row(row, calendar))?;
+                gap = "  ";
+            }
+            println!(rt; "")?;
         }
-        println!(rt; "")?;
     }
     Ok(())
 }
@@ -208,10 +205,7 @@ fn days_of(first: NaiveDate, is_year: bool) -> u32 {
 
 // The name of a sheet's month.
 fn name_of(sheet: &MonthSheet) -> &'static str {
-    match Month::from_u32(sheet.month.month()) {
-        Some(month) => month.name(),
-        None => "",
-    }
+    month_name(sheet.month.month())
 }
 
 // The weekdays above the columns of a sheet whose weeks begin on one, 25 columns wide.

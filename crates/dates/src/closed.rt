@@ -1,7 +1,7 @@
 //! The weekend, the rules of a calendar, and the years in which its holidays are wanted.
 
 use crate::prelude::*;
-use chrono_business::{HolidayRule, england_and_wales, target, us_federal};
+use chrono_business::HolidayRule;
 use chrono_datetime::WeekdaySet;
 
 impl Asked<'_> {
@@ -24,26 +24,33 @@ impl Asked<'_> {
     }
 }
 
-// The weekdays that a text names: `none`, or some with commas between them.
+// The weekdays that a text names: `none`, or some with commas between them, and those from one to another as `mon-fri`.
 fn weekdays_named(text: &str) -> Option<WeekdaySet> {
     let mut days = WeekdaySet::EMPTY;
     if text == "none" {
         return Some(days);
     }
     for name in text.split(',') {
-        days = days.union(WeekdaySet::single(weekday_named(name)?));
+        days = days.union(match name.split_once('-') {
+            Some((first, last)) => weekdays_from(weekday_named(first)?, weekday_named(last)?),
+            None => WeekdaySet::single(weekday_named(name)?),
+        });
     }
     Some(days)
 }
 
-// Puts the rules of the calendar with that name into a list; none where it is empty.
-pub(crate) fn put_rules(name: &str, rules: &mut Vec<HolidayRule>) -> io::Result<()> {
-    match name {
-        "us-federal" => Ok(rules.extend_from_slice(&us_federal())?),
-        "target" => Ok(rules.extend_from_slice(&target())?),
-        "england" => Ok(rules.extend_from_slice(&england_and_wales())?),
-        _ => Ok(()),
+// The weekdays from one to another, also over the end of the week.
+fn weekdays_from(first: Weekday, last: Weekday) -> WeekdaySet {
+    let mut days = WeekdaySet::single(last);
+    let mut day = first;
+    for _ in 0..6 {
+        if day == last {
+            break;
+        }
+        days = days.union(WeekdaySet::single(day));
+        day = day.succ();
     }
+    days
 }
 
 /// The first and the last of some years.
@@ -61,9 +68,9 @@ pub(crate) fn years_of(from: NaiveDate, to: NaiveDate) -> Years {
     }
 }
 
-// At least this many days are open in each year if no file closes any. They are 365, less two weekdays of 53 weeks, less the 26
-// rules of the calendar that has most.
-const OPEN_DAYS_OF_A_YEAR: u64 = 233;
+// At least this many days are open in each year if no file closes any. They are 365, less two weekdays of 53 weeks, less the 99
+// rules of all calendars.
+const OPEN_DAYS_OF_A_YEAR: u64 = 160;
 
 // No more years lie between two dates.
 const MOST_YEARS: i32 = 600_000;
@@ -105,10 +112,7 @@ pub(crate) fn put_ruled(
     years: Years,
     days: &mut Vec<NaiveDate>,
 ) -> io::Result<()> {
-    let Years {
-        mut first,
-        mut last,
-    } = years;
+    let (mut first, mut last) = (years.first, years.last);
     for day in days.as_slice() {
         first = first.min(day.year());
         last = last.max(day.year());

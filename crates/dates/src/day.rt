@@ -2,7 +2,7 @@
 
 use crate::each::{Asks, answer_each};
 use crate::prelude::*;
-use command_words::{Program, Shell, put_completion, put_man_page, put_reference};
+use command_words::Shell;
 use std::fs;
 use std::os::unix::fs::FileTypeExt;
 
@@ -50,34 +50,15 @@ pub(crate) fn answer(asked: &mut Asked<'_>) {
 }
 
 // Whether nothing is piped into the program: its standard input is a terminal, or nothing.
-fn is_alone(rt: &HostRuntime) -> bool {
+pub(crate) fn is_alone(rt: &HostRuntime) -> bool {
     match fs::metadata(rt, "/dev/stdin") {
         Ok(input) => input.file_type().is_char_device(),
         Err(_) => false,
     }
 }
 
-// Prints the page that an option asks for.
-fn print_page(asked: &mut Asked<'_>) {
-    let rows = commands();
-    let mut page = Buffer::new(asked.rt.alloc());
-    put_page(&mut page, asked, &program(&rows));
-    asked.print_page(&page);
-}
-
-// Puts the page that an option asks for behind a text, if one does.
-fn put_page(out: &mut Buffer, asked: &Asked<'_>, program: &Program<'_>) {
-    if asked.words.has("--man") {
-        put_man_page(out, program);
-    } else if asked.words.has("--reference") {
-        put_reference(out, program);
-    } else {
-        put_completion(out, program, shell_of(asked.option("--completion").text));
-    }
-}
-
 // The shell of that name.
-fn shell_of(name: &str) -> Shell {
+pub(crate) fn shell_of(name: &str) -> Shell {
     match name {
         "bash" => Shell::Bash,
         "zsh" => Shell::Zsh,

@@ -1,10 +1,36 @@
 //! How far it is from one day to another.
 
+use crate::apart::are_units;
 use crate::prelude::*;
+use chrono_business::{
+    Fraction, actual_360, actual_365_fixed, actual_actual_isda, thirty_360, thirty_e_360,
+};
 use dates_answer::{distance, parts_between};
 
-/// The names of units.
-pub(crate) const UNITS: &[&str] = &["d", "w", "m", "mo", "y", "b", "ymd", "h", "min", "s"];
+// The names of units.
+const UNITS: &[&str] = &[
+    "d", "w", "m", "mo", "y", "b", "ymd", "h", "min", "s", "act/act", "act/360", "act/365",
+    "30/360", "30e/360",
+];
+
+// What the names stand for, in their order.
+const MEASURES: &[Measure] = &[
+    Measure::Whole(Unit::Days),
+    Measure::Whole(Unit::Weeks),
+    Measure::Whole(Unit::Months),
+    Measure::Whole(Unit::Months),
+    Measure::Whole(Unit::Years),
+    Measure::OpenDays,
+    Measure::Parts,
+    Measure::Time(Key::Hours, 3_600),
+    Measure::Time(Key::Minutes, 60),
+    Measure::Time(Key::Seconds, 1),
+    Measure::Years(DayCount::ActualActual),
+    Measure::Years(DayCount::Actual360),
+    Measure::Years(DayCount::Actual365),
+    Measure::Years(DayCount::Thirty360),
+    Measure::Years(DayCount::ThirtyE360),
+];
 
 const UNIT: Operand = operand!("UNIT"; keyword: "in", values: UNITS, required: false);
 
@@ -14,13 +40,17 @@ pub(crate) fn command() -> &'static CommandRow {
         &[WEEKEND, CALENDAR, HOLIDAYS, ZONED, NOW, UNIX, PARSE, ORDER, JSON, HELP];
         help: "print the days or whole units between two days",
         more: "A UNIT is d, w, m or mo, y, b or ymd: days, weeks, months, years, open days, or\n\
-            years, months and days; or h, min or s: hours, minutes or seconds.\n\
+            years, months and days; or h, min or s: hours, minutes or seconds. In full\n\
+            weeks is one too. Several share out what lies between, the greatest first, as\n\
+            w,d or d,h,min.\n\
+            act/act, act/360, act/365, 30/360 and 30e/360 are day counts (ISDA 2006, 4.16).\n\
             It goes back where the second day is the earlier.\n\
             The unit ymd writes spans by which add leads from the first day to the second.\n\
             The unit b counts the first day, where it is open, and not the second; it alone\n\
             takes the options of open days.\n\
             Of two date-times in place of the days it is the time from one to the other, as\n\
-            PT5400S, or in h, min or s. Both have an offset as +01:00, or none has.\n\
+            PT5400S. Both have an offset as +01:00, or none has. Of two times of day as\n\
+            10:30 it is that too.\n\
             With - in place of a day, or no second day, each line of standard input is\n\
             taken for it.",
         example: "$ dates diff 2024-02-29 2024-12-24 in w\n42"
@@ -29,7 +59,7 @@ pub(crate) fn command() -> &'static CommandRow {
 
 // In what it is asked how far it is.
 #[derive(Clone, Copy)]
-enum Measure {
+pub(crate) enum Measure {
     // In days; of date-times the duration.
     Plain,
     // In whole units.
@@ -40,7 +70,37 @@ enum Measure {
     OpenDays,
     // In years, months and days.
     Parts,
+    // In several units, each of which counts what those before it leave.
+    Units,
+    // As a fraction of a year, by a day count.
+    Years(DayCount),
 }
+
+// A day count.
+#[derive(Clone, Copy)]
+pub(crate) enum DayCount {
+    ActualActual,
+    Actual360,
+    Actual365,
+    Thirty360,
+    ThirtyE360,
+}
+
+impl DayCount {
+    // The fraction of a year from one day to another.
+    fn fraction(self, from: NaiveDate, to: NaiveDate) -> Fraction {
+        match self {
+            DayCount::ActualActual => actual_actual_isda(from, to),
+            DayCount::Actual360 => actual_360(from, to),
+            DayCount::Actual365 => actual_365_fixed(from, to),
+            DayCount::Thirty360 => thirty_360(from, to),
+            DayCount::ThirtyE360 => thirty_e_360(from, to),
+        }
+    }
+}
+
+// The options that close days.
+const CLOSING: &[&str] = &["--weekend", "--calendar", "--holidays"];
 
 // From where to where, where `None` is each line of the input; in what; and by which holidays.
 #[derive(Drop)]
@@ -48,6 +108,8 @@ struct Diff {
     from: Option<Start>,
     to: Option<Start>,
     measure: Measure,
+    // The place of the operand that names the measure.
+    unit_at: usize,
     holidays: Holidays,
 }
 
@@ -56,6 +118,7 @@ pub(crate) fn answer(asked: &mut Asked<'_>) {
     asked.take_zone();
     let in_at = place_of_in(&asked.words);
     let measure = asked.measure(in_at);
+    asked.reading.takes_clock = true;
     let has_time = in_at > 0 && asked.word(0).text.as_bytes().contains(&b'T');
     asked.none = none_of(measure, has_time);
     let (from, to) = asked.ends(in_at);
@@ -64,21 +127,23 @@ pub(crate) fn answer(asked: &mut Asked<'_>) {
         None => false,
     };
     asked.none = none_of(measure, is_timed);
-    if is_timed && !matches!(measure, Measure::Plain | Measure::Time(_, _)) {
+    let is_of_days = matches!(
+        measure,
+        Measure::OpenDays | Measure::Parts | Measure::Years(_)
+    );
+    if is_timed && is_of_days {
         let unit = asked.word(in_at.saturating_add(1));
-        asked.wrong(unit, "expected h, min or s between date-times");
+        asked.wrong(unit, "expected a unit of date-times, as d, h, min or s");
     }
-    match closing_option(&asked.words) {
-        Some(word) if !matches!(measure, Measure::OpenDays) => {
-            asked.wrong(word, "expected no such option without 'in b'")
-        }
-        _ => {}
+    if !matches!(measure, Measure::OpenDays) {
+        asked.refuse_closing();
     }
     let holidays = asked.holidays();
     let mut diff = Diff {
         from,
         to,
         measure,
+        unit_at: in_at.saturating_add(1),
         holidays,
     };
     match (from, to) {
@@ -99,35 +164,41 @@ fn place_of_in(words: &Arguments<'_>) -> usize {
     place
 }
 
-// The first option that closes days.
-fn closing_option<'a>(words: &Arguments<'a>) -> Option<Word<'a>> {
-    for given in words.options.as_slice() {
-        let name = given.option.name;
-        if name == "--weekend" || name == "--calendar" || name == "--holidays" {
-            return Some(given.value);
-        }
-    }
-    None
-}
+// The names in full of the first measures.
+const IN_FULL: &[&str] = &[
+    "days", "weeks", "month", "months", "years", "b", "ymd", "hours", "minutes", "seconds",
+];
 
 // The measure of that name.
-fn measure_named(name: &str) -> Option<Measure> {
-    match name {
-        "b" => Some(Measure::OpenDays),
-        "ymd" => Some(Measure::Parts),
-        "h" => Some(Measure::Time(Key::Hours, 3_600)),
-        "min" => Some(Measure::Time(Key::Minutes, 60)),
-        "s" => Some(Measure::Time(Key::Seconds, 1)),
-        _ => Some(Measure::Whole(unit_named(name)?)),
+pub(crate) fn measure_named(name: &str) -> Option<Measure> {
+    let place = place_of(name, IN_FULL);
+    if place < IN_FULL.len() {
+        return MEASURES.get(place).copied();
     }
+    MEASURES.get(place_of(name, UNITS)).copied()
 }
 
 impl Asked<'_> {
+    // Ends where an option closes days.
+    fn refuse_closing(&mut self) {
+        for place in 0..self.words.options.len() {
+            if let Some(given) = self.words.options.get(place).copied() {
+                if place_of(given.option.name, CLOSING) < CLOSING.len() {
+                    self.wrong(given.value, "expected no such option without 'in b'");
+                }
+            }
+        }
+    }
+
     // The measure that the operands from `in` on name, of which that is the place.
     fn measure(&mut self, in_at: usize) -> Measure {
         let unit = self.words.operand(in_at.saturating_add(1));
         let more = self.words.operand(in_at.saturating_add(2));
-        let measure = measure_named(unit.unwrap_or(NO_WORD).text);
+        let name = unit.unwrap_or(NO_WORD).text;
+        let measure = match measure_named(name) {
+            None if are_units(name) => Some(Measure::Units),
+            measure => measure,
+        };
         match (unit, more) {
             (_, Some(other)) => self.wrong(other, NO_MORE),
             (Some(unit), None) if measure.is_none() => self.wrong_choice(unit, UNITS),
@@ -146,15 +217,11 @@ impl Asked<'_> {
             2 if first.text == "-" => return (None, Some(self.start(second))),
             1 | 2 => {
                 let from = self.start(first);
-                let has_second = in_at == 2 && second.text != "-";
-                return (
-                    Some(from),
-                    if has_second {
-                        Some(like(self, &from, second))
-                    } else {
-                        None
-                    },
-                );
+                let mut to = None;
+                if in_at == 2 && second.text != "-" {
+                    to = Some(like(self, &from, second));
+                }
+                return (Some(from), to);
             }
             _ => self.third_word(first, second),
         }
@@ -176,34 +243,38 @@ const IN_EXPECTED: &str = "expected in and a unit, as 'in w'";
 
 // The day, the date-time or the instant that a word names, of the kind of the first.
 pub(crate) fn like(asked: &mut Asked<'_>, first: &Start, word: Word<'_>) -> Start {
-    let second = asked.start_as(
-        word,
-        match first {
-            Start::Day(_) => DAY_EXPECTED,
-            Start::DateTime(_) => MOMENT_EXPECTED,
-            Start::Stamp(_) => "expected a date-time with its offset as 2024-02-29T04:30+01:00",
-        },
-    );
+    let expected = match first {
+        Start::Clock(_) => "expected a time of day as 10:30",
+        Start::Day(_) => DAY_EXPECTED,
+        Start::DateTime(_) => MOMENT_EXPECTED,
+        Start::Stamp(_) => "expected a date-time with its offset as 2024-02-29T04:30+01:00",
+    };
+    let second = asked.start_as(word, expected);
     let second = asked.once(word, second);
-    if first.is_day() != second.is_day() {
-        asked.wrong(word, "expected two days or two date-times, not one of each");
+    if first.key() != second.key() {
+        let why = "expected two days, two date-times or two times of day";
+        asked.wrong(word, why);
     }
     if first.has_offset() != second.has_offset() {
-        asked.wrong(word, "expected an offset of both date-times, or of none");
+        asked.wrong(
+            word,
+            "expected an offset of both date-times, or of none; --zone gives one",
+        );
     }
     second
 }
 
 // That there is no answer in such a measure, of days or of date-times.
 fn none_of(measure: Measure, is_timed: bool) -> Reply {
-    match measure {
-        Measure::Plain if is_timed => Reply::Nothing(Key::Duration),
-        Measure::Plain => Reply::Nothing(Key::Days),
-        Measure::Whole(unit) => Reply::Nothing(key_of(unit)),
-        Measure::Time(key, _) => Reply::Nothing(key),
-        Measure::OpenDays => Reply::Nothing(Key::OpenDays),
-        Measure::Parts => Reply::NoParts,
-    }
+    Reply::Nothing(match measure {
+        Measure::Parts => return Reply::NoParts,
+        Measure::Plain if !is_timed => Key::Days,
+        Measure::Plain | Measure::Units => Key::Duration,
+        Measure::Whole(unit) => key_of(unit),
+        Measure::Time(key, _) => key,
+        Measure::OpenDays => Key::OpenDays,
+        Measure::Years(_) => Key::Years,
+    })
 }
 
 // The key of a number of units.
@@ -226,16 +297,44 @@ impl Diff {
             Measure::Time(key, seconds) => {
                 Reply::Number(key, apart.num_seconds().checked_div(seconds).unwrap_or(0))
             }
+            Measure::Units => return self.answer_units(asked, from, to),
+            Measure::Whole(unit) if !from.is_day() => match asked.whole_units(&from, &to, unit) {
+                Some((count, _)) => Reply::Number(key_of(unit), count),
+                None => asked.none,
+            },
             _ if !from.is_day() => Reply::Duration(apart),
             Measure::Plain => Reply::Number(Key::Days, distance(first, last, Unit::Days)),
             Measure::Whole(unit) => Reply::Number(key_of(unit), distance(first, last, unit)),
             Measure::Parts => Reply::Parts(parts_between(first, last)),
+            Measure::Years(basis) => return asked.print_fraction(basis.fraction(first, last)),
             Measure::OpenDays => match self.holidays.calendar(years_of(first, last)) {
                 Ok(calendar) => Reply::Number(Key::OpenDays, calendar.open_days(first, last)),
                 Err(error) => return asked.fail(error),
             },
         };
         asked.print(reply);
+    }
+
+    // How far it is in several units.
+    fn answer_units(&self, asked: &mut Asked<'_>, from: Start, to: Start) {
+        let mut text = Buffer::new(asked.rt.alloc());
+        let names = asked.word(self.unit_at).text;
+        let (from, to) = (from.timed(), to.timed());
+        match asked.put_apart(&mut text, &from, &to, names) {
+            Some(()) => asked.print_buffer(Key::Duration, &text),
+            None => asked.print(asked.none),
+        }
+    }
+}
+
+impl Asked<'_> {
+    // Prints a fraction of a year.
+    fn print_fraction(&mut self, fraction: Fraction) {
+        let mut text = Buffer::new(self.rt.alloc());
+        text.show(&fraction.numerator);
+        text.put("/");
+        text.show(&fraction.denominator);
+        self.print_buffer(Key::Years, &text);
     }
 }
 

@@ -26,10 +26,7 @@ pub(crate) fn answer(asked: &mut Asked<'_>) {
     } else if let Some(schedule) = asked.schedule(word) {
         put_schedule(&mut out, &schedule);
     }
-    match out.text() {
-        Ok(text) => asked.print_text(Key::Rule, text),
-        Err(error) => asked.fail(io::Error::from(error)),
-    }
+    asked.print_buffer(Key::Rule, &out);
 }
 
 /// How the numbers of a list are named.
@@ -45,6 +42,8 @@ enum Names {
     Weekdays,
     /// As January.
     Months,
+    /// As 3rd Friday: a day of seven from Sunday on in each week of a month, of which the sixth is the last.
+    WeekdayPlaces,
 }
 
 // Puts the name of a number behind a text.
@@ -52,14 +51,26 @@ fn put_name(out: &mut Buffer, names: Names, number: u32) {
     match names {
         Names::Number => out.show(&number),
         Names::Ordinal => put_ordinal(out, number),
-        Names::FromEnd if number == 1 => out.put("last"),
-        Names::FromEnd => {
-            put_ordinal(out, number);
-            out.put(" last");
-        }
+        Names::FromEnd => put_from_end(out, number),
         Names::Weekdays => put!(out, weekday_name(number), "s"),
         Names::Months => out.put(month_name(number)),
+        Names::WeekdayPlaces => {
+            match number / 7 {
+                5 => out.put("last"),
+                week => put_ordinal(out, week.saturating_add(1)),
+            }
+            put!(out, " ", weekday_name(number.saturating_add(6) % 7));
+        }
     }
+}
+
+// Puts a number from the end behind a text, as last and 2nd last.
+fn put_from_end(out: &mut Buffer, number: u32) {
+    if number > 1 {
+        put_ordinal(out, number);
+        out.put(" ");
+    }
+    out.put("last");
 }
 
 // The name of a weekday, of which 0 is Monday.
@@ -71,7 +82,7 @@ fn weekday_name(number: u32) -> &'static str {
 }
 
 // The name of a month, of which 1 is January.
-fn month_name(number: u32) -> &'static str {
+pub(crate) fn month_name(number: u32) -> &'static str {
     match Month::from_u32(number) {
         Some(month) => month.name(),
         None => "",
@@ -93,57 +104,73 @@ fn put_ordinal(out: &mut Buffer, number: u32) {
 // No list has a greater number.
 const MOST: u32 = 383;
 
-// The first number from one on that is listed, and the last of three or more in a row.
-fn run_from(list: &PlaceSet, from: u32) -> Option<(u32, u32)> {
-    let first = next_in(list, from, true)?;
-    let last = next_in(list, first, false)
-        .unwrap_or(MOST)
-        .saturating_sub(1);
-    let is_short = last.saturating_sub(first) < 2;
-    Some((first, if is_short { first } else { last }))
-}
-
-// The first number from one on that is listed, or that is not.
-fn next_in(list: &PlaceSet, from: u32, is_listed: bool) -> Option<u32> {
-    for number in from..MOST {
-        if list.contains(number) == is_listed {
-            return Some(number);
-        }
-    }
-    None
-}
-
-// Puts the numbers of a list behind a text.
+// Puts the numbers of a list behind a text, three or more in a row by the first and the last of them.
 fn put_list(out: &mut Buffer, list: &PlaceSet, names: Names) {
-    let mut next = run_from(list, 0);
-    let mut between = "";
-    for _ in 0..MOST {
-        let Some((first, last)) = next else {
-            break;
-        };
-        out.put(between);
-        put_name(out, names, first);
-        if first < last {
-            out.put(" to ");
-            put_name(out, names, last);
+    let last = last_named(list);
+    let mut front = "";
+    let mut row: u32 = 0;
+    for number in 0..MOST {
+        if !list.contains(number) {
+            row = 0;
+            continue;
         }
-        next = run_from(list, last.saturating_add(1));
-        between = if has_more(list, next) { ", " } else { " and " };
+        if row == 0 || !list.contains(number + 1) {
+            out.put(match row {
+                0 | 1 if number == last && !front.is_empty() => " and ",
+                0 | 1 => front,
+                _ => " to ",
+            });
+            put_name(out, names, number);
+            front = ", ";
+        }
+        row = row.saturating_add(1);
     }
 }
 
-// Whether numbers are listed behind those in a row.
-fn has_more(list: &PlaceSet, row: Option<(u32, u32)>) -> bool {
-    match row {
-        Some((_, last)) => run_from(list, last.saturating_add(1)).is_some(),
-        None => false,
+// The last number of a list that no `to` stands in front of.
+fn last_named(list: &PlaceSet) -> u32 {
+    let (mut last, mut row): (u32, u32) = (0, 0);
+    for number in 0..MOST {
+        row = if list.contains(number) {
+            row.saturating_add(1)
+        } else {
+            0
+        };
+        match row {
+            1 | 2 => last = number,
+            3 => last = number.saturating_sub(2),
+            _ => {}
+        }
     }
+    last
 }
 
 // Puts the numbers of a small list behind a text.
 fn put_set(out: &mut Buffer, set: NumberSet, names: Names) {
     put_list(out, &places_of(set), names);
 }
+
+// Puts each number of a small list behind a text, with texts in front of the first and behind each; what stands in front of the next.
+fn put_each(
+    out: &mut Buffer,
+    set: NumberSet,
+    names: Names,
+    first: &'static str,
+    noun: &'static str,
+) -> &'static str {
+    let mut front = first;
+    for number in 0..64 {
+        if set.contains(number) {
+            out.put(front);
+            put_name(out, names, number);
+            out.put(noun);
+            front = AND_THE;
+        }
+    }
+    front
+}
+
+const AND_THE: &str = " and the ";
 
 // The numbers of a small list.
 fn places_of(set: NumberSet) -> PlaceSet {
@@ -170,20 +197,23 @@ fn count_of(set: NumberSet) -> u32 {
 // Puts when a schedule is due behind a text.
 fn put_schedule(out: &mut Buffer, schedule: &Schedule) {
     let (minutes, hours) = (schedule.sets.minutes, schedule.sets.hours);
-    let step = step_of(minutes, 0, 59);
-    if minutes == NumberSet::range(0, 60) {
+    let (count, step) = (count_of(minutes), step_of(minutes, 0, 59));
+    if count == 60 {
         out.put("every minute");
         put_hours(out, hours, "");
     } else if step > 0 && hours == NumberSet::range(0, 24) {
         out.put("every ");
         out.show(&step);
         out.put(" minutes");
-    } else if count_of(minutes).saturating_mul(count_of(hours)) <= 8 {
+    } else if count.saturating_mul(count_of(hours)) <= 8 {
         out.put("at ");
         put_clocks(out, minutes, hours);
     } else {
-        let is_one = count_of(minutes) == 1;
-        out.put(if is_one { "at minute " } else { "at minutes " });
+        out.put(if count == 1 {
+            "at minute "
+        } else {
+            "at minutes "
+        });
         put_set(out, minutes, Names::Number);
         put_hours(out, hours, " of every hour");
     }
@@ -217,27 +247,15 @@ fn step_of(list: NumberSet, first: u32, last: u32) -> u32 {
     0
 }
 
-/// A time of day to the minute.
-#[derive(Clone, Copy)]
-struct Clock {
-    hour: u32,
-    minute: u32,
-}
-
-impl fmt::Display for Clock {
-    fn fmt<W: fmt::Write>(&self, f: &mut fmt::Formatter<W>) -> fmt::Result {
-        let (hour, minute) = (self.hour, self.minute);
-        write!(f, "{hour:02}:{minute:02}")
-    }
-}
-
 // Puts the times of hours and minutes behind a text.
 fn put_clocks(out: &mut Buffer, minutes: NumberSet, hours: NumberSet) {
     let mut left = count_of(minutes).saturating_mul(count_of(hours));
     for hour in 0..24 {
         for minute in 0..60 {
             if hours.contains(hour) && minutes.contains(minute) {
-                out.show(&Clock { hour, minute });
+                put_two_digits(out, hour);
+                out.put(":");
+                put_two_digits(out, minute);
                 left = left.saturating_sub(1);
                 out.put(match left {
                     0 => "",
@@ -247,6 +265,14 @@ fn put_clocks(out: &mut Buffer, minutes: NumberSet, hours: NumberSet) {
             }
         }
     }
+}
+
+// Puts a number behind a text, of two digits at least.
+fn put_two_digits(out: &mut Buffer, number: u32) {
+    if number < 10 {
+        out.put("0");
+    }
+    out.show(&number);
 }
 
 // Puts the days on which a schedule is due behind a text.
@@ -270,19 +296,23 @@ fn put_days(out: &mut Buffer, schedule: &Schedule) {
     }
 }
 
-// Puts the weekdays on which a schedule is due behind a text.
+// Puts the weekdays on which a schedule is due behind a text: those of every week from Monday on, and those by their place.
 fn put_weekdays_due(out: &mut Buffer, schedule: &Schedule) {
-    let (last, nth) = (
-        schedule.sets.month_days.last_weekdays,
-        schedule.sets.month_days.nth_weekdays,
-    );
-    let is_named = !last.is_empty() || !nth.is_empty();
-    put_set(out, from_monday(schedule.sets.weekdays), Names::Weekdays);
-    if is_named && !schedule.sets.weekdays.is_empty() {
-        out.put(" and ");
-    }
-    put_named_weekdays(out, last, nth);
-    let all = if is_named { " of every month" } else { "" };
+    let (days, named) = (schedule.sets.weekdays, schedule.sets.month_days);
+    let from_monday = if days.contains(0) {
+        days.lowered(1).with(6)
+    } else {
+        days.lowered(1)
+    };
+    put_set(out, from_monday, Names::Weekdays);
+    let front = if days.is_empty() { "the " } else { AND_THE };
+    let places = named.nth_weekdays.union(named.last_weekdays.raised(35));
+    put_each(out, places, Names::WeekdayPlaces, front, "");
+    let all = if places.is_empty() {
+        ""
+    } else {
+        " of every month"
+    };
     put_months(out, schedule.sets.months, all);
 }
 
@@ -296,115 +326,53 @@ fn put_months(out: &mut Buffer, months: NumberSet, all: &str) {
     }
 }
 
-// Weekdays from 0 for Monday, of weekdays from 0 for Sunday.
-fn from_monday(days: NumberSet) -> NumberSet {
-    let mut found = NumberSet::none();
-    for day in 0..7 {
-        if days.contains(day) {
-            found = found.with((day + 6) % 7);
-        }
-    }
-    found
-}
-
 // Puts the days of the month on which a schedule is due behind a text.
 fn put_month_days(out: &mut Buffer, schedule: &Schedule) {
-    let named = &schedule.sets.month_days;
-    let mut front = " on the ";
-    let step = step_of(schedule.sets.days, 1, 31);
+    let (days, named) = (schedule.sets.days, schedule.sets.month_days);
+    let step = step_of(days, 1, 31);
     if step > 0 {
         out.put(" on every ");
         put_ordinal(out, step);
         out.put(" day from the 1st");
-        front = " and the ";
-    } else if !schedule.sets.days.is_empty() {
-        out.put(front);
-        put_set(out, schedule.sets.days, Names::Ordinal);
-        front = " and the ";
+    } else if !days.is_empty() {
+        out.put(ON_THE);
+        put_set(out, days, Names::Ordinal);
     }
-    for follow in 0..31 {
-        if named.from_end.contains(follow) {
-            out.put(front);
-            put_name(out, Names::FromEnd, follow.saturating_add(1));
-            out.put(" day");
-            front = " and the ";
-        }
-    }
+    let front = if days.is_empty() { ON_THE } else { AND_THE };
+    let front = put_each(out, named.from_end.raised(1), Names::FromEnd, front, " day");
     if named.last_workday {
         put!(out, front, "last workday");
-        front = " and the ";
     }
     if !named.nearest_workdays.is_empty() {
-        put!(out, front, "workday nearest to the ");
+        out.put(if named.last_workday { AND_THE } else { front });
+        out.put("workday nearest to the ");
         put_set(out, named.nearest_workdays, Names::Ordinal);
     }
 }
 
-// Puts the weekdays that are named by their place in the month behind a text.
-fn put_named_weekdays(out: &mut Buffer, last: NumberSet, nth: NumberSet) {
-    let mut between = "the ";
-    for week in 0..6 {
-        for day in 0..7 {
-            let is_listed = if week == 5 {
-                last.contains(day)
-            } else {
-                nth.contains(week * 7 + day)
-            };
-            if is_listed {
-                out.put(between);
-                put_place(out, week, (day + 6) % 7);
-                between = " and the ";
-            }
-        }
-    }
-}
+const ON_THE: &str = " on the ";
 
-// Puts a weekday, from 0 for Monday, by its week in the month behind a text: week 5 is the last.
-fn put_place(out: &mut Buffer, week: u32, day: u32) {
-    match week {
-        5 => out.put("last"),
-        _ => put_ordinal(out, week.saturating_add(1)),
-    }
-    put!(out, " ", weekday_name(day));
-}
-
-// Puts which days a rule names behind a text.
+// Puts which days a rule names behind a text. Without any, each of its periods has one by the start.
 fn put_rule(out: &mut Buffer, rule: &Rule) {
     put_frequency(out, rule);
     if !rule.months.is_empty() {
         out.put(" in ");
         put_set(out, rule.months, Names::Months);
     }
+    let named_from = out.len();
     put_small_ends(out, " in the ", rule.weeks, rule.weeks_from_end, " week");
-    let year_day = " day of the year";
-    put_ends(
-        out,
-        " on the ",
-        &rule.year_days,
-        &rule.year_days_from_end,
-        year_day,
-    );
-    let is_from_end = !rule.month_days_from_end.is_empty();
-    let noun = if is_from_end { " day" } else { "" };
-    put_small_ends(
-        out,
-        " on the ",
-        rule.month_days,
-        rule.month_days_from_end,
-        noun,
-    );
+    let (days, from_end) = (&rule.year_days, &rule.year_days_from_end);
+    put_ends(out, ON_THE, days, from_end, " day of the year");
+    let (days, from_end) = (rule.month_days, rule.month_days_from_end);
+    let noun = if from_end.is_empty() { "" } else { " day" };
+    put_small_ends(out, ON_THE, days, from_end, noun);
     put_weekdays(out, rule);
     let is_plain = rule.frequency == Frequency::Daily && rule.interval < 2;
-    if names_no_day(rule) && !is_plain {
+    if out.len() == named_from && !is_plain {
         out.put(" from its start on");
     }
-    put_ends(
-        out,
-        ", of these the ",
-        &rule.positions,
-        &rule.positions_from_end,
-        "",
-    );
+    let (places, from_end) = (&rule.positions, &rule.positions_from_end);
+    put_ends(out, ", of these the ", places, from_end, "");
     put_end(out, rule);
 }
 
@@ -425,71 +393,56 @@ fn put_end(out: &mut Buffer, rule: &Rule) {
     }
 }
 
-// Whether a rule names no day of its periods, each of which then has one by the start.
-fn names_no_day(rule: &Rule) -> bool {
-    let by_month = rule.month_days.is_empty() && rule.month_days_from_end.is_empty();
-    let by_year = rule.year_days.is_empty() && rule.year_days_from_end.is_empty();
-    let by_week = rule.weeks.is_empty() && rule.weeks_from_end.is_empty();
-    by_month && by_year && by_week && rule.weekdays.is_empty()
-}
-
 // Puts a part of a rule behind a text, if the rule has it: its numbers, and those from the end.
-fn put_ends(out: &mut Buffer, before: &str, list: &PlaceSet, from_end: &PlaceSet, noun: &str) {
-    let mut front = before;
-    if !list.is_empty() {
-        out.put(front);
-        put_list(out, list, Names::Ordinal);
-        front = " and the ";
+fn put_ends(out: &mut Buffer, front: &str, list: &PlaceSet, from_end: &PlaceSet, noun: &str) {
+    if list.is_empty() && from_end.is_empty() {
+        return;
     }
-    if !from_end.is_empty() {
-        out.put(front);
-        put_list(out, from_end, Names::FromEnd);
+    out.put(front);
+    put_list(out, list, Names::Ordinal);
+    if !list.is_empty() && !from_end.is_empty() {
+        out.put(AND_THE);
     }
-    if !list.is_empty() || !from_end.is_empty() {
-        out.put(noun);
-    }
+    put_list(out, from_end, Names::FromEnd);
+    out.put(noun);
 }
 
 // The same of a part with small numbers.
-fn put_small_ends(out: &mut Buffer, before: &str, set: NumberSet, from_end: NumberSet, noun: &str) {
-    put_ends(out, before, &places_of(set), &places_of(from_end), noun);
+fn put_small_ends(out: &mut Buffer, front: &str, set: NumberSet, from_end: NumberSet, noun: &str) {
+    put_ends(out, front, &places_of(set), &places_of(from_end), noun);
 }
 
 // Puts how often periods come behind a text.
 fn put_frequency(out: &mut Buffer, rule: &Rule) {
-    let period = match rule.frequency {
+    out.put("every ");
+    if rule.interval > 1 {
+        out.show(&rule.interval);
+        out.put(" ");
+    }
+    out.put(match rule.frequency {
         Frequency::Daily => "day",
         Frequency::Weekly => "week",
         Frequency::Monthly => "month",
         Frequency::Yearly => "year",
-    };
-    out.put("every ");
+    });
     if rule.interval > 1 {
-        out.show(&rule.interval);
-        put!(out, " ", period, "s");
-    } else {
-        out.put(period);
+        out.put("s");
     }
 }
 
 // Puts the weekdays of a rule behind a text: those of every week, and those by their place.
 fn put_weekdays(out: &mut Buffer, rule: &Rule) {
-    let mut between = " on the ";
+    let mut front = ON_THE;
     if !rule.weekdays.every.is_empty() {
         out.put(" on ");
         put_set(out, rule.weekdays.every, Names::Weekdays);
-        between = " and the ";
+        front = AND_THE;
     }
     for day in 0..7u32 {
         let place = day as usize;
-        between = put_places(
-            out,
-            rule.weekdays.front[place],
-            day,
-            Names::Ordinal,
-            between,
-        );
-        between = put_places(out, rule.weekdays.back[place], day, Names::FromEnd, between);
+        let (places, from_end) = (rule.weekdays.front[place], rule.weekdays.back[place]);
+        front = put_places(out, places, day, Names::Ordinal, front);
+        front = put_places(out, from_end, day, Names::FromEnd, front);
     }
 }
 
@@ -499,13 +452,13 @@ fn put_places(
     places: NumberSet,
     day: u32,
     names: Names,
-    between: &'static str,
+    front: &'static str,
 ) -> &'static str {
     if places.is_empty() {
-        return between;
+        return front;
     }
-    out.put(between);
+    out.put(front);
     put_set(out, places, names);
     put!(out, " ", weekday_name(day));
-    " and the "
+    AND_THE
 }

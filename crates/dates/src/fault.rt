@@ -1,7 +1,7 @@
 //! What is said where something is wrong. The first fault alone is told, and ends the command.
 
 use crate::prelude::*;
-use command_words::{Why, Wrong, nearest, put_choices, put_usage};
+use command_words::{Nearest, Why, Wrong, put_choices, put_usage};
 use std::env::{self, Env, FillError, VarError};
 use std::str;
 use zone_database::ZoneError;
@@ -29,6 +29,13 @@ impl Asked<'_> {
         }
     }
 
+    // Takes how an allocation went.
+    pub(crate) fn kept(&mut self, went: Result<(), AllocError>) {
+        if let Err(error) = went {
+            self.fail(io::Error::from(error));
+        }
+    }
+
     // Ends since something cannot be read or written, or memory is short. Whoever closed a pipe has enough of the answers.
     pub(crate) fn fail(&mut self, error: io::Error) {
         if self.is_over {
@@ -45,14 +52,20 @@ impl Asked<'_> {
 
     // Says a line among the errors.
     pub(crate) fn say(&mut self, line: &Buffer) {
-        if self.is_over {
-            return;
+        let line = self.text(line);
+        if !self.is_over {
+            let _ = eprintln!(self.rt; "{line}");
         }
-        match line.text() {
-            Ok(line) => {
-                let _ = eprintln!(self.rt; "{line}");
+    }
+
+    // A text that was put together; none, which ends, where memory was short.
+    pub(crate) fn text<'b>(&mut self, buffer: &'b Buffer) -> &'b str {
+        match buffer.text() {
+            Ok(text) => text,
+            Err(error) => {
+                self.fail(io::Error::from(error));
+                ""
             }
-            Err(error) => self.fail(io::Error::from(error)),
         }
     }
 
@@ -97,14 +110,27 @@ impl Asked<'_> {
         let mut said = self.blame(word);
         said.put(": expected ");
         put_choices(&mut said, values);
-        self.refuse_near(said, nearest(self.rt.alloc(), word.text, values));
+        let mut near = Nearest::to(word.text);
+        for value in values {
+            near.offer(self.rt.alloc(), value);
+        }
+        self.refuse_near(said, near);
     }
 
-    // Ends with what is wrong, and with a name that was perhaps meant.
-    fn refuse_near(&mut self, mut said: Buffer, near: Result<Option<&'static str>, AllocError>) {
-        match near {
-            Ok(Some(name)) => put!(said, "; did you mean ", name, "?"),
-            Ok(None) => {}
+    // The place of a word among those that it may be.
+    pub(crate) fn choice(&mut self, word: Word<'_>, values: &'static [&'static str]) -> usize {
+        let place = place_of(word.text, values);
+        if place >= values.len() {
+            self.wrong_choice(word, values);
+        }
+        place
+    }
+
+    // Ends with what is wrong, and with the name that was perhaps meant.
+    fn refuse_near(&mut self, mut said: Buffer, near: Nearest<'_>) {
+        match near.found() {
+            Ok("") => {}
+            Ok(name) => put!(said, "; did you mean ", name, "?"),
             Err(error) => self.fail(io::Error::from(error)),
         }
         self.refuse(&said);
@@ -128,10 +154,11 @@ impl Asked<'_> {
         }
         let mut why = Buffer::new(self.rt.alloc());
         put_unread(&mut why, error);
-        match why.text() {
-            Ok(why) if error.is_other_pattern() => self.wrong(word, why),
-            Ok(why) => self.no_such(word, why),
-            Err(error) => self.fail(io::Error::from(error)),
+        let why = self.text(&why);
+        if error.is_other_pattern() {
+            self.wrong(word, why);
+        } else {
+            self.no_such(word, why);
         }
     }
 
@@ -139,20 +166,20 @@ impl Asked<'_> {
     pub(crate) fn no_command(&mut self, word: Word<'_>) {
         let mut said = self.blame(word);
         put!(said, ": ", COMMAND);
-        self.refuse_near(said, near_command(self.rt, word.text));
+        let mut near = Nearest::to(word.text);
+        for command in commands() {
+            near.offer(self.rt.alloc(), command.name);
+        }
+        near.offer(self.rt.alloc(), "tomorrow");
+        near.offer(self.rt.alloc(), "yesterday");
+        self.refuse_near(said, near);
     }
 
     // Ends since an operand or an option is missing.
     pub(crate) fn missing(&mut self, name: &str, value: &str) {
         let mut said = Buffer::new(self.rt.alloc());
-        put!(
-            said,
-            "dates: ",
-            name,
-            gap_before(value),
-            value,
-            " is missing; usage: "
-        );
+        put!(said, "dates: ", name, gap_before(value), value);
+        said.put(" is missing; usage: ");
         put_usage(&mut said, NAME, self.command);
         self.refuse(&said);
     }
@@ -170,7 +197,11 @@ impl Asked<'_> {
             Why::Unknown => {
                 let mut said = self.blame(word);
                 said.put(": no such option");
-                let near = near_option(self.rt, self.command, word.text);
+                let (name, _) = word.text.split_once('=').unwrap_or((word.text, ""));
+                let mut near = Nearest::to(name);
+                for option in self.command.options {
+                    near.offer(self.rt.alloc(), option.name);
+                }
                 self.refuse_near(said, near);
             }
             Why::Twice => self.wrong(word, "expected each option once"),
@@ -227,6 +258,18 @@ impl Asked<'_> {
     }
 }
 
+// The place of a name among some; how many these are where it is none of them.
+pub(crate) fn place_of(name: &str, names: &[&str]) -> usize {
+    let mut place: usize = 0;
+    for known in names {
+        if *known == name {
+            break;
+        }
+        place = place.saturating_add(1);
+    }
+    place
+}
+
 // Linux takes no longer argument: 32 pages of 4,096 bytes, the last of which ends it.
 const LONGEST_ARGUMENT: usize = 131_072;
 
@@ -239,7 +282,8 @@ fn put_argument(out: &mut Buffer, place: usize, bytes: &[u8]) {
     for chunk in bytes.utf8_chunks() {
         for character in chunk.valid().chars() {
             if character.is_control() {
-                out.show(&Escape { character });
+                let code = character as u32 as usize;
+                put!(out, "\\u00", HEX[code / 16 % 16], HEX[code % 16]);
             } else {
                 out.put_char(character);
             }
@@ -250,41 +294,7 @@ fn put_argument(out: &mut Buffer, place: usize, bytes: &[u8]) {
     }
 }
 
-/// A control character as JSON writes it by its number.
-#[derive(Clone, Copy)]
-struct Escape {
-    character: char,
-}
-
-impl fmt::Display for Escape {
-    fn fmt<W: fmt::Write>(&self, f: &mut fmt::Formatter<W>) -> fmt::Result {
-        write!(f, "\\u{:04x}", self.character as u32)
-    }
-}
-
-// The name of a command, or of a day, that is most like a word.
-fn near_command(rt: &HostRuntime, text: &str) -> Result<Option<&'static str>, AllocError> {
-    let mut names: Vec<&'static str> = Vec::new(rt.alloc());
-    for command in commands() {
-        if !command.name.is_empty() {
-            names.push(command.name)?;
-        }
-    }
-    names.push("tomorrow")?;
-    names.push("yesterday")?;
-    nearest(rt.alloc(), text, names.as_slice())
-}
-
-// The name of an option that is most like a word, up to its `=`.
-fn near_option(
-    rt: &HostRuntime,
-    command: &CommandRow,
-    text: &str,
-) -> Result<Option<&'static str>, AllocError> {
-    let mut names: Vec<&'static str> = Vec::new(rt.alloc());
-    for option in command.options {
-        names.push(option.name)?;
-    }
-    let (name, _) = text.split_once('=').unwrap_or((text, ""));
-    nearest(rt.alloc(), name, names.as_slice())
-}
+// The digits of base 16.
+const HEX: [&str; 16] = [
+    "0", "1", "2", "3", "4", "5", "6", "7", "8", "9", "a", "b", "c", "d", "e", "f",
+];

@@ -15,7 +15,7 @@ const PATTERNS: &str =
 
 pub(crate) fn format() -> &'static CommandRow {
     row!(
-        "format", &[PATTERN, DAY_OR_LINES], &[ZONED, NOW, UNIX, PARSE, ORDER, JSON, HELP];
+        "format", &[PATTERN, DAY_OR_LINES], &[ZONED, NOW, UNIX, PARSE, ORDER, WITHIN, FIELD, SEPARATOR, JSON, HELP];
         help: "print a day or a date-time by a pattern",
         more: PATTERNS,
         example: "$ dates format '%A, %-d %B %Y' 2024-02-29\nThursday, 29 February 2024"
@@ -38,13 +38,27 @@ struct Lines {}
 // The day or the date-time, or that of each line, read and printed.
 pub(crate) fn answer(asked: &mut Asked<'_>) {
     asked.take_zone();
+    asked.reading.takes_clock = true;
     match asked.word_or_lines(1) {
         Some(word) => {
             asked.none = asked.reading.none_of_text(word.text.as_bytes());
             let start = asked.start(word);
             asked.print_start(&start);
         }
-        None => take_input(asked, &mut Lines {}),
+        None => {
+            asked.take_clocks(asked.writes_clock());
+            take_input(asked, &mut Lines {})
+        }
+    }
+}
+
+impl Asked<'_> {
+    // Whether the pattern asks for a time of day and no day.
+    fn writes_clock(&self) -> bool {
+        match &self.format {
+            Some(pattern) => pattern.names_time() && !pattern.names_date(),
+            None => true,
+        }
     }
 }
 

@@ -3,19 +3,31 @@
 use crate::prelude::*;
 use chrono_datetime::{Timelike, WeekdaySet};
 use chrono_text::read_year;
+use std::cmp::Ordering;
 use std::io::Write;
 
-const BEFORE: Opt = option!("--before", "DAY"; "those of earlier days");
+const BEFORE: Opt =
+    option!("--before", "TIME"; "those before a day, a date-time or a time as 12:00");
 
-const AFTER: Opt = option!("--after", "DAY"; "those of later days");
+const AFTER: Opt = option!("--after", "TIME"; "those after one");
+
+const FROM: Opt = option!("--from", "TIME"; "those from one on");
+
+const UNTIL: Opt = option!("--until", "TIME"; "those up to one, with it");
+
+const NOT: Opt = flag!("--not", "the other lines, as those of no day");
+
+const ONLY: Opt = flag!("--only", "print their days alone");
+
+const REVERSE: Opt = flag!("--reverse", "the latest first");
 
 const IN: Opt = option!("--in", "MONTH"; "those of a month as 2024-02, or of a year as 2024");
 
-const ON: Opt = option!("--on", "DAYS"; "those on weekdays, as sat or sat,sun");
+const ON: Opt = option!("--on", "DAYS"; "those on weekdays, as sat or mon-fri");
 
 pub(crate) fn grep() -> &'static CommandRow {
     row!(
-        "grep", &[operand!("FILE"; required: false)], &[BEFORE, AFTER, IN, ON, NOW, PARSE, ORDER, HELP];
+        "grep", &[operand!("FILE"; required: false)], &[BEFORE, AFTER, FROM, UNTIL, IN, ON, NOT, ONLY, FIELD, SEPARATOR, NOW, PARSE, ORDER, HELP];
         help: "print the lines whose day is looked for",
         more: LINES,
         example: "$ printf '2024-02-28 rent\\n2024-03-02 food\\n' | dates grep --on sat,sun\n2024-03-02 food"
@@ -24,7 +36,7 @@ pub(crate) fn grep() -> &'static CommandRow {
 
 pub(crate) fn sort() -> &'static CommandRow {
     row!(
-        SORT, &[operand!("FILE"; required: false)], &[NOW, PARSE, ORDER, HELP];
+        SORT, &[operand!("FILE"; required: false)], &[REVERSE, FIELD, SEPARATOR, NOW, PARSE, ORDER, HELP];
         help: "print lines in the order of their days",
         more: LINES,
         example: "$ printf 'food 2024-03-02\\nrent 2024-02-28\\n' | dates sort\nrent 2024-02-28\nfood 2024-03-02"
@@ -35,9 +47,12 @@ const SORT: &str = "sort";
 
 const LINES: &str =
     "A line's day is the line, or else its first word that is a day with hyphens or a\n\
-    date-time; blanks, commas, semicolons, brackets and quotation marks part words.\n\
+    date-time; blanks, commas, semicolons, brackets, =, | and quotation marks part\n\
+    words. With --field it is that field.\n\
     grep looks for the days that all options name; its status is 1 where there is\n\
-    none. sort keeps lines of one day as they stand; those of no day come last.\n\
+    none. A time of day alone, as 12:00, is looked for on all days.\n\
+    sort keeps lines of one day as they stand. Those of no day come last, and its\n\
+    status is 1 where there are any.\n\
     They read standard input where FILE is - or left out.";
 
 // Which lines are printed.
@@ -46,8 +61,19 @@ struct Lines {
     // The numbers of the first and the last day that are looked for.
     first: i32,
     last: i32,
+    // Behind, from, up to and in front of what they lie.
+    after: Option<Start>,
+    from: Option<Start>,
+    until: Option<Start>,
+    before: Option<Start>,
     on: Option<WeekdaySet>,
+    // Whether the other lines are printed, and whether days alone.
+    is_not: bool,
+    is_only: bool,
     is_sorted: bool,
+    is_reversed: bool,
+    // Which part of a line is its day.
+    within: Within,
     // Whether a line is found.
     found: bool,
     // The lines that are sorted, one behind another; and of each its day, its second and its nanosecond, and where it begins and ends.
@@ -60,16 +86,30 @@ pub(crate) fn answer(asked: &mut Asked<'_>) {
     let mut lines = Lines {
         first: i32::MIN,
         last: i32::MAX,
+        after: asked.start_if(AFTER.name),
+        from: asked.start_if(FROM.name),
+        until: asked.start_if(UNTIL.name),
+        before: asked.start_if(BEFORE.name),
         on: match asked.value("--on") {
             Some(word) => Some(asked.weekdays(word)),
             None => None,
         },
+        is_not: asked.words.has(NOT.name),
+        is_only: asked.words.has(ONLY.name),
         is_sorted: asked.command.name == SORT,
+        is_reversed: asked.words.has(REVERSE.name),
+        within: asked.within,
         found: false,
         text: Vec::new(asked.rt.alloc()),
         places: Vec::new(asked.rt.alloc()),
     };
-    lines.look_for(asked);
+    asked.reading.takes_clock = lines.names_clock();
+    if let Some(word) = asked.value(IN.name) {
+        let (first, last) = asked.days_in(word);
+        lines.first = first.num_days_from_ce();
+        lines.last = last.num_days_from_ce();
+    }
+    asked.within = Within::Line;
     take_file(asked, &mut lines);
     if !lines.is_sorted {
         asked.end_by(if lines.found { ANSWERED } else { NONE });
@@ -80,6 +120,13 @@ pub(crate) fn answer(asked: &mut Asked<'_>) {
 }
 
 impl Asked<'_> {
+    // The day, the date-time or the time of day that the option of a name has, if it is given.
+    fn start_if(&mut self, name: &str) -> Option<Start> {
+        let word = self.value(name)?;
+        self.reading.takes_clock = true;
+        Some(self.start(word))
+    }
+
     // The first and the last day of the month or the year that a word names.
     fn days_in(&mut self, word: Word<'_>) -> (NaiveDate, NaiveDate) {
         let text = word.text.as_bytes();
@@ -99,29 +146,17 @@ impl Asked<'_> {
     }
 }
 
-// The day or the date-time that a line has: the line, or its first word that is one.
-fn start_in(reading: &Reading<'_>, line: &[u8]) -> Option<Start> {
-    if let Ok(start) = reading.read(line) {
-        return Some(start);
-    }
-    let is_plain = reading.pattern.is_none() && matches!(reading.order, Order::None);
-    for word in line.split(|byte| b" \t\r,;()[]\"'".contains(byte)) {
-        if !is_plain || word.contains(&b'-') {
-            if let Ok(start) = reading.read(word) {
-                return Some(start);
-            }
-        }
-    }
-    None
-}
-
 impl EachLine for Lines {
     fn take_line(&mut self, asked: &mut Asked<'_>, line: &[u8]) {
-        let start = start_in(&asked.reading, line);
+        if line.len() >= MOST_BYTES {
+            return asked.refuse_long();
+        }
+        let text = text_in(&asked.reading, self.within, line).unwrap_or(b"");
+        let start = asked.reading.read(text).ok();
         let taken = if self.is_sorted {
             self.keep(line, start)
         } else {
-            self.find(asked.rt, line, start)
+            self.find(asked.rt, if self.is_only { text } else { line }, start)
         };
         asked.done(taken);
         if self.is_sorted && start.is_none() {
@@ -131,39 +166,51 @@ impl EachLine for Lines {
 }
 
 impl Lines {
-    // Takes which days are looked for.
-    fn look_for(&mut self, asked: &mut Asked<'_>) {
-        if let Some(word) = asked.value("--in") {
-            let (first, last) = asked.days_in(word);
-            self.first = first.num_days_from_ce();
-            self.last = last.num_days_from_ce();
-        }
-        if let Some(day) = asked.day_if(asked.value("--after")) {
-            self.first = self.first.max(day.num_days_from_ce().saturating_add(1));
-        }
-        if let Some(day) = asked.day_if(asked.value("--before")) {
-            self.last = self.last.min(day.num_days_from_ce().saturating_sub(1));
-        }
+    // Whether a time of day alone is looked for.
+    fn names_clock(&self) -> bool {
+        is_clock(&self.after)
+            || is_clock(&self.from)
+            || is_clock(&self.until)
+            || is_clock(&self.before)
     }
 
-    // Prints a line whose day is looked for.
+    // Prints a line, or its day, if that is looked for.
     fn find(&mut self, rt: &HostRuntime, line: &[u8], start: Option<Start>) -> io::Result<()> {
-        let Some(start) = start else {
-            return Ok(());
+        let is_found = match &start {
+            Some(start) => self.looks_for(start),
+            None => false,
         };
+        if is_found == self.is_not || self.is_only && start.is_none() {
+            return Ok(());
+        }
+        self.found = true;
+        self.put(line)?;
+        self.print(rt)?;
+        self.text.clear();
+        Ok(())
+    }
+
+    // Whether a day, a date-time or a time of day is looked for.
+    fn looks_for(&self, start: &Start) -> bool {
+        lies(start, &self.after, Ordering::Greater, false)
+            && lies(start, &self.from, Ordering::Greater, true)
+            && lies(start, &self.until, Ordering::Less, true)
+            && lies(start, &self.before, Ordering::Less, false)
+            && self.is_of_days(start)
+    }
+
+    // Whether a day is on the weekdays, and in the month, that are looked for. A time of day alone is in none.
+    fn is_of_days(&self, start: &Start) -> bool {
+        if start.is_clock() {
+            return self.on.is_none() && self.last == i32::MAX;
+        }
         let date = start.local().date();
         let day = date.num_days_from_ce();
         let is_on = match self.on {
             Some(days) => days.contains(date.weekday()),
             None => true,
         };
-        if is_on && self.first <= day && day <= self.last {
-            self.found = true;
-            self.put(line)?;
-            self.print(rt)?;
-            self.text.clear();
-        }
-        Ok(())
+        is_on && self.first <= day && day <= self.last
     }
 
     // Puts a line behind the text.
@@ -176,7 +223,8 @@ impl Lines {
     fn keep(&mut self, line: &[u8], start: Option<Start>) -> io::Result<()> {
         let begin = self.text.len();
         self.put(line)?;
-        let (second, nano) = match start {
+        let (second, nano) = match &start {
+            Some(start) if self.is_reversed => back(second_of(start.placed())),
             Some(start) => second_of(start.placed()),
             None => (i64::MAX, 0),
         };
@@ -196,6 +244,30 @@ impl Lines {
         }
         Ok(())
     }
+}
+
+// Whether a bound is a time of day alone.
+fn is_clock(by: &Option<Start>) -> bool {
+    matches!(by, Some(Start::Clock(_)))
+}
+
+// Whether a time lies on a side of another, or is the same, if there is another. Of a day and of a time of day only that is compared.
+fn lies(start: &Start, by: &Option<Start>, side: Ordering, or_same: bool) -> bool {
+    let Some(by) = by else {
+        return true;
+    };
+    let found = match *by {
+        Start::Day(date) if !start.is_clock() => start.local().date().cmp(&date),
+        Start::Clock(time) if !start.is_day() => start.local().time().cmp(&time),
+        _ if start.is_like(by) => start.placed().cmp(&by.placed()),
+        _ => return false,
+    };
+    found == side || or_same && found == Ordering::Equal
+}
+
+// A second and its nanosecond so that the later comes first.
+fn back((second, nano): (i64, u32)) -> (i64, u32) {
+    (0_i64.saturating_sub(second), u32::MAX.saturating_sub(nano))
 }
 
 // The second of a date-time from the first day of year 1 on, and its nanosecond.

@@ -1,7 +1,10 @@
 //! The holidays of a command: read once, and put together once for the lines that touch the same years.
 
 use crate::prelude::*;
-use chrono_business::{Calendar, HolidayRule, without_weekends};
+use chrono_business::{
+    Calendar, HolidayRule, england_and_wales, fedwire, france, germany, nyse, target, us_federal,
+    without_weekends,
+};
 use chrono_datetime::WeekdaySet;
 
 /// The holidays by the options of a command.
@@ -63,13 +66,31 @@ impl Asked<'_> {
             days: Vec::new(self.rt.alloc()),
             years: None,
         };
-        let put = put_rules(self.option("--calendar").text, &mut holidays.rules);
-        self.done(put);
+        if let Some(word) = self.value("--calendar") {
+            self.put_calendars(word, &mut holidays.rules);
+        }
         if let Some(word) = self.value("--holidays") {
             let put = self.put_listed(word, &mut holidays.listed);
             self.done(put);
         }
         holidays
+    }
+
+    // Puts the rules of the calendars that a word names into a list.
+    fn put_calendars(&mut self, word: Word<'_>, rules: &mut Vec<HolidayRule>) {
+        for name in word.text.split(',') {
+            let put = match place_of_calendar(name) {
+                0 => rules.extend_from_slice(&us_federal()),
+                1 => rules.extend_from_slice(&target()),
+                2 => rules.extend_from_slice(&england_and_wales()),
+                3 => rules.extend_from_slice(&fedwire()),
+                4 => rules.extend_from_slice(&nyse()),
+                5 => rules.extend_from_slice(&germany()),
+                6 => rules.extend_from_slice(&france()),
+                _ => return self.wrong_choice(word, CALENDARS),
+            };
+            self.kept(put);
+        }
     }
 
     // Puts the days that the file of a word lists into a list.
@@ -111,4 +132,16 @@ impl Asked<'_> {
         said.put("expected a day as 2024-02-29");
         self.refuse(&said);
     }
+}
+
+// The place of a calendar among all, by its name in small letters or in capitals.
+fn place_of_calendar(name: &str) -> usize {
+    let mut place: usize = 0;
+    for calendar in CALENDARS {
+        if calendar.as_bytes().eq_ignore_ascii_case(name.as_bytes()) {
+            break;
+        }
+        place = place.saturating_add(1);
+    }
+    place
 }

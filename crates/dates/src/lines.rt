@@ -5,7 +5,7 @@ use std::fs::{self, File};
 use std::io::{BufRead, Read};
 
 /// So many bytes of a line are kept; no text of as many names a day or a date-time.
-const MOST_BYTES: usize = 65_536;
+pub(crate) const MOST_BYTES: usize = 65_536;
 
 // Reads the next line without the `\n` at its end, its first `MOST_BYTES` at most, the others are passed over; whether there is one.
 pub(crate) fn read_line(
@@ -63,10 +63,7 @@ fn take_lines(
     let mut line = Vec::new(asked.rt.alloc());
     let mut reader = match BufReader::new(asked.rt.alloc(), reader) {
         Ok(reader) => reader,
-        Err(error) => {
-            asked.fail(error);
-            return;
-        }
+        Err(error) => return asked.fail(error),
     };
     for number in 1..u64::MAX {
         match read_line(&mut reader, &mut line) {
@@ -79,7 +76,7 @@ fn take_lines(
         }
         asked.line = number;
         asked.end_by(ANSWERED);
-        command.take_line(asked, line.as_slice());
+        asked.take_parts(command, line.as_slice());
         status = status.max(asked.status);
         if asked.is_over {
             break;
@@ -105,47 +102,36 @@ impl Asked<'_> {
     }
 }
 
-/// Why a line names no day; `Form` is that it is not written as one, and `Mark` a byte order mark.
+/// Why a line names no day.
 #[derive(Clone, Copy)]
 pub(crate) enum Reason {
+    /// There is no such day.
     Day(Unreadable),
-    Moment,
-    Spaces,
-    Mark,
-    CarriageReturn,
-    Empty,
-    Length,
+    /// It is not written as one.
     Form,
+    /// This.
+    Other(&'static str),
 }
 
 // Puts why a line names no day behind a text.
 pub(crate) fn put_reason(out: &mut Buffer, reason: Reason) {
-    out.put(match reason {
-        Reason::Day(error) => {
-            put_unread(out, error);
-            return;
-        }
-        Reason::Moment => "a date-time, and no day",
-        Reason::Spaces => "begins or ends with white space",
-        Reason::Mark => "begins with a byte order mark",
-        Reason::CarriageReturn => "ends in a carriage return",
-        Reason::Empty => "nothing stands there",
-        Reason::Length => "has 65536 bytes or more",
-        Reason::Form => "not written as 2024-02-29, 2024-060 or 2024-W09-4",
-    });
+    match reason {
+        Reason::Day(error) => put_unread(out, error),
+        Reason::Form => out.put("not written as 2024-02-29, 2024-060 or 2024-W09-4"),
+        Reason::Other(why) => out.put(why),
+    }
 }
 
 impl Reading<'_> {
     // The day that a line names, or why it names none.
     pub(crate) fn day_of_line(&self, line: &[u8]) -> Result<NaiveDate, Reason> {
         if line.len() >= MOST_BYTES {
-            return Err(Reason::Length);
+            return Err(Reason::Other("has 65536 bytes or more"));
         }
         match self.read(line) {
-            Ok(start) => match start {
-                Start::Day(date) => Ok(date),
-                _ => Err(Reason::Moment),
-            },
+            Ok(start) if start.is_clock() => Err(Reason::Form),
+            Ok(start) if start.is_day() => Ok(start.local().date()),
+            Ok(_) => Err(Reason::Other("a date-time, and no day")),
             Err(Unreadable::Form(error))
                 if error.cause == ReadCause::NotThisForm || parted(line).is_some() => {
                 Err(beside_day(line))
@@ -157,18 +143,17 @@ impl Reading<'_> {
 
 // What a line has beside a day, where that is all that keeps it from being one.
 fn beside_day(text: &[u8]) -> Reason {
-    if text.is_empty() {
-        return Reason::Empty;
-    }
     let unmarked = text.strip_prefix(b"\xef\xbb\xbf").unwrap_or(text);
     let line = unmarked.strip_suffix(b"\r").unwrap_or(unmarked);
-    if read_day(line.trim_ascii()).is_err() {
-        Reason::Form
+    Reason::Other(if text.is_empty() {
+        "nothing stands there"
+    } else if read_day(line.trim_ascii()).is_err() {
+        return Reason::Form;
     } else if unmarked.len() < text.len() {
-        Reason::Mark
+        "begins with a byte order mark"
     } else if line.len() < text.len() {
-        Reason::CarriageReturn
+        "ends in a carriage return"
     } else {
-        Reason::Spaces
-    }
+        "begins or ends with white space"
+    })
 }

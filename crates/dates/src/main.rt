@@ -39,6 +39,7 @@ macro_rules! operand {
 }
 
 mod add;
+mod apart;
 mod asked;
 mod cal;
 mod check;
@@ -64,6 +65,7 @@ mod options;
 mod patterned;
 mod prelude;
 mod roll;
+mod round;
 mod rule;
 mod seq;
 mod table;
@@ -72,6 +74,7 @@ mod texts;
 mod values;
 mod week;
 mod weekday;
+mod within;
 mod zone_changes;
 mod zoned;
 mod zoned_rule;
@@ -98,6 +101,7 @@ fn run(rt: &HostRuntime) -> u8 {
 
 // The arguments.
 fn texts_of(rt: &HostRuntime) -> io::Result<Vec<String>> {
-    let arguments = env::args(rt)?;
-    Ok(arguments.skip(1).collect(rt.alloc())?)
+    let mut arguments = env::args(rt)?;
+    arguments.next();
+    Ok(arguments.collect(rt.alloc())?)
 }

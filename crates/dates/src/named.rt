@@ -66,7 +66,7 @@ impl Asked<'_> {
 
     // What a zone's clock shows at the time that a word names.
     fn shown_at(&mut self, zone: &OwnedZone, word: Word<'_>) -> Option<DateTime<FixedOffset>> {
-        let read = read_written(word.text.as_bytes(), Order::None);
+        let read = read_written(word.text.as_bytes(), Order::None, false);
         let start = self.taken(word, read, MOMENT_EXPECTED);
         let start = self.moment_at(word, start);
         match instants_of(zone, start) {

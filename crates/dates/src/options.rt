@@ -26,10 +26,21 @@ pub(crate) const WEEKEND: Opt = option!(
     values: &["mon", "tue", "wed", "thu", "fri", "sat", "sun", "none"], default: "sat,sun"
 );
 
+/// The names of calendars.
+pub(crate) const CALENDARS: &[&str] = &[
+    "us-federal",
+    "target",
+    "england",
+    "fedwire",
+    "nyse",
+    "germany",
+    "france",
+];
+
 pub(crate) const CALENDAR: Opt = option!(
-    "--calendar", "NAME"; "holidays by rules: us-federal (from 1971 on),\n\
-        target (from 1999 on) or england (from 1978 on)",
-    values: &["us-federal", "target", "england"], any: false
+    "--calendar", "NAMES"; "holidays by rules: us-federal and fedwire (from 1971),\n\
+        england (1978), france (1982), germany (1995),\nnyse (1998), target (1999); several as target,nyse",
+    values: CALENDARS
 );
 
 pub(crate) const HOLIDAYS: Opt =

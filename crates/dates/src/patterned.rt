@@ -59,14 +59,17 @@ impl<'a> Asked<'a> {
     // The pattern that a word writes, by which days or date-times are read.
     pub(crate) fn reading_if(&mut self, word: Option<Word<'a>>) -> Option<Pattern<'a>> {
         let pattern = self.pattern_if(word)?;
-        if !pattern.names_date() && !pattern.names_zoned() {
-            self.wrong(word?, "expected a pattern that names a day, as %d.%m.%Y");
+        if !pattern.names_date() && !pattern.names_zoned() && !pattern.names_time() {
+            self.wrong(
+                word?,
+                "expected a pattern that names a day, as %d.%m.%Y, or a time, as %H:%M",
+            );
         }
         Some(pattern)
     }
 }
 
-// The day, the date-time or the instant that a text names by a pattern.
+// What a text names by a pattern: an instant, a date-time, a day or a time of day.
 pub(crate) fn read_by(pattern: &Pattern<'_>, text: &[u8]) -> Result<Start, PatternReadError> {
     if pattern.names_zoned() {
         return Ok(Start::Stamp(pattern.parse_zoned(text)?));
@@ -74,23 +77,16 @@ pub(crate) fn read_by(pattern: &Pattern<'_>, text: &[u8]) -> Result<Start, Patte
     if pattern.names_date_time() {
         return Ok(Start::DateTime(pattern.parse_date_time(text)?));
     }
-    Ok(Start::Day(pattern.parse_date(text)?))
-}
-
-// The day, the date-time or the instant that a reply is, if it is one.
-pub(crate) fn dated(reply: &Reply) -> Option<Start> {
-    match *reply {
-        Reply::Date(date) | Reply::Names(date) => Some(Start::Day(date)),
-        Reply::Moment(moment) => Some(Start::DateTime(moment)),
-        Reply::Stamp(stamp) => Some(Start::Stamp(stamp)),
-        Reply::Number(Key::Unix, seconds) => Some(Start::Stamp(instant_at(seconds)?)),
-        _ => None,
+    if pattern.names_date() {
+        return Ok(Start::Day(pattern.parse_date(text)?));
     }
+    Ok(Start::Clock(pattern.parse_time(text)?))
 }
 
 // The text by a pattern, if there is what the pattern asks for.
 pub(crate) fn delayed<'a>(pattern: &Pattern<'a>, start: &Start) -> Option<DelayedFormat<'a>> {
     match *start {
+        Start::Clock(time) => pattern.delayed_time(time),
         Start::Day(date) => pattern.delayed_date(date),
         Start::DateTime(moment) => pattern.delayed(moment),
         Start::Stamp(stamp) => pattern.delayed_zoned(stamp),

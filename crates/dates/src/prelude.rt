@@ -11,6 +11,7 @@ pub(crate) use crate::patterned::*;
 pub(crate) use crate::table::*;
 pub(crate) use crate::texts::*;
 pub(crate) use crate::values::*;
+pub(crate) use crate::within::*;
 pub(crate) use crate::zoned::*;
 pub(crate) use chrono_datetime::{
     Datelike, NaiveDate, NaiveDateTime, NaiveTime, TimeDelta, Weekday,

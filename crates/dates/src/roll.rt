@@ -4,8 +4,8 @@ use crate::each::{Asks, answer_each};
 use crate::prelude::*;
 use chrono_business::Roll;
 
-/// The names of conventions.
-pub(crate) const CONVENTIONS: &[&str] = &[
+// The names of conventions.
+const CONVENTIONS: &[&str] = &[
     "following",
     "preceding",
     "modified-following",
@@ -14,10 +14,20 @@ pub(crate) const CONVENTIONS: &[&str] = &[
     "unadjusted",
 ];
 
+// The conventions, in that order.
+const ROLLS: &[Roll] = &[
+    Roll::Following,
+    Roll::Preceding,
+    Roll::ModifiedFollowing,
+    Roll::ModifiedPreceding,
+    Roll::NearestQuantLib,
+    Roll::Unadjusted,
+];
+
 pub(crate) fn command() -> &'static CommandRow {
     row!(
         "roll", &[DAY_OR_LINES, operand!("CONVENTION"; values: CONVENTIONS)],
-        &[WEEKEND, CALENDAR, HOLIDAYS, NOW, PARSE, ORDER, FORMAT, LONG, JSON, HELP];
+        &[WEEKEND, CALENDAR, HOLIDAYS, NOW, PARSE, ORDER, FORMAT, LONG, WITHIN, FIELD, SEPARATOR, JSON, HELP];
         help: "print where a closed day goes",
         more: "A CONVENTION is following, preceding, modified-following, modified-preceding,\n\
             nearest or unadjusted. An open day stays.\n\
@@ -44,15 +54,7 @@ pub(crate) fn answer(asked: &mut Asked<'_>) {
 impl Asked<'_> {
     // The roll of the convention that a word names.
     fn roll_of(&mut self, word: Word<'_>) -> Roll {
-        match word.text {
-            "following" => return Roll::Following,
-            "preceding" => return Roll::Preceding,
-            "modified-following" => return Roll::ModifiedFollowing,
-            "modified-preceding" => return Roll::ModifiedPreceding,
-            "nearest" => return Roll::NearestQuantLib,
-            "unadjusted" => {}
-            _ => self.wrong_choice(word, CONVENTIONS),
-        }
-        Roll::Unadjusted
+        let roll = ROLLS.get(self.choice(word, CONVENTIONS)).copied();
+        roll.unwrap_or(Roll::Unadjusted)
     }
 }

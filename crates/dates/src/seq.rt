@@ -5,7 +5,7 @@ use crate::prelude::*;
 use chrono_datetime::WeekdaySet;
 use dates_answer::sequence_day;
 
-const SKIP: Opt = option!("--skip", "DAYS"; "weekdays that are left out, as sat,sun");
+const SKIP: Opt = option!("--skip", "DAYS"; "weekdays that are left out, as sat,sun or mon-fri");
 
 const HOW_MANY: Opt = option!("--count", "N"; "how many at most (default: all)");
 
@@ -18,13 +18,14 @@ pub(crate) fn command() -> &'static CommandRow {
             not past the second. With no SPAN it goes day by day, also back. With no second\n\
             DAY it goes on to the calendar's end, or up to --count.\n\
             A SPAN is as for add, as 2w, or -1w to go back; of date-times also 36h or\n\
-            90min; none of b.",
+            90min; none of b. Times of day as 22:30 go on past midnight.",
         example: "$ dates seq 2024-01-31 2024-04-01 1m\n2024-01-31\n2024-02-29\n2024-03-31"
     )
 }
 
 // The days of the sequence as long as they are not past its end; `none` where the first day is past it.
 pub(crate) fn answer(asked: &mut Asked<'_>) {
+    asked.reading.takes_clock = true;
     let (second, third) = second_and_span(asked);
     let from = asked.start(asked.word(0));
     asked.none = asked.reading.none_of(&from);
@@ -34,6 +35,7 @@ pub(crate) fn answer(asked: &mut Asked<'_>) {
     };
     let step = match third {
         Some(word) => asked.step(&from, word),
+        None if from.is_clock() => return asked.missing_operand(2),
         None => day_by_day(&from, to.as_ref()),
     };
     let skip = match asked.value("--skip") {
@@ -64,7 +66,7 @@ fn print_sequence(
         if left == 0 || asked.is_over {
             break;
         }
-        if !skip.contains(start.local().date().weekday()) {
+        if start.is_clock() || !skip.contains(start.local().date().weekday()) {
             asked.print_start(&start);
             left = left.saturating_sub(1);
         }
@@ -132,8 +134,58 @@ fn day_by_day(from: &Start, to: Option<&Start>) -> Move {
     Move::Calendar(Span { count, unit })
 }
 
+// The time by which a move leads, if it does so by one.
+fn time_of(step: Move) -> Option<TimeDelta> {
+    match step {
+        Move::Time(time) => time,
+        _ => None,
+    }
+}
+
+// The time of day at a place of a sequence of such; nothing past its end. It goes past midnight, and at most once around the clock.
+fn clock_there(
+    from: NaiveTime,
+    to: Option<NaiveTime>,
+    step: TimeDelta,
+    place: u32,
+) -> Option<Start> {
+    let gone = step.checked_mul(i32::try_from(place).ok()?)?;
+    let (zero, day) = (TimeDelta::zero(), TimeDelta::try_days(1)?);
+    let length = match to {
+        Some(to) => to.signed_duration_since(from),
+        None => zero,
+    };
+    let is_past = if step < zero {
+        let last = if length > zero {
+            length.checked_sub(&day)?
+        } else {
+            length
+        };
+        gone < last
+    } else {
+        let last = if length < zero {
+            length.checked_add(&day)?
+        } else {
+            length
+        };
+        last < gone
+    };
+    if is_past && to.is_some() || gone.abs() >= day {
+        None
+    } else {
+        Some(Start::Clock(from.overflowing_add_signed(gone).0))
+    }
+}
+
 // What stands at a place of the sequence, counted from 0; nothing past its end.
 fn there(from: &Start, to: Option<&Start>, step: Move, place: u32) -> Option<Start> {
+    if let Some(time) = from.clock() {
+        let end = match to {
+            Some(to) => to.clock(),
+            None => None,
+        };
+        return clock_there(time, end, time_of(step)?, place);
+    }
     let (start, way) = (from.local(), goes(&step));
     let moment = match step {
         Move::Time(time) => {

@@ -1,7 +1,11 @@
 //! The commands of `dates`: a row each. Help, the man page, completion and messages come from these rows.
 
+use crate::day::shell_of;
 use crate::prelude::*;
-use command_words::{Program, put_command_help, put_program_help, read_words};
+use command_words::{
+    Program, put_command_help, put_completion, put_man_page, put_program_help, put_reference,
+    read_words,
+};
 
 // The rows: the module of each command and its function there, in the order in which the help lists them.
 macro_rules! each_command {
@@ -16,7 +20,7 @@ macro_rules! each_command {
             weekday::command,
             ends::first,
             ends::last,
-            ends::round,
+            round::command,
             easter::command,
             leap::command,
             open::command,
@@ -78,7 +82,7 @@ fn answer(asked: &mut Asked<'_>) {
 pub(crate) const NAME: &str = "dates";
 
 /// The program with its commands.
-pub(crate) fn program<'a>(commands: &'a [&'static CommandRow]) -> Program<'a> {
+fn program<'a>(commands: &'a [&'static CommandRow]) -> Program<'a> {
     Program {
         name: NAME,
         help: "answer what one asks of dates",
@@ -95,18 +99,20 @@ const MORE: &str = "A DAY is a calendar date, an ordinal date or a week date, as
     1 January of year 1, which is 1, and the days since 1970-01-01.\n\
     \n\
     Where DAY is - or left out, most commands answer each line of standard input.\n\
-    dates alone does so if something is piped in, and else prints today. A line that\n\
-    is no day is answered by none; check says why.\n\
+    dates alone, first, last, open, week and weekday do so if something is piped in,\n\
+    and else answer for today. A line that is no day is answered by none; check says\n\
+    why.\n\
     today, tomorrow, yesterday, friday and 'last friday' are days by the clock, and\n\
-    now is a time. Without such a word only dates and cal alone, next, prev, now and\n\
-    today ask what time it is.\n\
+    now is a time. Without such a word only commands of no day, next, prev, now,\n\
+    today and in of a time alone ask what time it is.\n\
     \n\
     An option may stand anywhere, and its value behind = too. Behind -- all words\n\
     are operands. 'dates COMMAND --help' says more of a command.\n\
     \n\
     The exit status is 0; 1 where a question has no answer, for which none is\n\
-    printed, where check finds a line, where grep finds none, or where a test does\n\
-    not hold; and 2 after a wrong command, or a read or a write that failed.";
+    printed, where check finds a line, grep finds none, sort finds one of no day, or\n\
+    a test does not hold; and 2 after a wrong command, or a read or a write that\n\
+    failed.";
 
 // Answers what the arguments ask for; the exit status.
 pub(crate) fn answer_arguments<'a>(rt: &'a HostRuntime, arguments: &'a [String]) -> u8 {
@@ -132,7 +138,7 @@ fn command_named(name: &str) -> &'static CommandRow {
 // Answers a command by its words, or prints its help.
 fn answer_words(asked: &mut Asked<'_>) {
     if asked.words.has("--help") {
-        return print_help(asked);
+        return print_page(asked);
     }
     if asked.words.has("--json") {
         asked.form = OutputForm::Json;
@@ -142,6 +148,7 @@ fn answer_words(asked: &mut Asked<'_>) {
     asked.check_pairs();
     asked.take_clock();
     asked.take_order();
+    asked.take_within();
     if !asked.is_over {
         answer(asked);
     }
@@ -153,6 +160,9 @@ const APART: &[[&str; 2]] = &[
     ["--parse", "--order"],
     ["--order", "--unix"],
     ["--format", "--long"],
+    ["--within", "--field"],
+    ["--within", "--json"],
+    ["--field", "--json"],
     ["--exdate", "--zone"],
     ["--rdate", "--zone"],
 ];
@@ -211,6 +221,9 @@ impl<'a> Asked<'a> {
         self.format = self.pattern_if(format);
         let parse = pattern_word(self.command, &self.words, PARSE);
         self.reading.pattern = self.reading_if(parse);
+        if let Some(word) = parse {
+            self.reading.blanks = count_of(b' ', word.text.as_bytes());
+        }
     }
 
     // Ends where two options are given of which one alone may be.
@@ -218,7 +231,9 @@ impl<'a> Asked<'a> {
         for [one, other] in APART {
             if let Some(word) = self.words.value(&[], one) {
                 if self.words.has(other) {
-                    let mut said = self.blame(word);
+                    let text = if word.text.is_empty() { one } else { word.text };
+                    let place = word.place;
+                    let mut said = self.blame(Word { place, text });
                     put!(said, ": expected no ", one, " beside ", other);
                     self.refuse(&said);
                 }
@@ -237,14 +252,27 @@ impl<'a> Asked<'a> {
     }
 }
 
-// Prints how a command, or the program, is used.
-fn print_help(asked: &mut Asked<'_>) {
+// Prints the page that an option asks for.
+pub(crate) fn print_page(asked: &mut Asked<'_>) {
     let rows = commands();
     let mut page = Buffer::new(asked.rt.alloc());
-    if asked.command.name.is_empty() {
-        put_program_help(&mut page, &program(&rows));
-    } else {
-        put_command_help(&mut page, &program(&rows), asked.command);
-    }
+    put_page(&mut page, asked, &program(&rows));
     asked.print_page(&page);
+}
+
+// Puts the page that an option asks for behind a text: how a command, or the program, is used, or one of the pages of the program.
+fn put_page(out: &mut Buffer, asked: &Asked<'_>, program: &Program<'_>) {
+    let words = &asked.words;
+    if words.has("--help") && asked.command.name.is_empty() {
+        put_program_help(out, program);
+    } else if words.has("--help") {
+        put_command_help(out, program, asked.command);
+    } else if words.has("--man") {
+        put_man_page(out, program);
+    } else if words.has("--reference") {
+        put_reference(out, program);
+    } else {
+        let shell = shell_of(asked.option("--completion").text);
+        put_completion(out, program, shell);
+    }
 }

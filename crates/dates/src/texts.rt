@@ -70,7 +70,7 @@ fn added(mark: u8, text: &[u8], full: &Joined, byte: usize) -> usize {
 }
 
 // How often a byte stands in a text.
-fn count_of(byte: u8, text: &[u8]) -> usize {
+pub(crate) fn count_of(byte: u8, text: &[u8]) -> usize {
     let mut count: usize = 0;
     for it in text {
         if *it == byte {
@@ -98,9 +98,11 @@ fn read_hyphened(text: &[u8]) -> Result<NaiveDate, ReadError> {
     }
 }
 
-/// A day, a date-time, or an instant.
+/// A day, a date-time, an instant, or a time of day alone.
 #[derive(Clone, Copy)]
 pub enum Start {
+    /// A time of day.
+    Clock(NaiveTime),
     /// A day.
     Day(NaiveDate),
     /// A date-time.
@@ -110,12 +112,21 @@ pub enum Start {
 }
 
 impl Start {
-    // The date-time that is written; midnight of a day.
+    // The date-time that is written; midnight of a day; a time of day on some day.
     pub(crate) fn local(&self) -> NaiveDateTime {
         match *self {
+            Start::Clock(time) => NaiveDateTime::new(NaiveDate::default(), time),
             Start::Day(date) => NaiveDateTime::new(date, NaiveTime::MIN),
             Start::DateTime(moment) => moment,
             Start::Stamp(stamp) => stamp.naive_local(),
+        }
+    }
+
+    // The same, with a day as its midnight.
+    pub(crate) fn timed(self) -> Start {
+        match self {
+            Start::Day(_) => Start::DateTime(self.local()),
+            other => other,
         }
     }
 
@@ -124,18 +135,36 @@ impl Start {
         matches!(self, Start::Day(_))
     }
 
-    // The key of its object.
-    pub(crate) fn key(&self) -> Key {
-        if self.is_day() {
-            Key::Date
-        } else {
-            Key::Moment
+    // Whether it is a date-time or an instant.
+    pub(crate) fn is_moment(&self) -> bool {
+        self.key() == Key::Moment
+    }
+
+    // Whether it is a time of day alone.
+    pub(crate) fn is_clock(&self) -> bool {
+        matches!(self, Start::Clock(_))
+    }
+
+    // The time of day that stands alone, if one does.
+    pub(crate) fn clock(&self) -> Option<NaiveTime> {
+        match *self {
+            Start::Clock(time) => Some(time),
+            _ => None,
         }
     }
 
-    // Whether both are days, both date-times or both instants.
+    // The key of its object.
+    pub(crate) fn key(&self) -> Key {
+        match self {
+            Start::Clock(_) => Key::Time,
+            Start::Day(_) => Key::Date,
+            _ => Key::Moment,
+        }
+    }
+
+    // Whether both are days, both date-times, both instants or both times of day.
     pub(crate) fn is_like(&self, other: &Start) -> bool {
-        self.is_day() == other.is_day() && self.has_offset() == other.has_offset()
+        self.key() == other.key() && self.has_offset() == other.has_offset()
     }
 
     // How long it is until another, of local times where they have no offset.
@@ -156,9 +185,12 @@ impl Start {
         matches!(self, Start::Stamp(_))
     }
 
-    // What is written in the same way of another date-time: of a day its date alone, of an instant with the same offset.
+    // What is written in the same way of another date-time: of a day its date alone, of an instant with the same offset. A time of day
+    // stays on its day.
     pub(crate) fn at(&self, moment: NaiveDateTime) -> Option<Start> {
         match *self {
+            Start::Clock(_) if moment.date() != NaiveDate::default() => None,
+            Start::Clock(_) => Some(Start::Clock(moment.time())),
             Start::Day(_) => Some(Start::Day(moment.date())),
             Start::DateTime(_) => Some(Start::DateTime(moment)),
             Start::Stamp(stamp) => {
@@ -172,6 +204,7 @@ impl Start {
 impl fmt::Display for Start {
     fn fmt<W: fmt::Write>(&self, f: &mut fmt::Formatter<W>) -> fmt::Result {
         match self {
+            Start::Clock(time) => write!(f, "{time}"),
             Start::Day(date) => write!(f, "{date}"),
             Start::DateTime(moment) => write!(f, "{moment:?}"),
             Start::Stamp(stamp) => write!(f, "{stamp:?}"),
@@ -191,6 +224,12 @@ pub(crate) fn read_start(text: &[u8]) -> Result<Start, ReadError> {
         Some((day, time)) => moment_at(day, time),
         None => Ok(Start::Day(read_day(text)?)),
     }
+}
+
+// The time of day that a text names, as `10:30`.
+fn read_clock(text: &[u8]) -> Option<Start> {
+    let shown = parse_from_iso8601(in_full(text, b"").as_bytes()).ok()?;
+    Some(Start::Clock(shown.naive_local().time()))
 }
 
 // The day of a number behind `#`, counted from 1 January of year 1, or the instant of the seconds behind `@`.
@@ -236,12 +275,26 @@ const DAY_FIRST: &[&str] = &["%d.%m.%Y", "%d/%m/%Y", "%d-%m-%Y"];
 
 const MONTH_FIRST: &[&str] = &["%m.%d.%Y", "%m/%d/%Y", "%m-%d-%Y"];
 
-// The day, the date-time or the instant that a text names, also by the name of a month, or in an order.
-pub(crate) fn read_written(text: &[u8], order: Order) -> Result<Start, Unreadable> {
+// The day, the date-time or the instant that a text names, also by the name of a month, or in an order; a time of day where that may
+// stand alone.
+pub(crate) fn read_written(
+    text: &[u8],
+    order: Order,
+    takes_clock: bool,
+) -> Result<Start, Unreadable> {
     let error = match read_start(text) {
         Ok(start) => return Ok(start),
         Err(error) => error,
     };
+    if takes_clock && byte_at(text, 2) == b':' {
+        if ends_day(text) {
+            let cause = ReadCause::HourAbove23;
+            return Err(Unreadable::Form(ReadError { cause, byte: 0 }));
+        }
+        if let Some(start) = read_clock(text) {
+            return Ok(start);
+        }
+    }
     let found = match read_by_any(SPELLED, text)? {
         None => read_in_order(text, order)?,
         found => found,
@@ -513,17 +566,6 @@ fn move_by(count: i64, name: &str) -> Option<Move> {
         _ => return None,
     };
     Some(Move::Calendar(Span { count, unit }))
-}
-
-// The unit of that name.
-pub(crate) fn unit_named(name: &str) -> Option<Unit> {
-    match name {
-        "d" => Some(Unit::Days),
-        "w" => Some(Unit::Weeks),
-        "m" | "mo" => Some(Unit::Months),
-        "y" => Some(Unit::Years),
-        _ => None,
-    }
 }
 
 // The text that bytes are; none for other bytes.

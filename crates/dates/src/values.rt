@@ -1,5 +1,6 @@
 //! The values of words.
 
+use crate::day::is_alone;
 use crate::prelude::*;
 use chrono_pattern::PatternReadError;
 use chrono_text::{read_decimal, read_year};
@@ -15,6 +16,10 @@ pub(crate) struct Reading<'a> {
     pub order: Order,
     /// Whether instants are seconds since 1970 in UTC.
     pub is_unix: bool,
+    /// Whether a time of day may stand alone.
+    pub takes_clock: bool,
+    /// How many blanks a text may have: one in front of its time of day, or those of the pattern.
+    pub blanks: usize,
 }
 
 /// Why a text names no day, date-time or instant.
@@ -66,6 +71,8 @@ impl Reading<'_> {
             now: None,
             order: Order::None,
             is_unix: false,
+            takes_clock: false,
+            blanks: 1,
         }
     }
 
@@ -79,7 +86,7 @@ impl Reading<'_> {
                 Ok(read_named(now, text)?)
             }
             _ if self.is_unix => Ok(read_instant(text)?),
-            _ => read_written(text, self.order),
+            _ => read_written(text, self.order, self.takes_clock),
         }
     }
 
@@ -94,6 +101,7 @@ impl Reading<'_> {
     // The answer that is a day, a date-time or an instant.
     pub(crate) fn reply(&self, start: Start) -> Reply {
         match start {
+            Start::Clock(time) => Reply::Clock(time),
             Start::Day(date) => Reply::Date(date),
             Start::DateTime(moment) => Reply::Moment(moment),
             Start::Stamp(stamp) => {
@@ -108,10 +116,9 @@ impl Reading<'_> {
 
     // That there is no day, or no date-time, as is the start.
     pub(crate) fn none_of(&self, start: &Start) -> Reply {
-        if start.is_day() {
-            Reply::Nothing(Key::Date)
-        } else {
-            self.no_moment()
+        match start.key() {
+            Key::Moment => self.no_moment(),
+            key => Reply::Nothing(key),
         }
     }
 
@@ -171,6 +178,14 @@ impl Asked<'_> {
         start.local().date()
     }
 
+    // The day that the operand at a place names; without it today, where nothing is piped in. No day stands for the lines of the input.
+    pub(crate) fn day_or_today(&mut self, place: usize) -> Option<NaiveDate> {
+        if self.words.operand(place).is_none() && is_alone(self.rt) {
+            return Some(self.day_shown());
+        }
+        self.day_if(self.word_or_lines(place))
+    }
+
     // The day that a word names, if there is one.
     pub(crate) fn day_if(&mut self, word: Option<Word<'_>>) -> Option<NaiveDate> {
         match word {
@@ -197,9 +212,9 @@ impl Asked<'_> {
         self.moment_at(word, start)
     }
 
-    // A start, which is no day.
+    // A start, which is a date-time or an instant.
     pub(crate) fn moment_at(&mut self, word: Word<'_>, start: Start) -> Start {
-        if start.is_day() {
+        if !start.is_moment() {
             self.wrong(word, MOMENT_EXPECTED);
         }
         start

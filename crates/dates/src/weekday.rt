@@ -7,7 +7,8 @@ pub(crate) fn command() -> &'static CommandRow {
     row!(
         "weekday", &[DAY_OR_LINES], &[NOW, PARSE, ORDER, JSON, HELP];
         help: "print the weekday of a day",
-        more: "With - in place of the day, or none, it answers each line of standard input.",
+        more: "With - in place of the day it answers each line of standard input. With none it\n\
+            does so if something is piped in, and else takes today.",
         example: "$ dates weekday 2024-02-29\nThursday"
     )
 }
@@ -15,6 +16,6 @@ pub(crate) fn command() -> &'static CommandRow {
 // The weekday of the day, or of that of each line.
 pub(crate) fn answer(asked: &mut Asked<'_>) {
     asked.none = Reply::Nothing(Key::Weekday);
-    let date = asked.day_if(asked.word_or_lines(0));
+    let date = asked.day_or_today(0);
     answer_each(asked, date, Asks::Weekday);
 }

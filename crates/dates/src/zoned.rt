@@ -18,10 +18,25 @@ pub(crate) const IN_ZONE: Opt =
 pub(crate) const ZONED: Opt =
     option!("--zone", "ZONE"; "a date-time without offset is local time of this zone");
 
+// What a zone is.
+macro_rules! zones {
+    ($($behind:expr)?) => {
+        concat!(
+            "A ZONE is a name of the time zone database, as Europe/Berlin, or local, which is\n\
+            the machine's own: that of TZ in the environment, or else of /etc/localtime."
+            $(, $behind)?
+        )
+    };
+}
+
 /// What a zone is, as helps say it.
-pub(crate) const ZONES: &str =
-    "A ZONE is a name of the time zone database, as Europe/Berlin, or local, which is\n\
-    the machine's own: that of TZ in the environment, or else of /etc/localtime.";
+pub(crate) const ZONES: &str = zones!();
+
+/// The same of a command that answers lines too.
+pub(crate) const IN_ZONES: &str = zones!(
+    "\nA time alone, as 12:00, is today's. With - in place of the time, or none, it\n\
+    answers each line of standard input."
+);
 
 // The name of the machine's own zone.
 const LOCAL: &str = "local";
@@ -96,7 +111,7 @@ impl Asked<'_> {
 
     // What a word names, as the zone's clock shows it, if it shows it once. A day is nothing to a zone.
     pub(crate) fn once(&mut self, word: Word<'_>, start: Start) -> Start {
-        if self.zone.is_some() && start.is_day() {
+        if self.zone.is_some() && !start.is_moment() {
             self.wrong(word, MOMENT_EXPECTED);
         }
         let placed = self.placed(start);
@@ -124,6 +139,7 @@ impl Asked<'_> {
     pub(crate) fn later(&self, start: Start, by: Option<TimeDelta>) -> Option<Start> {
         match start {
             Start::Day(_) => None,
+            Start::Clock(time) => Some(Start::Clock(time.overflowing_add_signed(by?).0)),
             Start::DateTime(moment) => Some(Start::DateTime(moment.checked_add_signed(by?)?)),
             Start::Stamp(stamp) => self.placed(Start::Stamp(stamp.checked_add_signed(by?)?)),
         }
@@ -137,8 +153,7 @@ impl Asked<'_> {
             return;
         };
         if self.format.is_some() {
-            self.print(Reply::Stamp(shown));
-            return;
+            return self.print_by_pattern(&Start::Stamp(shown));
         }
         let form = self.form;
         let name = zone.abbreviation(stamp.timestamp()).unwrap_or("");

@@ -8,6 +8,7 @@ use Rattle.chrono_datetime.specs.DateText.{date_text}
 use Rattle.chrono_datetime.specs.Fields.{unix_epoch_day}
 use Rattle.chrono_datetime.specs.Moment.{Moment}
 use Rattle.chrono_datetime.specs.MomentText.{moment_text}
+use Rattle.chrono_clock.specs.TimeText.{time_text}
 use Rattle.chrono_datetime.specs.Text.{duration_text}
 use Rattle.chrono_datetime.specs.Weeks.{weekday_of}
 use Rattle.chrono_instant.specs.Offsets.{moment_ahead}
@@ -26,6 +27,7 @@ use Rattle.dates_answer.specs.declared.parts.Parts.{Parts}
 unfoldable pub key_text : Key → List ℕ
 key_text keys.Date = codes "date"
 key_text keys.Moment = codes "moment"
+key_text keys.Time = codes "time"
 key_text keys.Duration = codes "duration"
 key_text keys.Days = codes "days"
 key_text keys.Weeks = codes "weeks"
@@ -63,6 +65,7 @@ reply_text (replies.Date n) = date_text n
 reply_text (replies.Weekday day) = weekday_name day
 reply_text (replies.Moment m) = moment_text (byte "T") m
 reply_text (replies.Stamp it) = zoned_debug_text (moment_ahead it.utc it.zone) it.zone
+reply_text (replies.Clock t) = time_text t
 reply_text (replies.Duration x) = duration_text x
 reply_text (replies.Number key z) = signed_decimal z
 reply_text (replies.Whether key holds) = if holds then codes "yes" else codes "no"
@@ -93,6 +96,7 @@ reply_object (replies.Date n) = codes "{\"date\":\"" ++ (date_text n ++ codes "\
 reply_object (replies.Weekday day) = codes "{\"weekday\":\"" ++ (weekday_name day ++ codes "\"}")
 reply_object (replies.Moment m) = codes "{\"moment\":\"" ++ (moment_text (byte "T") m ++ codes "\"}")
 reply_object (replies.Stamp it) = codes "{\"moment\":\"" ++ (zoned_debug_text (moment_ahead it.utc it.zone) it.zone ++ codes "\"}")
+reply_object (replies.Clock t) = codes "{\"time\":\"" ++ (time_text t ++ codes "\"}")
 reply_object (replies.Duration x) = codes "{\"duration\":\"" ++ (duration_text x ++ codes "\"}")
 reply_object (replies.Number key z) = codes "{\"" ++ (key_text key ++ (codes "\":" ++ (signed_decimal z ++ codes "}")))
 reply_object (replies.Whether key holds) = codes "{\"" ++ (key_text key ++ (codes "\":" ++ ((if holds then codes "true" else codes "false") ++ codes "}")))

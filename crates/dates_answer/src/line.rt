@@ -6,17 +6,19 @@ ghost use Rattle.dates_answer.specs.Lines.{reply_object, reply_text, day_object,
 use crate::form::OutputForm;
 use crate::names::{DayNames, OrdinalName, WeekName};
 use crate::parts::Parts;
-use chrono_datetime::{Datelike, NaiveDate, NaiveDateTime, TimeDelta, Weekday};
+use chrono_datetime::{Datelike, NaiveDate, NaiveDateTime, NaiveTime, TimeDelta, Weekday};
 use chrono_zoned::{DateTime, FixedOffset};
 use std::fmt;
 
 /// The key under which an object of JSON has an answer.
-#[derive(Clone, Copy)]
+#[derive(Clone, Copy, PartialEq, Eq)]
 pub enum Key {
     /// A day.
     Date,
     /// A date-time.
     Moment,
+    /// A time of day.
+    Time,
     /// How long it is between two date-times.
     Duration,
     /// Days.
@@ -62,6 +64,8 @@ pub enum Reply {
     Moment(NaiveDateTime),
     /// A date-time with its offset.
     Stamp(DateTime<FixedOffset>),
+    /// A time of day.
+    Clock(NaiveTime),
     /// How long it is between two date-times.
     Duration(TimeDelta),
     /// A number of what the key says.
@@ -185,6 +189,7 @@ fn write_text<W: fmt::Write>(reply: &Reply, f: &mut fmt::Formatter<W>) -> fmt::R
         Reply::Weekday(day) => f.write_str(day.name()),
         Reply::Moment(moment) => write!(f, "{moment:?}"),
         Reply::Stamp(stamp) => write!(f, "{stamp:?}"),
+        Reply::Clock(time) => write!(f, "{time}"),
         Reply::Duration(duration) => write!(f, "{duration}"),
         Reply::Number(_, number) => write!(f, "{number}"),
         Reply::Whether(_, true) => f.write_str("yes"),
@@ -209,6 +214,7 @@ fn write_object<W: fmt::Write>(reply: &Reply, f: &mut fmt::Formatter<W>) -> fmt:
         Reply::Weekday(day) => write!(f, "{{\"weekday\":\"{}\"}}", day.name()),
         Reply::Moment(moment) => write!(f, "{{\"moment\":\"{moment:?}\"}}"),
         Reply::Stamp(stamp) => write!(f, "{{\"moment\":\"{stamp:?}\"}}"),
+        Reply::Clock(time) => write!(f, "{{\"time\":\"{time}\"}}"),
         Reply::Duration(duration) => write!(f, "{{\"duration\":\"{duration}\"}}"),
         Reply::Number(key, number) => write!(f, "{{\"{}\":{number}}}", key_name(key)),
         Reply::Whether(key, yes) => write!(f, "{{\"{}\":{yes}}}", key_name(key)),
@@ -276,6 +282,7 @@ pub(crate) fn key_name(key: Key) -> &'static str
     match key {
         Key::Date => "date",
         Key::Moment => "moment",
+        Key::Time => "time",
         Key::Duration => "duration",
         Key::Days => "days",
         Key::Weeks => "weeks",
