@@ -5,10 +5,10 @@
  * A date is its day number: 1 is 1 January of year 1, 0 the day before it. Years count as in ISO 8601, so year 0 comes before
  * year 1. Compare and subtract dates as numbers.
  *
- * Every function accepts all values of its argument types. It returns CALENDAR_NONE if the date, field or text does not exist.
- * It also does so if an argument is not a date, weekday or date-time, but has to be one. A function for date-times or
- * durations then returns 0 seconds and CALENDAR_NO_NANOS. No function takes memory, keeps anything between calls, or reads
- * anything but its arguments. So any number of threads can call them.
+ * Every function accepts all values of its argument types, and a struct of any bytes. It returns CALENDAR_NONE if the date,
+ * field or text does not exist. It also does so if an argument is not a date, weekday or date-time, but has to be one. A function
+ * for date-times, times of day or durations then returns 0 seconds and CALENDAR_NO_NANOS. No function takes memory, keeps
+ * anything between calls, or reads anything but its arguments. So any number of threads can call them.
  *
  * Weekdays count from 1 for Monday to 7 for Sunday (ISO 8601). A set of weekdays is a number with one binary digit for each:
  * 1 for Monday, 2 for Tuesday, 4, 8, 16, 32, and 64 for Sunday. The highest digit counts for nothing.
@@ -43,7 +43,7 @@ extern "C" {
 /* 1 January 1970. */
 #define CALENDAR_UNIX_EPOCH 719163
 
-/* The nanos of a date-time or a duration that does not exist. Its seconds are 0. */
+/* The nanos of a date-time, a time of day or a duration that does not exist. Its seconds are 0. */
 #define CALENDAR_NO_NANOS UINT32_MAX
 
 /* A date-time without time zone. seconds counts from 1970-01-01T00:00:00, with 86,400 for every day. nanos is 0 to 999,999,999.
@@ -54,13 +54,26 @@ typedef struct {
     uint32_t nanos;
 } calendar_date_time;
 
+/* A time of day. second counts from midnight, from 0 to 86,399. nanos is as in a date-time, so 23:59:60.5 is 86,399 and
+ * 1,500,000,000. Any other pair of numbers is not a time of day. */
+typedef struct {
+    uint32_t second;
+    uint32_t nanos;
+} calendar_time;
+
 /* A duration: whole seconds, rounded down, and 0 to 999,999,999 nanoseconds more. So 1.5 seconds are 1 and 500,000,000, and
- * -1.5 seconds are -2 and 500,000,000. The opposite of a duration has -seconds and 0 if its nanos are 0. Otherwise it has
- * -seconds - 1 and 1,000,000,000 - nanos. The size is at most INT64_MAX milliseconds. Any other pair is not a duration. */
+ * -1.5 seconds are -2 and 500,000,000. calendar_duration_multiply by -1 gives the opposite. The size is at most INT64_MAX
+ * milliseconds. Any other pair is not a duration. */
 typedef struct {
     int64_t seconds;
     uint32_t nanos;
 } calendar_duration;
+
+/* ---- the version */
+
+/* Writes CALENDAR_VERSION, such as 0.1.0, over the first bytes and returns their number. Returns CALENDAR_NONE if room is too small.
+ * The version is the library's. So a program can compare it with its header. */
+int32_t calendar_version(uint8_t *text, size_t room);
 
 /* ---- dates by their names */
 
@@ -155,6 +168,9 @@ int32_t calendar_date_time_date(calendar_date_time moment);
 /* Returns the second of the day of a date-time, from 0 to 86,399. */
 int32_t calendar_date_time_second_of_day(calendar_date_time moment);
 
+/* Returns the time of day of a date-time, with its leap second. */
+calendar_time calendar_date_time_time(calendar_date_time moment);
+
 /* Returns the date-time that is `by` later, or earlier if by is negative. A move from inside a leap second counts the rest of that
  * second, or for a move back the part that has passed. It counts no other leap second. */
 calendar_date_time calendar_date_time_add(calendar_date_time moment, calendar_duration by);
@@ -173,6 +189,36 @@ int32_t calendar_write_date_time(calendar_date_time moment, uint8_t *text, size_
 /* Returns the date-time whose text these bytes are: a date's text, a T or a space, and HH:MM:SS. A point and one to nine digits
  * may follow. The second 60 is a leap second. */
 calendar_date_time calendar_read_date_time(const uint8_t *text, size_t length);
+
+/* ---- times of day */
+
+/* Writes the time of day as 23:59:60.500 and returns the number of bytes, 8 to 18. The fraction is as in a date-time. The other
+ * bytes stay as they were. If time is not a time of day, or room is too small, writes nothing and returns CALENDAR_NONE. */
+int32_t calendar_write_time(calendar_time time, uint8_t *text, size_t room);
+
+/* Returns the time of day whose text these bytes are: HH:MM:SS, after which a point and one to nine digits may follow. The second
+ * 60 is a leap second. */
+calendar_time calendar_read_time(const uint8_t *text, size_t length);
+
+/* ---- durations */
+
+/* Returns the sum of two durations. If it is too long for a duration, or an argument is not one, there is none. */
+calendar_duration calendar_duration_add(calendar_duration duration, calendar_duration by);
+
+/* Returns `times` times a duration. If it is too long for a duration, or the argument is not one, there is none. */
+calendar_duration calendar_duration_multiply(calendar_duration duration, int32_t times);
+
+/* Returns a duration divided by `parts`. There is none if parts is 0, or the argument is not a duration. The seconds, rounded
+ * down, and the nanoseconds past them are divided apart. Each quotient is rounded towards zero. So half of -1 ns is -1 ns. */
+calendar_duration calendar_duration_divide(calendar_duration duration, int32_t parts);
+
+/* Writes the duration in seconds as PT5400.5S (ISO 8601 duration) and returns the number of bytes, 3 to 30. A negative one has -
+ * before it, and zero is P0D. The fraction has the fewest digits that hold it. The other bytes stay as they were. If duration is
+ * not a duration, or room is too small, writes nothing and returns CALENDAR_NONE. */
+int32_t calendar_write_duration(calendar_duration duration, uint8_t *text, size_t room);
+
+/* Returns the duration whose text these bytes are, as calendar_write_duration writes it. The fraction has one to nine digits. */
+calendar_duration calendar_read_duration(const uint8_t *text, size_t length);
 
 /* ---- year, month and day of one date */
 

@@ -8,8 +8,8 @@
  * It needs no other library.
  *
  * Every function accepts all values of its argument types. So a struct with any bytes is harmless. No function takes memory,
- * keeps anything between calls, or reads anything but its arguments. So any number of threads can call them. No pointer may be
- * null, and no two pointers of a call may overlap unless both are const.
+ * keeps anything between calls, or reads anything but its arguments. So any number of threads can call them. A call takes less
+ * than 64 KB of stack. No pointer may be null, and no two pointers of a call may overlap unless both are const.
  */
 #ifndef CALENDAR_LAYERS_H
 #define CALENDAR_LAYERS_H
@@ -23,8 +23,8 @@ extern "C" {
 /* ---- versions */
 
 /* Writes CALENDAR_VERSION, such as 0.1.0, over the first bytes and returns their number. Returns CALENDAR_NONE if room is too small.
- * The version is the library's. So a program can compare it with its header. */
-int32_t calendar_version(uint8_t *text, size_t room);
+ * The version is this library's. calendar_version of calendar.h tells that of the other. */
+int32_t calendar_layers_version(uint8_t *text, size_t room);
 
 /* ---- what is wrong with a text */
 
@@ -124,6 +124,10 @@ enum { CALENDAR_SCHEDULE_QUESTION_MARKS = 15 };
 /* Returns whether a text is a schedule of a dialect. If it is none, fault says what is wrong first, by the codes of schedules. Its field is
  * one of theirs, 6 for seconds, or 7 for years. If there is no such dialect, fault stays as it was. */
 bool calendar_timed_schedule_check(const uint8_t *text, size_t length, uint32_t dialect, calendar_fault *fault);
+
+/* Writes what a fault of such a schedule says, such as `second, byte 2: a number that is out of range`, and returns the number of bytes,
+ * at most 99. It knows CALENDAR_SCHEDULE_QUESTION_MARKS and the fields 6 and 7, and else it is as calendar_schedule_fault_text. */
+int32_t calendar_timed_schedule_fault_text(const calendar_fault *fault, uint8_t *text, size_t room);
 
 /* Returns the first date-time after start at which the schedule is due, at the beginning of a second. */
 calendar_date_time calendar_timed_schedule_next(const uint8_t *text, size_t length, uint32_t dialect, calendar_date_time start);
@@ -243,13 +247,28 @@ enum {
 /* Returns whether holidays are those of a calendar with a weekend. If they are not, fault says which is the first wrong one. */
 bool calendar_holidays_check(uint8_t weekend, const int32_t *holidays, size_t count, calendar_fault *fault);
 
+/* Writes what a fault of holidays says, such as `holiday 1 is on the weekend`, and returns the number of bytes, at most 63. If fault has
+ * no such code, or room is too small, writes nothing and returns CALENDAR_NONE. */
+int32_t calendar_holidays_fault_text(const calendar_fault *fault, uint8_t *text, size_t room);
+
 /* Calendars whose holidays are known: the federal ones of the United States, those of the euro's payment system TARGET, and the bank
- * holidays of England and Wales. */
-enum { CALENDAR_US_FEDERAL = 0, CALENDAR_TARGET, CALENDAR_ENGLAND_AND_WALES };
+ * holidays of England and Wales. Then the days on which Fedwire and the New York Stock Exchange are closed, the holidays that all states
+ * of Germany have, and those of France. */
+enum {
+    CALENDAR_US_FEDERAL = 0,
+    CALENDAR_TARGET,
+    CALENDAR_ENGLAND_AND_WALES,
+    CALENDAR_FEDWIRE,
+    CALENDAR_NYSE,
+    CALENDAR_GERMANY,
+    CALENDAR_FRANCE
+};
 
 /* Writes the holidays of a known calendar for some years, but for those on the weekend, in order, and returns how many there are. The
  * other elements stay as they were. If they are more than room or CALENDAR_MOST_HOLIDAYS, or there is no such calendar or year,
- * writes nothing and returns CALENDAR_NONE. New Year's Day can be kept in the year before, so ask for one year more. */
+ * writes nothing and returns CALENDAR_NONE. New Year's Day can be kept in the year before, so ask for one year more.
+ * A calendar has none before its rules begin: 1971 for the United States and Fedwire, 1978 for England and Wales, 1982 for France.
+ * Those of Germany begin in 1995, those of the exchange in 1998, and those of TARGET in 1999. */
 int32_t calendar_holidays_of(uint32_t which, int32_t first_year, int32_t last_year, uint8_t weekend, int32_t *out, size_t room);
 
 /* Returns Easter Sunday of a year, as the Gregorian churches have it. Returns CALENDAR_NONE if the calendar has no such year. */
@@ -303,6 +322,10 @@ enum {
 
 /* Returns whether bytes are a pattern. If they are none, fault says which specifier is wrong first. */
 bool calendar_pattern_check(const uint8_t *pattern, size_t length, calendar_fault *fault);
+
+/* Writes what a fault of a pattern, or of a text that a pattern reads, says, such as `byte 3: the field has no such value`. Returns the
+ * number of bytes, at most 73. If fault has no such code, or room is too small, writes nothing and returns CALENDAR_NONE. */
+int32_t calendar_pattern_fault_text(const calendar_fault *fault, uint8_t *text, size_t room);
 
 /* Writes a date by a pattern, and returns the number of bytes, at most 1,000. If the pattern is wrong or has a specifier of the time or
  * of an offset, if there is no date, or if the text is longer than room or 1,000 bytes, writes nothing and returns CALENDAR_NONE. */

@@ -16,6 +16,13 @@ static void print_date(int32_t date)
     printf("%.*s\n", (int)length, (const char *)text);
 }
 
+/* == texts read */
+static void texts_read(void)
+{
+    print_date(calendar_read_date(BYTES("2024-02-29"))); /* = 2024-02-29 */
+    printf("%d\n", calendar_read_date(BYTES("2023-02-29")) == CALENDAR_NONE); /* = 1 */
+}
+
 /* == patterns */
 static void patterns(void)
 {
@@ -66,7 +73,7 @@ static void recurrence_rules(void)
     print_date(calendar_rule_next(BYTES("FREQ=MONTHLY;BYDAY=-1FR"), start, start)); /* = 2024-01-26 */
 }
 
-/* == calendars in a zone */
+/* == rules and calendars in a zone */
 static void calendars_in_a_zone(void)
 {
     const char *text = "DTSTART;TZID=Europe/Berlin:20240330T023000\nRRULE:FREQ=DAILY\n", *berlin = "CET-1CEST,M3.5.0,M10.5.0/3";
@@ -125,6 +132,7 @@ static void zones(void)
 
 int main(void)
 {
+    texts_read();
     patterns();
     schedules();
     schedules_in_a_zone();

@@ -31,10 +31,17 @@ static bool same_length(calendar_duration length, int64_t seconds, uint32_t nano
     return length.seconds == seconds && length.nanos == nanos;
 }
 
+static bool same_time(calendar_time time, uint32_t second, uint32_t nanos)
+{
+    return time.second == second && time.nanos == nanos;
+}
+
 #define IS_MOMENT(call, seconds, nanos) count(same_moment(call, seconds, nanos), __LINE__, #call)
 #define IS_LENGTH(call, seconds, nanos) count(same_length(call, seconds, nanos), __LINE__, #call)
+#define IS_TIME(call, second, nanos) count(same_time(call, second, nanos), __LINE__, #call)
 #define NO_MOMENT(call) IS_MOMENT(call, 0, CALENDAR_NO_NANOS)
 #define NO_LENGTH(call) IS_LENGTH(call, 0, CALENDAR_NO_NANOS)
+#define NO_TIME(call) IS_TIME(call, 0, CALENDAR_NO_NANOS)
 
 static calendar_date_time moment(int64_t seconds, uint32_t nanos)
 {
@@ -48,6 +55,12 @@ static calendar_duration length(int64_t seconds, uint32_t nanos)
     return made;
 }
 
+static calendar_time time_of_day(uint32_t second, uint32_t nanos)
+{
+    calendar_time made = {second, nanos};
+    return made;
+}
+
 static int32_t read_date(const char *text)
 {
     return calendar_read_date((const uint8_t *)text, strlen(text));
@@ -56,6 +69,16 @@ static int32_t read_date(const char *text)
 static calendar_date_time read_date_time(const char *text)
 {
     return calendar_read_date_time((const uint8_t *)text, strlen(text));
+}
+
+static calendar_time read_time(const char *text)
+{
+    return calendar_read_time((const uint8_t *)text, strlen(text));
+}
+
+static calendar_duration read_duration(const char *text)
+{
+    return calendar_read_duration((const uint8_t *)text, strlen(text));
 }
 
 static void calendar_names(void)
@@ -305,6 +328,22 @@ static bool holds(const uint8_t room[ROOM], const char *text)
     return memcmp(room, text, size) == 0;
 }
 
+/* The library says the version of its header, and writes no byte more. */
+static void version_of_library(void)
+{
+    uint8_t room[ROOM];
+    int32_t size = (int32_t)strlen(CALENDAR_VERSION);
+    memset(room, UNWRITTEN, ROOM);
+    IS(calendar_version(room, 0), NONE);
+    IS(calendar_version(room, (size_t)size - 1), NONE);
+    IS(holds(room, ""), true);
+    IS(calendar_version(room, (size_t)size), size);
+    IS(holds(room, CALENDAR_VERSION), true);
+    memset(room, UNWRITTEN, ROOM);
+    IS(calendar_version(room, ROOM), size);
+    IS(holds(room, CALENDAR_VERSION), true);
+}
+
 /* A date is written in so much room as this text, or in more, with the bytes behind it left as they were; in less not at all. */
 static void writes_date(int line, int32_t date, const char *text)
 {
@@ -393,6 +432,24 @@ static void parts_of_date_times(void)
     IS(calendar_date_time_second_of_day(moment(INT64_MIN, UINT32_MAX)), NONE);
 }
 
+static void times_of_date_times(void)
+{
+    IS_TIME(calendar_date_time_time(moment(0, 0)), 0, 0);
+    IS_TIME(calendar_date_time_time(moment(-1, 999999999)), 86399, 999999999);
+    IS_TIME(calendar_date_time_time(moment(3661, 1)), 3661, 1);
+    IS_TIME(calendar_date_time_time(moment(1483228799, 1000000000)), 86399, 1000000000);
+    IS_TIME(calendar_date_time_time(moment(1483228799, 1999999999)), 86399, 1999999999);
+    IS_TIME(calendar_date_time_time(moment(-8334601228800, 0)), 0, 0);
+    IS_TIME(calendar_date_time_time(moment(8210266876799, 1999999999)), 86399, 1999999999);
+    NO_TIME(calendar_date_time_time(moment(-8334601228801, 0)));
+    NO_TIME(calendar_date_time_time(moment(8210266876800, 0)));
+    NO_TIME(calendar_date_time_time(moment(60, 1000000000)));
+    NO_TIME(calendar_date_time_time(moment(59, 2000000000)));
+    NO_TIME(calendar_date_time_time(moment(0, CALENDAR_NO_NANOS)));
+    NO_TIME(calendar_date_time_time(moment(INT64_MIN, 0)));
+    NO_TIME(calendar_date_time_time(moment(INT64_MAX, UINT32_MAX)));
+}
+
 static void moves_of_date_times(void)
 {
     const int64_t last = 1483228799; /* 2016-12-31T23:59:59, which a leap second followed */
@@ -475,6 +532,161 @@ static void near_misses_of_date_times(void)
     };
     for (size_t i = 0; i < sizeof texts / sizeof *texts; i++) {
         count(same_moment(read_date_time(texts[i]), 0, CALENDAR_NO_NANOS), __LINE__, texts[i]);
+    }
+}
+
+/* A time of day is written in so much room as this text, or in more, and not in less. */
+static void writes_time(int line, calendar_time written, const char *text)
+{
+    uint8_t room[ROOM];
+    int32_t size = (int32_t)strlen(text);
+    memset(room, UNWRITTEN, ROOM);
+    count(calendar_write_time(written, room, (size_t)size - 1) == NONE && holds(room, ""), line, "calendar_write_time: no room");
+    count(calendar_write_time(written, room, (size_t)size) == size && holds(room, text), line, text);
+    memset(room, UNWRITTEN, ROOM);
+    count(calendar_write_time(written, room, ROOM) == size && holds(room, text), line, text);
+    count(same_time(read_time(text), written.second, written.nanos), line, "calendar_read_time");
+}
+
+static void texts_of_times(void)
+{
+    uint8_t room[ROOM];
+    memset(room, UNWRITTEN, ROOM);
+    writes_time(__LINE__, time_of_day(0, 0), "00:00:00");
+    writes_time(__LINE__, time_of_day(86164, 500000000), "23:56:04.500");
+    writes_time(__LINE__, time_of_day(86399, 999999999), "23:59:59.999999999");
+    writes_time(__LINE__, time_of_day(86399, 1000000000), "23:59:60");
+    writes_time(__LINE__, time_of_day(86399, 1999999999), "23:59:60.999999999");
+    writes_time(__LINE__, time_of_day(59, 1500000000), "00:00:60.500");
+    writes_time(__LINE__, time_of_day(3661, 1000), "01:01:01.000001");
+    IS_TIME(read_time("12:00:00.25"), 43200, 250000000);
+    IS_TIME(read_time("12:00:00.000000000"), 43200, 0);
+    IS(calendar_write_time(time_of_day(0, 0), room, 0), NONE);
+    IS(calendar_write_time(time_of_day(86400, 0), room, ROOM), NONE);
+    IS(calendar_write_time(time_of_day(60, 1000000000), room, ROOM), NONE);
+    IS(calendar_write_time(time_of_day(59, 2000000000), room, ROOM), NONE);
+    IS(calendar_write_time(time_of_day(0, CALENDAR_NO_NANOS), room, ROOM), NONE);
+    IS(calendar_write_time(time_of_day(UINT32_MAX, UINT32_MAX), room, ROOM), NONE);
+    IS(holds(room, ""), true);
+    NO_TIME(calendar_read_time((const uint8_t *)"00:00:00\0", 9));
+}
+
+static void near_misses_of_times(void)
+{
+    static const char *const texts[] = {
+        "", "12", "12:00", "12:00:0", "1:00:00", "24:00:00", "12:60:00", "12:00:61", "12:00:00.", "12:00:00,5", " 12:00:00",
+        "12:00:00 ", "12:00:00Z", "12:00:00.1234567890", "12-00-00", "-1:00:00", "T12:00:00", "120000", "12:00:00.5x", "1\xb2:00:00",
+    };
+    for (size_t i = 0; i < sizeof texts / sizeof *texts; i++) {
+        count(same_time(read_time(texts[i]), 0, CALENDAR_NO_NANOS), __LINE__, texts[i]);
+    }
+}
+
+/* The longest duration, and the least: 9,223,372,036,854,775,807 milliseconds, and as many before zero. */
+#define LONGEST length(9223372036854775, 807000000)
+#define LEAST length(-9223372036854776, 193000000)
+
+static void sums_of_durations(void)
+{
+    IS_LENGTH(calendar_duration_add(length(0, 0), length(0, 0)), 0, 0);
+    IS_LENGTH(calendar_duration_add(length(1, 600000000), length(2, 500000000)), 4, 100000000);
+    IS_LENGTH(calendar_duration_add(length(1, 0), length(-1, 999999999)), 0, 999999999);
+    IS_LENGTH(calendar_duration_add(length(-2, 500000000), length(-2, 500000000)), -3, 0);
+    IS_LENGTH(calendar_duration_add(length(-2, 500000000), length(1, 500000000)), 0, 0);
+    IS_LENGTH(calendar_duration_add(LONGEST, LEAST), 0, 0);
+    IS_LENGTH(calendar_duration_add(LONGEST, length(-1, 999999999)), 9223372036854775, 806999999);
+    NO_LENGTH(calendar_duration_add(LONGEST, length(0, 1)));
+    NO_LENGTH(calendar_duration_add(LEAST, length(-1, 999999999)));
+    NO_LENGTH(calendar_duration_add(LONGEST, LONGEST));
+    NO_LENGTH(calendar_duration_add(length(9223372036854775, 807000001), length(-1, 0)));
+    NO_LENGTH(calendar_duration_add(length(0, 1000000000), length(0, 0)));
+    NO_LENGTH(calendar_duration_add(length(0, 0), length(0, CALENDAR_NO_NANOS)));
+    NO_LENGTH(calendar_duration_add(length(INT64_MIN, 0), length(INT64_MAX, 0)));
+}
+
+static void multiples_of_durations(void)
+{
+    IS_LENGTH(calendar_duration_multiply(length(1, 500000000), 3), 4, 500000000);
+    IS_LENGTH(calendar_duration_multiply(length(1, 500000000), -3), -5, 500000000);
+    IS_LENGTH(calendar_duration_multiply(length(-2, 500000000), -1), 1, 500000000);
+    IS_LENGTH(calendar_duration_multiply(length(1, 500000000), 0), 0, 0);
+    IS_LENGTH(calendar_duration_multiply(LONGEST, 0), 0, 0);
+    IS_LENGTH(calendar_duration_multiply(LONGEST, -1), -9223372036854776, 193000000);
+    IS_LENGTH(calendar_duration_multiply(length(0, 1), INT32_MIN), -3, 852516352);
+    IS_LENGTH(calendar_duration_multiply(length(0, 999999999), INT32_MAX), 2147483644, 852516353);
+    NO_LENGTH(calendar_duration_multiply(LONGEST, 2));
+    NO_LENGTH(calendar_duration_multiply(LEAST, INT32_MIN));
+    NO_LENGTH(calendar_duration_multiply(length(0, CALENDAR_NO_NANOS), 0));
+    NO_LENGTH(calendar_duration_multiply(length(INT64_MAX, 0), 0));
+}
+
+static void parts_of_durations(void)
+{
+    IS_LENGTH(calendar_duration_divide(length(5400, 0), 3), 1800, 0);
+    IS_LENGTH(calendar_duration_divide(length(1, 0), 3), 0, 333333333);
+    IS_LENGTH(calendar_duration_divide(length(1, 0), -3), -1, 666666667);
+    IS_LENGTH(calendar_duration_divide(length(-4, 0), 3), -2, 666666667);
+    IS_LENGTH(calendar_duration_divide(length(-1, 999999999), 2), -1, 999999999);
+    IS_LENGTH(calendar_duration_divide(length(0, 1), 2), 0, 0);
+    IS_LENGTH(calendar_duration_divide(LONGEST, 1), 9223372036854775, 807000000);
+    IS_LENGTH(calendar_duration_divide(LONGEST, -1), -9223372036854776, 193000000);
+    IS_LENGTH(calendar_duration_divide(LEAST, -1), 9223372036854775, 807000000);
+    IS_LENGTH(calendar_duration_divide(length(0, 1), INT32_MIN), 0, 0);
+    NO_LENGTH(calendar_duration_divide(length(1, 0), 0));
+    NO_LENGTH(calendar_duration_divide(length(0, 0), 0));
+    NO_LENGTH(calendar_duration_divide(length(0, CALENDAR_NO_NANOS), 1));
+    NO_LENGTH(calendar_duration_divide(length(INT64_MIN, 0), -1));
+}
+
+/* A duration is written in so much room as this text, or in more, and not in less. */
+static void writes_duration(int line, calendar_duration written, const char *text)
+{
+    uint8_t room[ROOM];
+    int32_t size = (int32_t)strlen(text);
+    memset(room, UNWRITTEN, ROOM);
+    count(calendar_write_duration(written, room, (size_t)size - 1) == NONE && holds(room, ""), line,
+          "calendar_write_duration: no room");
+    count(calendar_write_duration(written, room, (size_t)size) == size && holds(room, text), line, text);
+    memset(room, UNWRITTEN, ROOM);
+    count(calendar_write_duration(written, room, ROOM) == size && holds(room, text), line, text);
+    count(same_length(read_duration(text), written.seconds, written.nanos), line, "calendar_read_duration");
+}
+
+static void texts_of_durations(void)
+{
+    uint8_t room[ROOM];
+    memset(room, UNWRITTEN, ROOM);
+    writes_duration(__LINE__, length(0, 0), "P0D");
+    writes_duration(__LINE__, length(5400, 0), "PT5400S");
+    writes_duration(__LINE__, length(-86400, 0), "-PT86400S");
+    writes_duration(__LINE__, length(0, 42000000), "PT0.042S");
+    writes_duration(__LINE__, length(-1, 500000000), "-PT0.5S");
+    writes_duration(__LINE__, length(-2, 500000000), "-PT1.5S");
+    writes_duration(__LINE__, length(0, 1), "PT0.000000001S");
+    writes_duration(__LINE__, length(-1, 999999999), "-PT0.000000001S");
+    writes_duration(__LINE__, LONGEST, "PT9223372036854775.807S");
+    writes_duration(__LINE__, LEAST, "-PT9223372036854775.807S");
+    writes_duration(__LINE__, length(-9223372036854776, 193000001), "-PT9223372036854775.806999999S");
+    IS_LENGTH(read_duration("PT1.50S"), 1, 500000000);
+    IS(calendar_write_duration(length(0, 0), room, 0), NONE);
+    IS(calendar_write_duration(length(0, 1000000000), room, ROOM), NONE);
+    IS(calendar_write_duration(length(0, CALENDAR_NO_NANOS), room, ROOM), NONE);
+    IS(calendar_write_duration(length(9223372036854775, 807000001), room, ROOM), NONE);
+    IS(calendar_write_duration(length(-9223372036854776, 192999999), room, ROOM), NONE);
+    IS(calendar_write_duration(length(INT64_MIN, UINT32_MAX), room, ROOM), NONE);
+    IS(holds(room, ""), true);
+    NO_LENGTH(calendar_read_duration((const uint8_t *)"PT1S\0", 5));
+}
+
+static void near_misses_of_durations(void)
+{
+    static const char *const texts[] = {
+        "", "P", "PT", "PTS", "PT0S", "-P0D", "-PT0S", "PT0.0S", "P1D", "PT1H", "PT1M", "PT1", "1S", "T1S", "pt1s", "PT01S", "PT1.S",
+        "PT.5S", "PT1,5S", "PT1.1234567890S", "+PT1S", "--PT1S", " PT1S", "PT1S ", "PT-1S", "PT9223372036854775.807000001S",
+        "-PT9223372036854775.808S", "PT99999999999999999999S",
+    };
+    for (size_t i = 0; i < sizeof texts / sizeof *texts; i++) {
+        count(same_length(read_duration(texts[i]), 0, CALENDAR_NO_NANOS), __LINE__, texts[i]);
     }
 }
 
@@ -566,14 +778,23 @@ int main(void)
     whole_years();
     weeks_and_sets();
     sets_of_one();
+    version_of_library();
     texts_of_dates();
     near_misses_of_dates();
     new_date_times();
     parts_of_date_times();
+    times_of_date_times();
     moves_of_date_times();
     distances_of_date_times();
     texts_of_date_times();
     near_misses_of_date_times();
+    texts_of_times();
+    near_misses_of_times();
+    sums_of_durations();
+    multiples_of_durations();
+    parts_of_durations();
+    texts_of_durations();
+    near_misses_of_durations();
     columns();
     columns_in_place();
     columns_of_texts();

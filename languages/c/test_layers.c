@@ -95,15 +95,78 @@ static void sentences_of_schedules(void)
     calendar_fault fault = {CALENDAR_SCHEDULE_EMPTY, 1, 7, 7};
     uint8_t text[36];
     IS(says(CALENDAR_SCHEDULE_OUT_OF_RANGE, 2, 2, "hour, byte 2: a number that is out of range"), true);
-    IS(says(CALENDAR_SCHEDULE_TOO_FEW_FIELDS, 0, 9, "byte 9: fewer than five fields"), true);
+    IS(says(CALENDAR_SCHEDULE_TOO_FEW_FIELDS, 0, 9, "byte 9: too few fields"), true);
     IS(says(CALENDAR_SCHEDULE_RANGE_TURNED_ROUND, 3, SIZE_MAX,
             "day of the month, byte 18446744073709551615: a range whose end is below its beginning"), true);
     IS(calendar_schedule_fault_text(&fault, text, 36), 36);
     IS(calendar_schedule_fault_text(&fault, text, 35), CALENDAR_NONE);
     fault.code = 0;
     IS(calendar_schedule_fault_text(&fault, text, sizeof text), CALENDAR_NONE);
-    fault.code = 15;
+    fault.code = CALENDAR_SCHEDULE_QUESTION_MARKS;
     IS(calendar_schedule_fault_text(&fault, text, sizeof text), CALENDAR_NONE);
+    /* seconds and years, which have no names there */
+    IS(says(CALENDAR_SCHEDULE_OUT_OF_RANGE, 6, 0, "byte 0: a number that is out of range"), true);
+    IS(says(CALENDAR_SCHEDULE_OUT_OF_RANGE, 7, 12, "byte 12: a number that is out of range"), true);
+}
+
+typedef int32_t Sayer(const calendar_fault *fault, uint8_t *text, size_t room);
+
+/* Whether a call writes a sentence where there is just room for it, and writes nothing where there is less. */
+static bool is_written(Sayer *say, uint32_t code, uint32_t field, size_t byte, const char *sentence)
+{
+    calendar_fault fault = {code, field, byte, byte};
+    uint8_t text[99] = {0};
+    size_t length = strlen(sentence);
+    return say(&fault, text, length - 1) == CALENDAR_NONE && text[0] == 0 && say(&fault, text, length) == (int32_t)length
+        && memcmp(text, sentence, length) == 0;
+}
+
+static bool is_unknown(Sayer *say, uint32_t code)
+{
+    calendar_fault fault = {code, 0, 0, 0};
+    uint8_t text[99];
+    return say(&fault, text, sizeof text) == CALENDAR_NONE;
+}
+
+static void sentences_of_timed_schedules(void)
+{
+    Sayer *say = calendar_timed_schedule_fault_text;
+    IS(is_written(say, CALENDAR_SCHEDULE_OUT_OF_RANGE, 6, 2, "second, byte 2: a number that is out of range"), true);
+    IS(is_written(say, CALENDAR_SCHEDULE_OUT_OF_RANGE, 7, 12, "year, byte 12: a number that is out of range"), true);
+    IS(is_written(say, CALENDAR_SCHEDULE_OUT_OF_RANGE, 2, 4, "hour, byte 4: a number that is out of range"), true);
+    IS(is_written(say, CALENDAR_SCHEDULE_TOO_FEW_FIELDS, 0, 9, "byte 9: too few fields"), true);
+    IS(is_written(say, CALENDAR_SCHEDULE_TOO_FEW_FIELDS, 8, 9, "byte 9: too few fields"), true);
+    IS(is_written(say, CALENDAR_SCHEDULE_QUESTION_MARKS, 5, 10, "weekday, byte 10: not just one field of days is ?"), true);
+    IS(is_written(say, CALENDAR_SCHEDULE_RANGE_TURNED_ROUND, 3, SIZE_MAX,
+                  "day of the month, byte 18446744073709551615: a range whose end is below its beginning"), true);
+    IS(is_unknown(say, 0), true);
+    IS(is_unknown(say, CALENDAR_SCHEDULE_QUESTION_MARKS + 1), true);
+}
+
+static void sentences_of_holidays(void)
+{
+    Sayer *say = calendar_holidays_fault_text;
+    IS(is_written(say, CALENDAR_HOLIDAYS_TOO_MANY, 0, CALENDAR_MOST_HOLIDAYS, "holiday 1000 is one too many"), true);
+    IS(is_written(say, CALENDAR_HOLIDAYS_NOT_A_DATE, 0, 0, "holiday 0 is no date"), true);
+    IS(is_written(say, CALENDAR_HOLIDAYS_NOT_RISING, 0, SIZE_MAX, "holiday 18446744073709551615 does not come after the one before"), true);
+    IS(is_written(say, CALENDAR_HOLIDAYS_ON_WEEKEND, 0, 1, "holiday 1 is on the weekend"), true);
+    IS(is_unknown(say, 0), true);
+    IS(is_unknown(say, CALENDAR_HOLIDAYS_ON_WEEKEND + 1), true);
+}
+
+static void sentences_of_patterns(void)
+{
+    Sayer *say = calendar_pattern_fault_text;
+    IS(is_written(say, CALENDAR_PATTERN_UNKNOWN, 0, 3, "byte 3: an unknown specifier"), true);
+    IS(is_written(say, CALENDAR_PATTERN_CUT, 0, 3, "byte 3: the bytes end within a specifier"), true);
+    IS(is_written(say, CALENDAR_TEXT_TOO_SHORT, 0, 0, "byte 0: the text ends too soon"), true);
+    IS(is_written(say, CALENDAR_TEXT_TOO_LONG, 0, SIZE_MAX, "byte 18446744073709551615: the text goes on behind the end of the pattern"), true);
+    IS(is_written(say, CALENDAR_TEXT_INVALID, 0, 2, "byte 2: the pattern has no such text there"), true);
+    IS(is_written(say, CALENDAR_TEXT_OUT_OF_RANGE, 0, 3, "byte 3: the field has no such value"), true);
+    IS(is_written(say, CALENDAR_TEXT_IMPOSSIBLE, 0, 0, "byte 0: no value fits all fields"), true);
+    IS(is_written(say, CALENDAR_TEXT_NOT_ENOUGH, 0, 0, "byte 0: the fields do not suffice for the value"), true);
+    IS(is_unknown(say, 0), true);
+    IS(is_unknown(say, CALENDAR_TEXT_NOT_ENOUGH + 1), true);
 }
 
 static void times_of_schedules(void)
@@ -313,8 +376,25 @@ static void holidays(void)
     IS(out[0], 738155);
     IS(calendar_holidays_of(CALENDAR_ENGLAND_AND_WALES, 2024, 2024, WEEKEND, out, 20), 8);
     IS(calendar_holidays_of(CALENDAR_TARGET, 2024, 2023, WEEKEND, out, 20), 0);
+    /* before the rules begin, and in their first years */
+    IS(calendar_holidays_of(CALENDAR_US_FEDERAL, -262143, 1970, WEEKEND, out, 20), 0);
+    IS(calendar_holidays_of(CALENDAR_US_FEDERAL, 1971, 1971, WEEKEND, out, 20), 9);
+    IS(calendar_holidays_of(CALENDAR_TARGET, -262143, 1998, WEEKEND, out, 20), 0);
+    IS(calendar_holidays_of(CALENDAR_TARGET, 1999, 1999, WEEKEND, out, 20), 2);
+    IS(calendar_holidays_of(CALENDAR_ENGLAND_AND_WALES, -262143, 1977, WEEKEND, out, 20), 0);
+    IS(calendar_holidays_of(CALENDAR_ENGLAND_AND_WALES, 1978, 1978, WEEKEND, out, 20), 8);
     IS(calendar_holidays_of(CALENDAR_TARGET, 1999, 2300, WEEKEND, many, CALENDAR_MOST_HOLIDAYS + 1), CALENDAR_NONE);
-    IS(calendar_holidays_of(3, 2024, 2024, WEEKEND, out, 20), CALENDAR_NONE);
+    IS(calendar_holidays_of(7, 2024, 2024, WEEKEND, out, 20), CALENDAR_NONE);
+    /* Christmas Day of 2021 was a Saturday: Fedwire was open on Friday, and the exchange closed */
+    IS(calendar_holidays_of(CALENDAR_FEDWIRE, 2021, 2021, WEEKEND, out, 20), 9);
+    IS(out[8], 738119);
+    IS(calendar_holidays_of(CALENDAR_NYSE, 2021, 2021, WEEKEND, out, 20), 9);
+    IS(out[8], 738148);
+    /* 31 October 2017 in Germany, and Ascension Day of 2024 in France */
+    IS(calendar_holidays_of(CALENDAR_GERMANY, 2017, 2017, WEEKEND, out, 20), 9);
+    IS(out[6], 736633);
+    IS(calendar_holidays_of(CALENDAR_FRANCE, 2024, 2024, WEEKEND, out, 20), 10);
+    IS(out[4], 739015);
     IS(calendar_holidays_of(CALENDAR_TARGET, INT32_MAX, 2024, WEEKEND, out, 20), CALENDAR_NONE);
     IS(calendar_holidays_of(CALENDAR_TARGET, 2024, INT32_MIN, WEEKEND, out, 20), CALENDAR_NONE);
     IS(calendar_holidays_of(CALENDAR_TARGET, INT32_MIN, 2024, WEEKEND, out, 20), CALENDAR_NONE);
@@ -590,8 +670,8 @@ typedef struct {
 
 static const Code codes_of_schedules[] = {
     {CALENDAR_SCHEDULE_EMPTY, "byte 0: nothing stands there", ""},
-    {CALENDAR_SCHEDULE_TOO_FEW_FIELDS, "byte 0: fewer than five fields", "*"},
-    {CALENDAR_SCHEDULE_TOO_MANY_FIELDS, "byte 0: more than five fields", "* * * * * *"},
+    {CALENDAR_SCHEDULE_TOO_FEW_FIELDS, "byte 0: too few fields", "*"},
+    {CALENDAR_SCHEDULE_TOO_MANY_FIELDS, "byte 0: too many fields", "* * * * * *"},
     {CALENDAR_SCHEDULE_UNKNOWN_NICKNAME, "byte 0: an unknown nickname", "@nightly"},
     {CALENDAR_SCHEDULE_INTERVAL, "byte 0: an interval, which is no schedule", "@every 1h"},
     {CALENDAR_SCHEDULE_REBOOT, "byte 0: the start of a machine, which is no schedule", "@reboot"},
@@ -686,7 +766,6 @@ static const Code codes_of_recurrences[] = {
     {CALENDAR_RECURRENCE_NO_ZONE, "the bytes hold no zone", NULL},
 };
 
-typedef int32_t Sayer(const calendar_fault *fault, uint8_t *text, size_t room);
 typedef bool Checker(const char *text, calendar_fault *fault);
 
 static bool is_schedule(const char *text, calendar_fault *fault)
@@ -861,9 +940,9 @@ static void versions(void)
 {
     uint8_t text[16];
     size_t length = strlen(CALENDAR_VERSION);
-    IS(calendar_version(text, sizeof text), (int32_t)length);
+    IS(calendar_layers_version(text, sizeof text), (int32_t)length);
     IS(memcmp(text, CALENDAR_VERSION, length), 0);
-    IS(calendar_version(text, length - 1), CALENDAR_NONE);
+    IS(calendar_layers_version(text, length - 1), CALENDAR_NONE);
 }
 
 int main(void)
@@ -871,6 +950,9 @@ int main(void)
     versions();
     texts_of_schedules();
     sentences_of_schedules();
+    sentences_of_timed_schedules();
+    sentences_of_holidays();
+    sentences_of_patterns();
     times_of_schedules();
     texts_of_rules();
     days_of_rules();

@@ -461,9 +461,12 @@ export type DayCount = "actualActualIsda" | "actual360" | "actual365Fixed" | "th
 export class BusinessCalendar {
   /** The weekend has weekdays from 1 for Monday to 7, and is [6, 7] if left out. RangeError above 1,000 holidays. */
   constructor(options?: { weekend?: number[]; holidays?: Iterable<DateLike> });
-  /** The calendar with the known holidays of some years; New Year's Day can be kept in the year before. */
+  /**
+   * The calendar with the known holidays of some years; New Year's Day can be kept in the year before. There are none before the rules
+   * begin: in 1971 (usFederal, fedwire), 1978 (englandAndWales), 1982 (france), 1995 (germany), 1998 (nyse) and 1999 (target).
+   */
   static of(
-    name: "usFederal" | "target" | "englandAndWales",
+    name: "usFederal" | "target" | "englandAndWales" | "fedwire" | "nyse" | "germany" | "france",
     firstYear: number,
     lastYear: number,
     options?: { weekend?: number[] },

@@ -58,7 +58,16 @@ const RULE_EXAMPLES = {
 };
 
 /** Calendars whose holidays are known. */
-const KNOWN = { "": "my own list", usFederal: "the United States", target: "the euro (TARGET)", englandAndWales: "England and Wales" };
+const KNOWN = {
+  "": "my own list",
+  usFederal: "the United States",
+  target: "the euro (TARGET)",
+  englandAndWales: "England and Wales",
+  fedwire: "Fedwire",
+  nyse: "the New York Stock Exchange",
+  germany: "Germany",
+  france: "France",
+};
 
 /** Saturday and Sunday. */
 const USUAL_WEEKEND = [6, 7];

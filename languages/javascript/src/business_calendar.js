@@ -1,6 +1,6 @@
 /** Open days, and the parts of years that day counts give. */
 
-import { addOpenDays, areHolidays, easterOf, holidaysOf, isOpenDay, MOST_HOLIDAYS, openDaysBetween, rolled, yearPart } from "./layers.js";
+import { addOpenDays, easterOf, faultOfHolidays, holidaysOf, isOpenDay, MOST_HOLIDAYS, openDaysBetween, rolled, yearPart } from "./layers.js";
 import { NONE } from "./library.js";
 import { clipped, integer, isInt32, listOf, optionsOf } from "./numbers.js";
 import { PlainDate, setOf } from "./plain_date.js";
@@ -11,7 +11,7 @@ export const ROLLS = [
 ];
 
 /** The calendars whose holidays are known, in the order of the library. */
-const KNOWN = ["usFederal", "target", "englandAndWales"];
+const KNOWN = ["usFederal", "target", "englandAndWales", "fedwire", "nyse", "germany", "france"];
 
 /** The day counts, in the order of the library (ISDA 2006, section 4.16). */
 const DAY_COUNTS = ["actualActualIsda", "actual360", "actual365Fixed", "thirty360", "thirtyE360"];
@@ -60,14 +60,16 @@ export class BusinessCalendar {
     this.#weekend = setOf(weekend);
     this.#holidays = Int32Array.from(new Set(dates.map((it) => it.dayNumber))).sort();
     const shown = { weekend: this.#weekend, holidays: this.#holidays.subarray(0, MOST_HOLIDAYS + 1) };
-    if (!areHolidays(shown)) {
-      throw new RangeError(`${this.#holidays.length} holidays: there are at most ${MOST_HOLIDAYS}`);
+    const fault = faultOfHolidays(shown);
+    if (fault !== undefined) {
+      throw new RangeError(fault);
     }
   }
 
   /**
-   * The calendar with the holidays of some years that a name stands for: `usFederal`, `target` (the euro's payment system) or
-   * `englandAndWales`. New Year's Day can be kept in the year before, so ask for one year more. RangeError for too many holidays.
+   * The calendar with the holidays of some years that a name stands for: `usFederal`, `target` (the euro's payment system),
+   * `englandAndWales`, `fedwire`, `nyse` (the New York Stock Exchange), `germany` (holidays of all its states) or `france`. New Year's Day can
+   * be kept in the year before, so ask for one year more. RangeError for too many holidays.
    */
   static of(name, firstYear, lastYear, options) {
     const weekend = listOf(optionsOf(options).weekend ?? USUAL_WEEKEND, "weekend");

@@ -38,18 +38,6 @@ export const MOST_AT_ONCE = 131_072;
 /** A calendar has at most so many holidays. */
 export const MOST_HOLIDAYS = 1_000;
 
-/** What is wrong with a pattern, or with a text that a pattern reads, by the library's numbers from 1 on. */
-const PATTERN_FAULTS = [
-  "no such specifier",
-  "the pattern ends within a specifier",
-  "the text ends before its pattern",
-  "the text goes on behind its pattern",
-  "not of the pattern",
-  "a number that is out of range",
-  "no such day or time",
-  "too few fields for a day or a time",
-];
-
 /** The least number of 64 bits, which stands for no number of days. */
 const NO_DAYS = -(2n ** 63n);
 
@@ -105,13 +93,13 @@ function throwFault(room, text, encoded, write) {
 
 /** Throws what is wrong with a pattern, or with a text that a pattern reads. */
 function throwPatternFault(room, text, encoded) {
-  throw new TextError(text, ...wrongPart(room, encoded), PATTERN_FAULTS[room.view.getUint32(FAULT, true) - 1]);
+  throwFault(room, text, encoded, room.layers.calendar_pattern_fault_text);
 }
 
 /** The version of the library. */
 export function version() {
   const room = open();
-  return textAt(room, TEXT, room.layers.calendar_version(address(room, TEXT), BigInt(LONGEST)));
+  return textAt(room, TEXT, room.layers.calendar_layers_version(address(room, TEXT), BigInt(LONGEST)));
 }
 
 /** The bytes of the schedule that a text has; a TextError if it has none. */
@@ -169,10 +157,14 @@ function putCalendar(room, { weekend, holidays }) {
   return [weekend, address(room, HOLIDAYS), BigInt(holidays.length)];
 }
 
-/** Whether holidays are those of a calendar: they rise strictly, none is on the weekend, and they are not too many. */
-export function areHolidays(calendar) {
+/** What is wrong with the holidays of a calendar: one does not rise or is on the weekend, or they are too many. Undefined if nothing is. */
+export function faultOfHolidays(calendar) {
   const room = open();
-  return room.layers.calendar_holidays_check(...putCalendar(room, calendar), address(room, FAULT)) !== 0;
+  const fault = address(room, FAULT);
+  if (room.layers.calendar_holidays_check(...putCalendar(room, calendar), fault)) {
+    return undefined;
+  }
+  return textAt(room, TEXT, room.layers.calendar_holidays_fault_text(fault, address(room, TEXT), BigInt(LONGEST)));
 }
 
 /** The numbers of the holidays of a known calendar in some years; undefined if they are too many, or there is no such year. */
@@ -454,22 +446,13 @@ export function betweenOfCalendar(encoded, zone, start, until) {
 /** The bytes of a schedule with seconds of a dialect, by its number; a TextError if the text has none. */
 export function readTimedSchedule(text, dialect) {
   const room = open();
-  const { layers, view } = room;
+  const { layers } = room;
   const encoded = putText(room, text);
   if (!layers.calendar_timed_schedule_check(...putBytes(room, encoded), dialect, address(room, FAULT))) {
-    const [code, field] = [0, 4].map((it) => view.getUint32(FAULT + it, true));
-    const parts = wrongPart(room, encoded);
-    const length = layers.calendar_schedule_fault_text(address(room, FAULT), address(room, TEXT), BigInt(LONGEST));
-    const byte = view.getBigUint64(FAULT + 8, true);
-    const said = code === QUESTION_MARKS ? `weekday, byte ${byte}: not just one field of days is ?` : textAt(room, TEXT, length);
-    throw new TextError(text, ...parts, `${TIMED_FIELDS[field] ?? ""}${said}`);
+    throwFault(room, text, encoded, layers.calendar_timed_schedule_fault_text);
   }
   return encoded;
 }
-
-/** The code of a schedule of Quartz with `?` in neither field of days, or in both; and the fields that stand beside those of cron. */
-const QUESTION_MARKS = 15;
-const TIMED_FIELDS = { 6: "second, ", 7: "year, " };
 
 /** What a function finds by a schedule with seconds from a date-time on; undefined if there is none. */
 function foundByTimed(find, encoded, dialect, start) {

@@ -16,6 +16,9 @@ import {
   ZonedDateTime,
 } from "proved-calendar";
 
+// == texts read
+console.log(PlainDate.from("2024-02-29").dayOfWeek); // = 4
+
 // == patterns
 console.log(new Pattern("%d.%m.%Y").format(new PlainDate(2024, 2, 29))); // = 29.02.2024
 
@@ -37,7 +40,7 @@ console.log(`${fridays.nextAfter("2024-01-01")}`); // = 2024-01-26
 const set = new RuleSet({ rules: [fridays], dates: ["2024-02-01"], exceptDates: ["2024-01-26"] });
 console.log([...set.iterate({ until: "2024-02-29" })].join(" ")); // = 2024-02-01 2024-02-23
 
-// == calendars in a zone
+// == rules and calendars in a zone
 const daily = new CalendarText("DTSTART;TZID=Europe/Berlin:20240330T023000\nRRULE:FREQ=DAILY\n", berlin);
 const instants = daily.iterate(ZonedDateTime.from("2024-03-30T00:00", { timeZone: berlin }));
 console.log(`${instants.next().value} ${instants.next().value}`); // = 2024-03-30T02:30:00+01:00 2024-03-31T03:30:00+02:00

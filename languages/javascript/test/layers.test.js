@@ -22,7 +22,7 @@ const EASTER = ["2024-03-29", "2024-04-01"];
 /** The last second of the calendar. */
 const END = "+262142-12-31T23:59:59";
 
-test("version", () => {
+test("layers_version", () => {
   assert.equal(version(), "0.1.0");
 });
 
@@ -44,7 +44,7 @@ test("schedule_fault_text", () => {
   for (const [text, start, end, reason] of [
     ["0 25,7 * * *", 2, 4, "hour, byte 2: a number that is out of range"],
     ["5,60 * * * *", 2, 4, "minute, byte 2: a number that is out of range"],
-    ["* * * *", 7, 7, "byte 7: fewer than five fields"],
+    ["* * * *", 7, 7, "byte 7: too few fields"],
     ["0 0 30-2 * *", 7, 8, "day of the month, byte 7: a range whose end is below its beginning"],
     ["* * * foo *", 6, 9, undefined],
     ["* * * * * *", 10, 11, undefined],
@@ -189,10 +189,20 @@ test("holidays_of", () => {
   // (Independence Day of 2026 is a Saturday, and kept on Friday)
   assert.equal(BusinessCalendar.of("usFederal", 2026, 2026).isOpen("2026-07-03"), false);
   assert.deepEqual(["2024-08-26", "2025-04-21", "2025-04-22"].map((it) => BusinessCalendar.of("englandAndWales", 2024, 2025).isOpen(it)), [false, false, true]);
+  // (Christmas Day of 2021 is a Saturday: the exchange keeps it on Friday, and Fedwire is open then)
+  assert.deepEqual(["nyse", "fedwire"].map((it) => BusinessCalendar.of(it, 2021, 2021).isOpen("2021-12-24")), [false, true]);
+  // (31 October 2017, and Whit Monday of 2024)
+  assert.equal(BusinessCalendar.of("germany", 2017, 2017).isOpen("2017-10-31"), false);
+  assert.equal(BusinessCalendar.of("france", 2024, 2024).isOpen("2024-05-20"), false);
   const sundays = BusinessCalendar.of("target", 2022, 2022, { weekend: [7] });
   assert.deepEqual([sundays.weekend, sundays.isOpen("2022-01-01"), sundays.isOpen("2022-01-08")], [[7], false, true]);
   for (const [name, first, last] of [["target", 300_000, 300_000], ["target", 2 ** 32 + 2024, 2 ** 32 + 2024], ["target", 2_000, 2_400], ["euro", 2024, 2024]]) {
     refused(() => BusinessCalendar.of(name, first, last));
+  }
+  // (years before the rules begin)
+  for (const [name, first] of [["usFederal", 1971], ["target", 1999], ["englandAndWales", 1978]]) {
+    assert.deepEqual(BusinessCalendar.of(name, 1900, first - 1).holidays, []);
+    assert.equal(BusinessCalendar.of(name, 1900, first).holidays[0].year, first);
   }
 });
 
@@ -204,8 +214,13 @@ test("easter", () => {
 
 test("holidays_check", () => {
   const days = Array.from({ length: 20_000 }, (_, index) => PlainDate.fromDayNumber(738_945 + index));
-  assert.throws(() => new BusinessCalendar({ weekend: [], holidays: days }), { message: "20000 holidays: there are at most 1000" });
+  assert.throws(() => new BusinessCalendar({ weekend: [], holidays: days }), { message: "holiday 1000 is one too many" });
   assert.equal(new BusinessCalendar({ weekend: [], holidays: days.slice(0, 1_000) }).holidays.length, 1_000);
+});
+
+test("holidays_fault_text", () => {
+  const days = Array.from({ length: 1_001 }, (_, index) => PlainDate.fromDayNumber(738_945 + index));
+  assert.throws(() => new BusinessCalendar({ weekend: [], holidays: days }), { name: "RangeError", message: "holiday 1000 is one too many" });
 });
 
 test("calendars as values", () => {
@@ -378,14 +393,20 @@ const wrongFrom = (start, end, reason) => ({ name: "TextError", start, end, reas
 test("pattern_check", () => {
   const pattern = new Pattern("%d.%m.%Y");
   assert.equal(`${pattern} ${inspect(pattern)} ${Object.prototype.toString.call(pattern)}`, "%d.%m.%Y Pattern %d.%m.%Y [object Pattern]");
-  assert.throws(() => new Pattern("%Y-%Q"), wrongFrom(3, 5, "no such specifier"));
-  assert.throws(() => new Pattern("100%"), wrongFrom(3, 4, "the pattern ends within a specifier"));
-  assert.throws(() => new Pattern("\u{1f600}\ufeff%\u00e9"), { ...wrongFrom(3, 5, "no such specifier"), text: "\u{1f600}\ufeff%\u00e9" });
-  assert.throws(() => new Pattern("\ufeff%Q"), wrongFrom(1, 3, "no such specifier"));
+  assert.throws(() => new Pattern("%Y-%Q"), wrongFrom(3, 5, "byte 3: an unknown specifier"));
+  assert.throws(() => new Pattern("100%"), wrongFrom(3, 4, "byte 3: the bytes end within a specifier"));
+  assert.throws(() => new Pattern("\u{1f600}\ufeff%\u00e9"), { ...wrongFrom(3, 5, "byte 7: an unknown specifier"), text: "\u{1f600}\ufeff%\u00e9" });
+  assert.throws(() => new Pattern("\ufeff%Q"), wrongFrom(1, 3, "byte 3: an unknown specifier"));
   // (the euro sign, of three bytes, lies across the end)
   const long = "x".repeat(57_343);
   assert.throws(() => new Pattern(`${long}\u20ac`), wrongFrom(57_343, 57_344, "longer than 57,344 bytes"));
   assert.equal(`${new Pattern(long)}`, long);
+});
+
+test("pattern_fault_text", () => {
+  const fields = new Pattern("%d.%m.%Y");
+  assert.throws(() => fields.parseDate("1.13.2024"), wrongFrom(2, 9, "byte 2: the field has no such value"));
+  assert.throws(() => new Pattern("%F %R").parseDateTime("2024-02-29T13:00"), wrongFrom(10, 16, "byte 10: the pattern has no such text there"));
 });
 
 test("format_date", () => {
@@ -418,14 +439,15 @@ test("parse_date", () => {
   assert.ok(new Pattern("%F").parseDate("2024-02-29") instanceof PlainDate);
   const pattern = new Pattern("%d.%m.%Y");
   for (const [text, start, reason] of [
-    ["29.", 3, "the text ends before its pattern"], ["29.2.2024x", 9, "the text goes on behind its pattern"], ["29-2", 2, "not of the pattern"],
-    ["29.13", 3, "a number that is out of range"], ["29.2.2023", 9, "no such day or time"],
+    ["29.", 3, "byte 3: the text ends too soon"], ["29.2.2024x", 9, "byte 9: the text goes on behind the end of the pattern"],
+    ["29-2", 2, "byte 2: the pattern has no such text there"], ["29.13", 3, "byte 3: the field has no such value"],
+    ["29.2.2023", 9, "byte 9: no value fits all fields"],
   ]) {
     assert.throws(() => pattern.parseDate(text), { ...wrongFrom(start, text.length, reason), text, message: `${JSON.stringify(text)}: ${reason}` });
   }
-  assert.throws(() => new Pattern("%d.%m.").parseDate("29.2."), wrongFrom(0, 5, "too few fields for a day or a time"));
+  assert.throws(() => new Pattern("%d.%m.").parseDate("29.2."), wrongFrom(0, 5, "byte 0: the fields do not suffice for the value"));
   // (a place is one of the string, and never within a character: the first bytes of both letters are the same)
-  assert.throws(() => new Pattern("\u{1f600}\u00e9%F").parseDate("\u{1f600}\u00e82024-02-29"), wrongFrom(2, 13, "not of the pattern"));
+  assert.throws(() => new Pattern("\u{1f600}\u00e9%F").parseDate("\u{1f600}\u00e82024-02-29"), wrongFrom(2, 13, "byte 5: the pattern has no such text there"));
   assert.throws(() => pattern.parseDate("1".repeat(57_345)), wrongFrom(57_344, 57_345, "longer than 57,344 bytes"));
 });
 
@@ -433,8 +455,8 @@ test("parse_date_time", () => {
   assert.equal(`${new Pattern("%F %R").parseDateTime("2024-03-01 13:00")}`, "2024-03-01T13:00:00");
   assert.equal(`${new Pattern("%FT%T%.f").parseDateTime("2024-02-29T23:59:60.5")}`, "2024-02-29T23:59:60.5");
   assert.equal(`${new Pattern("%s").parseDateTime("0")}`, "1970-01-01T00:00:00");
-  assert.throws(() => new Pattern("%F %R").parseDateTime("2024-03-01 25:00"), wrongFrom(11, 16, "a number that is out of range"));
-  assert.throws(() => new Pattern("%F").parseDateTime("2024-03-01"), wrongFrom(0, 10, "too few fields for a day or a time"));
+  assert.throws(() => new Pattern("%F %R").parseDateTime("2024-03-01 25:00"), wrongFrom(11, 16, "byte 11: the field has no such value"));
+  assert.throws(() => new Pattern("%F").parseDateTime("2024-03-01"), wrongFrom(0, 10, "byte 0: the fields do not suffice for the value"));
 });
 
 /** Central Europe by its rule. */
@@ -723,6 +745,11 @@ test("timed_schedule_check", () => {
     assert.deepEqual(saidOf(() => new TimedSchedule(text, { dialect })), wanted);
   }
   refused(() => new TimedSchedule("@daily", { dialect: "posix" }));
+});
+
+test("timed_schedule_fault_text", () => {
+  assert.deepEqual(saidOf(() => new TimedSchedule("61 * * * * *", { dialect: "seconds" })), ["second, byte 0: a number that is out of range", 0, 2]);
+  assert.deepEqual(saidOf(() => new TimedSchedule("0 0 0 ? * ?", { dialect: "quartz" })), ["weekday, byte 10: not just one field of days is ?", 10, 11]);
 });
 
 test("timed_schedule_next", () => {

@@ -1,6 +1,9 @@
 """An example of each layer in Python. What stands behind `=` is what its line prints. checks/cells.py looks for these parts."""
 from proved_calendar import Date, DateTime
 
+# == texts read
+print(Date.fromisoformat("2024-02-29").weekday())  # = 3
+
 # == patterns
 from proved_calendar import Pattern
 
@@ -30,7 +33,7 @@ fridays = Rule("FREQ=MONTHLY;BYDAY=-1FR", Date(2024, 1, 1))
 print(fridays.after(Date(2024, 1, 1)))  # = 2024-01-26
 print(*RuleSet([fridays], [Date(2024, 2, 1)], except_dates=[Date(2024, 1, 26)])[:2])  # = 2024-02-01 2024-02-23
 
-# == calendars in a zone
+# == rules and calendars in a zone
 from proved_calendar import CalendarText
 
 daily = CalendarText("DTSTART;TZID=Europe/Berlin:20240330T023000\nRRULE:FREQ=DAILY")

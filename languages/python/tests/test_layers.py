@@ -505,13 +505,25 @@ class OpenDays(unittest.TestCase):
             ("target", 2024, [Date(2024, 1, 1), GOOD_FRIDAY, EASTER_MONDAY, Date(2024, 5, 1), Date(2024, 12, 25), Date(2024, 12, 26)]),
             ("england_and_wales", 2023, [Date(2023, 1, 2), Date(2023, 4, 7), Date(2023, 4, 10), Date(2023, 5, 1), Date(2023, 5, 8),
                                          Date(2023, 5, 29), Date(2023, 8, 28), Date(2023, 12, 25), Date(2023, 12, 26)]),
+            # (31 October 2017, and no 1 January, which was a Sunday)
+            ("germany", 2017, [Date(2017, 4, 14), Date(2017, 4, 17), Date(2017, 5, 1), Date(2017, 5, 25), Date(2017, 6, 5),
+                               Date(2017, 10, 3), Date(2017, 10, 31), Date(2017, 12, 25), Date(2017, 12, 26)]),
+            ("france", 2024, [Date(2024, 1, 1), EASTER_MONDAY, Date(2024, 5, 1), Date(2024, 5, 8), Date(2024, 5, 9), Date(2024, 5, 20),
+                              Date(2024, 8, 15), Date(2024, 11, 1), Date(2024, 11, 11), Date(2024, 12, 25)]),
         ]:
             self.assertEqual(list(BusinessCalendar.known(name, year, year).holidays), days)
         # (New Year's Day of 2022 was kept on the last day of 2021)
         federal = BusinessCalendar.known(name="us_federal", first_year=2021, last_year=2021)
         self.assertEqual((federal.holidays[-1], federal.weekend), (Date(2021, 12, 31), (6, 7)))
+        # (Christmas Day of 2021 was a Saturday: the exchange was closed on Friday, and Fedwire open)
+        nyse, fedwire = (BusinessCalendar.known(it, 2021, 2021) for it in ("nyse", "fedwire"))
+        self.assertEqual((nyse.is_open(Date(2021, 12, 24)), fedwire.is_open(Date(2021, 12, 24))), (False, True))
         self.assertEqual(BusinessCalendar.known("us_federal", 2021, 2021, [7]).weekend, (7,))
         self.assertEqual(BusinessCalendar.known("target", 262142, 262142).holidays[0].year, 262142)
+        # (years before the rules begin)
+        for name, first in (("us_federal", 1971), ("target", 1999), ("england_and_wales", 1978)):
+            self.assertEqual(BusinessCalendar.known(name, -262143, first - 1).holidays, ())
+            self.assertEqual(BusinessCalendar.known(name, -262143, first).holidays[0].year, first)
         for years in ((2024, 2023), (262143, 262143), (-262144, 0), (0, 9999), (2**40, 2**40)):
             self.assertRaises(ValueError, BusinessCalendar.known, "target", *years)
         self.assertRaises(ValueError, BusinessCalendar.known, "mars", 2024, 2024)

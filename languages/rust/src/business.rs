@@ -6,6 +6,7 @@ use core::ops::RangeInclusive;
 
 use crate::columns::DayNumbers;
 use crate::layer_calls::*;
+use crate::text_error::write_sentence;
 use crate::{Date, WeekdaySet};
 
 /// A calendar of open days: each day but those of a weekend and holidays.
@@ -203,12 +204,10 @@ impl HolidaysError {
 
 impl fmt::Display for HolidaysError {
     fn fmt(&self, f: &mut fmt::Formatter<'_>) -> fmt::Result {
-        let what = match self.fault.code {
-            1 => "is one too many",
-            3 => "does not come after the one before",
-            _ => "is on the weekend",
-        };
-        write!(f, "holiday {} {what}", self.index())
+        // SAFETY: the room has as many bytes as its length says.
+        write_sentence(f, |room, count| unsafe {
+            calendar_holidays_fault_text(&self.fault, room, count)
+        })
     }
 }
 
@@ -231,17 +230,30 @@ pub enum KnownCalendar {
     Target,
     /// The bank holidays of England and Wales.
     EnglandAndWales,
+    /// The closed days of the Fedwire services.
+    Fedwire,
+    /// The closed days of the New York Stock Exchange.
+    Nyse,
+    /// The holidays that all states of Germany have.
+    Germany,
+    /// The legal holidays of France.
+    France,
 }
 
 impl KnownCalendar {
     /// The holidays of some years, but for those on the weekend, which are written into a slice. `None` if they do not fit, or the
     /// calendar does not have the years. New Year's Day can be kept in the year before, so ask for one year more.
     ///
+    /// There are none before the rules begin: in 1971 (`UsFederal`, `Fedwire`), 1978 (`EnglandAndWales`), 1982 (`France`), 1995
+    /// (`Germany`), 1998 (`Nyse`) and 1999 (`Target`).
+    ///
     /// ```
     /// use proved_calendar::{Date, KnownCalendar, WeekdaySet};
     /// let mut out = [Date::MIN; 20];
     /// let days = KnownCalendar::UsFederal.holidays(2024..=2024, WeekdaySet::default(), &mut out);
     /// assert_eq!(days.unwrap().len(), 11);
+    /// let days = KnownCalendar::UsFederal.holidays(1900..=1970, WeekdaySet::default(), &mut out);
+    /// assert!(days.unwrap().is_empty());
     /// ```
     #[must_use]
     pub fn holidays(

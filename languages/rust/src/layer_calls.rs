@@ -116,6 +116,7 @@ unsafe extern "C" {
         count: usize,
         fault: &mut Fault,
     ) -> bool;
+    pub(crate) fn calendar_holidays_fault_text(fault: &Fault, text: *mut u8, room: usize) -> i32;
     pub(crate) fn calendar_holidays_of(
         which: u32,
         first_year: i32,
@@ -210,6 +211,7 @@ unsafe extern "C" {
         text_length: usize,
         fault: &mut Fault,
     ) -> Moment;
+    pub(crate) fn calendar_pattern_fault_text(fault: &Fault, text: *mut u8, room: usize) -> i32;
     pub(crate) safe fn calendar_day_count(kind: u32, from: i32, to: i32) -> Quotient;
     pub(crate) fn calendar_zone_check(zone: *const u8, length: usize, fault: &mut Fault) -> bool;
     pub(crate) fn calendar_zone_fault_text(fault: &Fault, text: *mut u8, room: usize) -> i32;
@@ -283,6 +285,11 @@ unsafe extern "C" {
         dialect: u32,
         fault: &mut Fault,
     ) -> bool;
+    pub(crate) fn calendar_timed_schedule_fault_text(
+        fault: &Fault,
+        text: *mut u8,
+        room: usize,
+    ) -> i32;
     pub(crate) fn calendar_timed_schedule_next(
         text: *const u8,
         length: usize,

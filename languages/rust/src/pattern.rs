@@ -1,6 +1,5 @@
 //! Patterns of texts, as of `strftime`.
 
-use alloc::format;
 use alloc::string::String;
 use core::fmt;
 use core::str::{from_utf8, FromStr};
@@ -75,7 +74,7 @@ impl Pattern {
     /// let pattern: Pattern = "%d %b %Y".parse().unwrap();
     /// assert_eq!(pattern.parse_date("29 feb 2024"), Ok(Date::from_ymd(2024, 2, 29).unwrap()));
     /// let wrong = pattern.parse_date("32 feb 2024").unwrap_err();
-    /// assert_eq!(wrong.to_string(), "byte 0: a number that is out of range");
+    /// assert_eq!(wrong.to_string(), "byte 0: the field has no such value");
     /// ```
     pub fn parse_date(&self, text: &str) -> Result<Date, TextError> {
         let (pattern, length) = (self.text.as_ptr(), self.text.len());
@@ -150,19 +149,4 @@ fn error(fault: Fault) -> TextError {
         fault,
         kind: Kind::Pattern,
     }
-}
-
-/// The sentence on a fault of a pattern or of its text.
-pub(crate) fn sentence(fault: &Fault) -> String {
-    let what = match fault.code {
-        1 => "an unknown specifier",
-        2 => "a specifier that is cut off",
-        3 => "the text ends too early",
-        4 => "the text goes on after the end of the pattern",
-        5 => "something other than the pattern wants",
-        6 => "a number that is out of range",
-        7 => "no date or time has these parts",
-        _ => "too few parts for a date or time",
-    };
-    format!("byte {}: {what}", fault.byte)
 }

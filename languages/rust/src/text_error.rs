@@ -1,25 +1,13 @@
 //! The error of a text of the layers, with its place.
 
-#[cfg(feature = "alloc")]
-use alloc::format;
 use core::error::Error;
 use core::fmt;
 use core::str::from_utf8;
 
 use crate::layer_calls::*;
-#[cfg(feature = "alloc")]
-use crate::pattern::sentence;
 
 /// The number of bytes of the longest sentence on what is wrong with a text.
 const SENTENCE_ROOM: usize = 99;
-
-/// The field of seconds, behind which that of years comes.
-#[cfg(feature = "alloc")]
-const SECONDS: u32 = 6;
-
-/// The code of a schedule of Quartz with `?` in neither field of days, or in both.
-#[cfg(feature = "alloc")]
-const QUESTION_MARKS: u32 = 15;
 
 /// What is wrong with a text, and where.
 ///
@@ -96,42 +84,32 @@ impl TextError {
 
 impl fmt::Display for TextError {
     fn fmt(&self, f: &mut fmt::Formatter<'_>) -> fmt::Result {
-        let mut text = [0; SENTENCE_ROOM];
-        #[cfg(feature = "alloc")]
-        if self.kind == Kind::Timed && self.fault.code == QUESTION_MARKS {
-            let byte = self.start();
-            return f.pad(&format!(
-                "weekday, byte {byte}: not just one field of days is ?"
-            ));
-        }
-        let (room, count) = (text.as_mut_ptr(), text.len());
         // SAFETY: the room has as many bytes as its length says.
-        let length = unsafe {
+        write_sentence(f, |room, count| unsafe {
             match self.kind {
                 Kind::Schedule => calendar_schedule_fault_text(&self.fault, room, count),
                 Kind::Rule => calendar_rule_fault_text(&self.fault, room, count),
                 #[cfg(feature = "alloc")]
                 Kind::Zone => calendar_zone_fault_text(&self.fault, room, count),
                 #[cfg(feature = "alloc")]
-                Kind::Pattern => return f.pad(&sentence(&self.fault)),
+                Kind::Pattern => calendar_pattern_fault_text(&self.fault, room, count),
                 #[cfg(feature = "alloc")]
                 Kind::Calendar => calendar_text_fault_text(&self.fault, room, count),
                 #[cfg(feature = "alloc")]
-                Kind::Timed => calendar_schedule_fault_text(&self.fault, room, count),
+                Kind::Timed => calendar_timed_schedule_fault_text(&self.fault, room, count),
             }
-        };
-        let sentence = from_utf8(text.get(..length as usize).unwrap_or_default());
-        #[cfg(feature = "alloc")]
-        if self.kind == Kind::Timed && self.fault.field >= SECONDS {
-            let field = if self.fault.field == SECONDS {
-                "second"
-            } else {
-                "year"
-            };
-            return f.pad(&format!("{field}, {}", sentence.unwrap_or_default()));
-        }
-        f.pad(sentence.unwrap_or_default())
+        })
     }
+}
+
+/// Prints the sentence that a call writes into a room, of which it takes the first byte and the length.
+pub(crate) fn write_sentence(
+    f: &mut fmt::Formatter<'_>,
+    tell: impl FnOnce(*mut u8, usize) -> i32,
+) -> fmt::Result {
+    let mut text = [0; SENTENCE_ROOM];
+    let length = tell(text.as_mut_ptr(), text.len());
+    f.pad(from_utf8(text.get(..length as usize).unwrap_or_default()).unwrap_or_default())
 }
 
 impl Error for TextError {}

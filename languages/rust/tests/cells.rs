@@ -8,6 +8,10 @@ fn main() {
     let date = |text: &str| text.parse::<Date>().unwrap();
     let weekend = WeekdaySet::from([Weekday::Sat, Weekday::Sun]);
 
+    // == texts read
+    println!("{:?}", "2024-02-29".parse::<Date>().map(Date::day)); // = Ok(29)
+    println!("{}", "2023-02-29".parse::<Date>().is_err()); // = true
+
     // == patterns
     let pattern: Pattern = "%d.%m.%Y".parse().unwrap();
     println!("{}", pattern.format_date(date("2024-02-29")).unwrap()); // = 29.02.2024
@@ -40,7 +44,7 @@ fn main() {
         .next_after(date("2024-01-26"));
     println!("{}", later.unwrap()); // = 2024-02-01
 
-    // == calendars in a zone
+    // == rules and calendars in a zone
     let text = "DTSTART;TZID=Europe/Berlin:20240330T023000\nRRULE:FREQ=DAILY\n";
     let daily = CalendarText::new(text, &berlin).unwrap();
     let first = daily

@@ -118,9 +118,10 @@ typedef struct {
     /* due_between */
     calendar_schedule schedule;
     calendar_date_time until, found[CHUNK];
-    /* rule_dates: the text of the rule belongs to an argument */
+    /* rule_dates: the text of the rule belongs to an argument. The dates stand in days, or in memory of their own, and there is room for so many */
     Text rule;
-    int32_t start, days[CHUNK];
+    int32_t start, days[CHUNK], *more, *dates;
+    size_t room;
     /* holidays_of */
     uint32_t which;
     sqlite3_int64 year, last_year;

@@ -3,11 +3,26 @@
 
 SQLITE_EXTENSION_INIT3
 
+/* How many dates are found at once: CHUNK at first, then twice as many each time, up to a bound near to the days of 400 years. Each call counts
+ * a rule with COUNT from its start, so all calls together count few dates for each that they find. */
+enum { MOST_DATES = 1 << 17 };
+
+/* Makes room for twice as many dates. Where there is no memory for them, the room stays. */
+static void make_room(Cursor *cursor)
+{
+    size_t room = cursor->room < MOST_DATES ? 2 * cursor->room : cursor->room;
+    int32_t *more = sqlite3_realloc64(cursor->more, room * sizeof *more);
+    if (more) {
+        cursor->dates = cursor->more = more;
+        cursor->room = room;
+    }
+}
+
 /* Finds the dates from one on. */
 static void find_from(Cursor *cursor, int32_t day)
 {
     cursor->count = calendar_rule_instances((const uint8_t *)cursor->rule.bytes, cursor->rule.length, cursor->start, day, cursor->last,
-                                            cursor->days, CHUNK);
+                                            cursor->dates, cursor->room);
     cursor->at = 0;
     cursor->is_over = cursor->count == 0;
 }
@@ -35,6 +50,8 @@ static bool start_dates(Cursor *cursor, char **message)
     bool is_taken = read_rule(cursor, message) && read_day("rule_dates", cursor->given[1], &cursor->start, message)
         && read_day("rule_dates", cursor->given[2], &cursor->last, message);
     if (is_taken) {
+        cursor->dates = cursor->days;
+        cursor->room = CHUNK;
         find_from(cursor, cursor->start);
     }
     return is_taken;
@@ -43,8 +60,10 @@ static bool start_dates(Cursor *cursor, char **message)
 static void next_of_dates(Cursor *cursor)
 {
     cursor->at++;
-    if (cursor->at == CHUNK) {
-        find_from(cursor, cursor->days[CHUNK - 1] + 1);
+    if (cursor->at == cursor->room) {
+        int32_t last = cursor->dates[cursor->at - 1];
+        make_room(cursor);
+        find_from(cursor, last + 1);
     } else {
         cursor->is_over = cursor->at == cursor->count;
     }
@@ -52,7 +71,7 @@ static void next_of_dates(Cursor *cursor)
 
 static void answer_date(const Cursor *cursor, sqlite3_context *context)
 {
-    answer_day(context, cursor->days[cursor->at]);
+    answer_day(context, cursor->dates[cursor->at]);
 }
 
 static const Table RULE_DATES = {

@@ -102,6 +102,7 @@ static void drop_arguments(Cursor *cursor)
 static int close_cursor(sqlite3_vtab_cursor *base)
 {
     drop_arguments((Cursor *)base);
+    sqlite3_free(((Cursor *)base)->more);
     sqlite3_free(base);
     return SQLITE_OK;
 }

@@ -164,11 +164,20 @@ TABLES |= {
     "SELECT day FROM rule_dates('FREQ=DAILY', '+262142-12-30', '+262142-12-31')": ["+262142-12-30", "+262142-12-31"],
     "SELECT count(*) || ' ' || count(DISTINCT day) FROM rule_dates('FREQ=DAILY', '2024-01-01', '2024-07-10')": ["192 192"],
     "SELECT count(*) FROM rule_dates('FREQ=DAILY', '2024-01-01', '2024-03-04')": [64], "SELECT count(*) FROM rule_dates('FREQ=DAILY;COUNT=100', '2024-01-01', '2025-01-01')": [100],
+    "SELECT count(DISTINCT day) || ' ' || max(day) FROM rule_dates('FREQ=DAILY;COUNT=100000', '2024-01-01', '+262142-12-31')": ["100000 2297-10-15"],
+    "SELECT count(DISTINCT s || day) FROM (SELECT '2024-01-01' AS s UNION SELECT '2025-01-01') j, rule_dates('FREQ=DAILY;COUNT=300', j.s, '+262142-12-31')": [600],
     "SELECT day FROM rule_dates('FREQ=DAILY', '0000-01-01', '+262142-12-31') LIMIT 1 OFFSET 9999": ["0027-05-18"],
     "SELECT group_concat(day, ' ') FROM holidays_of('TARGET', 2024, 2024)": ["2024-01-01 2024-03-29 2024-04-01 2024-05-01 2024-12-25 2024-12-26"],
     "SELECT min(day) || ' ' || max(day) || ' ' || count(*) FROM holidays_of('us_federal', 2020, 2021)": ["2020-01-01 2021-12-31 22"],
     "SELECT group_concat(day, ' ') FROM holidays_of('england_and_wales', 2022, 2022)":
         ["2022-01-03 2022-04-15 2022-04-18 2022-05-02 2022-06-02 2022-06-03 2022-08-29 2022-09-19 2022-12-26 2022-12-27"],
+    "SELECT group_concat(day, ' ') FROM holidays_of('nyse', 2021, 2021)":
+        ["2021-01-01 2021-01-18 2021-02-15 2021-04-02 2021-05-31 2021-07-05 2021-09-06 2021-11-25 2021-12-24"],
+    "SELECT max(day) FROM holidays_of('fedwire', 2021, 2021)": ["2021-11-25"],
+    "SELECT group_concat(day, ' ') FROM holidays_of('germany', 2017, 2017)":
+        ["2017-04-14 2017-04-17 2017-05-01 2017-05-25 2017-06-05 2017-10-03 2017-10-31 2017-12-25 2017-12-26"],
+    "SELECT group_concat(day, ' ') FROM holidays_of('france', 2024, 2024)":
+        ["2024-01-01 2024-04-01 2024-05-01 2024-05-08 2024-05-09 2024-05-20 2024-08-15 2024-11-01 2024-11-11 2024-12-25"],
     "SELECT day FROM holidays_of('target', 2024, 2023)": [], "SELECT count(*) FROM holidays_of('target', -262143, 0)": [0],
     "SELECT count(*) FROM holidays_of('target', 2024, 2423)": [1944],
 }
