@@ -340,13 +340,51 @@ def england(year):
     return found + [Date(year, *it) for it in ENGLISH_DAYS.get(year, [])]
 
 
+def fedwire(year):
+    """The federal holidays by their dates; one on a Sunday is kept on Monday, and one on a Saturday is not moved."""
+    dates = [(1, 1), (7, 4), (12, 25)] + [(6, 19)] * (year >= 2022) + [(11, 11)] * (year >= 1978)
+    counted = [(2, 0, 2), (5, 0, -1), (9, 0, 0), (10, 0, 1), (11, 3, 3)] + [(1, 0, 2)] * (year >= 1986) + [(10, 0, 3)] * (year < 1978)
+    return [moved(Date(year, *it), 0, 1) for it in dates] + [weekdays_of_month(year, month, day)[place] for month, day, place in counted]
+
+
+CLOSINGS_OF_NYSE = {2001: [(9, 11), (9, 12), (9, 13), (9, 14)], 2004: [(6, 11)], 2007: [(1, 2)], 2012: [(10, 29), (10, 30)],
+                    2018: [(12, 5)], 2025: [(1, 9)]}
+
+
+def nyse(year):
+    """The holidays of NYSE Rule 7.2 and the days that the Exchange was closed."""
+    found = [moved(Date(year, 1, 1), 0, 1), Date.fromordinal(easter(year) - 2)]
+    found += [observed(Date(year, *it)) for it in [(7, 4), (12, 25)] + [(6, 19)] * (year >= 2022)]
+    found += [weekdays_of_month(year, *it)[place] for it, place in (((1, 0), 2), ((2, 0), 2), ((5, 0), -1), ((9, 0), 0), ((11, 3), 3))]
+    return found + [Date(year, *it) for it in CLOSINGS_OF_NYSE.get(year, [])]
+
+
+def by_dates(year, dates, feasts):
+    """Holidays on dates that never move, and on days after Easter."""
+    return [Date(year, *it) for it in dates] + [Date.fromordinal(easter(year) + it) for it in feasts]
+
+
+def germany(year):
+    dates = [(1, 1), (5, 1), (10, 3), (12, 25), (12, 26)] + [(10, 31)] * (year == 2017)
+    return by_dates(year, dates, (-2, 1, 39, 50))
+
+
+def france(year):
+    return by_dates(year, [(1, 1), (5, 1), (5, 8), (7, 14), (8, 15), (11, 1), (11, 11), (12, 25)], (1, 39, 50))
+
+
+# The given calendars by their names, each with its holidays of a year and its first year.
+GIVEN = {"us_federal": (federal_from_1971, 1971), "target": (target, 1999), "england": (england, 1978), "fedwire": (fedwire, 1971),
+         "nyse": (nyse, 1998), "germany": (germany, 1995), "france": (france, 1982)}
+
+
 def by_rules():
-    """Rows of each holiday of the given calendars, and of how many there are in a year: none before the first that they know."""
-    for name, of, first in (("us_federal", federal_from_1971, 1971), ("target", target, 1999), ("england", england, 1978)):
+    """Rows of each holiday of the given calendars, with how many rules name it, and of how many rules name a day of a year."""
+    for name, (of, first) in GIVEN.items():
         yield from (f"{name}_days 1 {year} = 0" for year in (-262143, 1, first - 2, first - 1))
         for year in range(first, 2050):
             for it in of(year):
-                yield f"{name} {it.toordinal()} {year} = 1"
+                yield f"{name} {it.toordinal()} {year} = {of(year).count(it)}"
             yield f"{name}_days 1 {year} = {len(of(year))}"
 
 

@@ -58,7 +58,8 @@ static void *memory(size_t size) {
     return bytes;
 }
 
-static const char *TEXTS[] = {"2024-02-29", "-0001-12-31", "+12345-01-01", "2024-02-29T23:59:60.500", "2024-02-29 12:00:00"};
+static const char *TEXTS[] = {"2024-02-29", "-0001-12-31", "+12345-01-01", "2024-02-29T23:59:60.500", "2024-02-29 12:00:00",
+                              "23:59:60.500", "12:00:00", "-PT5400.5S", "PT1S", "P0D"};
 
 static uint8_t *text_of(size_t size) {
     uint8_t *bytes = malloc(size ? size : 1);
@@ -101,6 +102,9 @@ def call_of(name, result, parameters, more):
         elif kind in ("calendar_date_time", "calendar_duration"):
             lines.append(f"const {kind} {called} = {{(int64_t)number(), any() % 2 ? 0 : (uint32_t)number()}};")
             given.append(called)
+        elif kind == "calendar_time":
+            lines.append(f"const {kind} {called} = {{(uint32_t)(any() % 8 ? any() % 86400 : number()), any() % 2 ? 0 : (uint32_t)number()}};")
+            given.append(called)
         else:
             lines.append(f"const {kind} {called} = ({kind})number();")
             given.append(called)
@@ -108,7 +112,7 @@ def call_of(name, result, parameters, more):
     if result == "void":
         lines.append(f"{call};")
     elif result.startswith("calendar_"):
-        field = "year" if result == "calendar_ymd" else "seconds"
+        field = {"calendar_ymd": "year", "calendar_time": "second"}.get(result, "seconds")
         lines.append(f"sink += (uint64_t){call}.{field};")
     else:
         lines.append(f"sink += (uint64_t){call};")
@@ -129,7 +133,7 @@ def write_program(path, more):
 def run_programs(results, room, library, rounds):
     """The program in three ways, and the wrong one."""
     functions = write_program(f"{room}/calls.c", 0)
-    results.count(functions >= 40, f"calendar.h has {functions} functions")
+    results.count(functions >= 50, f"calendar.h has {functions} functions")
     compiler, given = shutil.which("gcc") or "cc", [f"-I{LANGUAGES}/c", library]
     if succeeds(results, [compiler, "-std=c99", *WARNINGS, f"{room}/calls.c", *given, "-o", f"{room}/plain"]) is not None:
         run(results, "random calls", [f"{room}/plain", str(10 * rounds)], COUNTS)

@@ -31,10 +31,11 @@ LENGTH, LEAST = 10_000_000, 9_000
 # What is answered where such a line stands between two days, and the status.
 OF_LONG_LINES = [("-", ["2024-02-28 2024-059 2024-W09-3 Wed 738944 19781", "none", "2024-02-29 2024-060 2024-W09-4 Thu 738945 19782"], 1),
                  ("add 1d", ["2024-02-29", "none", "2024-03-01"], 1), ("check", ["2: has 65536 bytes or more"], 1),
+                 ("add 1d --within", ["2024-02-29", "dates: line 2 has 65536 bytes or more"], 2), ("sort", ["dates: line 2 has 65536 bytes or more"], 2),
                  ("open 2024-02-29 --holidays /dev/stdin", ["dates: argument 4, /dev/stdin, line 2: has 65536 bytes or more; expected a day as 2024-02-29"], 2)]
 
 # What is asked where no answer can be written.
-UNWRITTEN = ["2024-02-29", "2024-02-29 --json", "add 2024-02-29 1d", "add 2024-02-29T12:00 1h", "diff 2024-02-29 2024-03-07", "diff 2024-01-31 2025-03-01 in ymd",
+UNWRITTEN = ["2024-02-29", "2024-02-29 --json", "add 2024-02-29 1d", "add 2024-02-29T12:00 1h", "diff 2024-02-29 2024-03-07", "diff 10:30 12:15 in h,min", "round 10:07 15min", "diff 2024-01-31 2025-03-01 in ymd",
              "seq 2024-02-28 2024-03-01", "week 2024-W09", "easter 2024", "leap 2024", "open 2024-03-28", "roll 2024-03-30 following", "cal 2024-02", "cal 2024",
              "cal 2024-02 --json", "next @daily --from 2024-01-01T00:00", "rule FREQ=DAILY --start 2024-01-01 --count 3", "--help", "add --help", "--version",
              "2024-02-30", "seq 2024-03-31 2024-01-01 1w", "easter +300000"]
@@ -45,7 +46,7 @@ COMPLETED = [("dates roll 2024-03-30 following --c", ["--calendar"]), ("dates ro
              ("dates roll 2024-03-30 n", ["nearest"]), ("dates open 2024-03-30 --calendar e", ["england"]),
              ("dates open 2024-03-30 --weekend s", ["sat", "sun"]), ("dates open 2024-03-30 --weekend n", ["none"]),
              ("dates cal 2024-03 --first ''", ["mon", "tue", "wed", "thu", "fri", "sat", "sun"]), ("dates cal 2024-03 --first n", []),
-             ("dates diff 2024-02-29 2024-03-30 in ''", ["d", "w", "m", "mo", "y", "b", "ymd", "h", "min", "s"]), ("dates diff 2024-02-29 2024-03-30 in y", ["y", "ymd"]),
+             ("dates diff 2024-02-29 2024-03-30 in ''", ["d", "w", "m", "mo", "y", "b", "ymd", "h", "min", "s", "act/act", "act/360", "act/365", "30/360", "30e/360"]), ("dates diff 2024-02-29 2024-03-30 in y", ["y", "ymd"]),
              (f"dates open 2024-03-30 --holidays {TOP}/docs/dat", [f"{TOP}/docs/dates.md"]), (f"dates check {TOP}/docs/dat", [f"{TOP}/docs/dates.md"]),
              ("dates open 2024-03-30 --holidays two", [SPACED]), ("dates check two", [SPACED]), ("dates check 'two w'", [SPACED]),
              ("dates check --j", ["--json"])]

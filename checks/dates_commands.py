@@ -330,6 +330,129 @@ def of_diff(chance, files):
     return Asked(words, kinds, 5 if unit else 3, [str(count)], [{keys[unit]: count}])
 
 
+# How long the units of a distance are, the greatest first; months are counted apart.
+SHARED = {"y": None, "mo": None, "w": Span(7), "d": DAY, "h": Span(hours=1), "min": Span(minutes=1), "s": Span(seconds=1)}
+
+
+def whole(start, end, unit):
+    """The most whole units by which the first moves towards the second and not past it, with what it then reaches."""
+    sign = 1 if start <= end else -1
+    if SHARED[unit]:
+        count = abs(end - start) // SHARED[unit] * sign
+        return count, start + count * SHARED[unit]
+    count = 0
+    while (end - moved(start, count + sign, unit)) * sign >= Span(0):
+        count += sign
+    return count, moved(start, count, unit)
+
+
+def of_units(chance, _):
+    """A distance in several units, each of which counts what those before it leave."""
+    timed = chance.random() < 0.6
+    start = any_moment(chance) if timed else any_day(chance)
+    end = chance.choice((start + Span(chance.randint(-900, 900)), moved(start, chance.randint(-50, 50), "m")))
+    if timed:
+        end += Span(seconds=chance.randint(-90_000, 90_000))
+    among = list(SHARED) if timed else list(SHARED)[:4]
+    units = sorted(chance.sample(among, chance.randint(2, 4)), key=among.index)
+    at, shown = start, []
+    for unit in units:
+        count, at = whole(at, end, unit)
+        shown += [f"{count}{unit}"] if count else []
+    text = " ".join(shown) or f"0{units[-1]}"
+    words = [moment_word(chance, start), moment_word(chance, end)] if timed else [day_word(chance, start), day_word(chance, end)]
+    return Asked(["diff", *words, "in", ",".join(units)], [], 0, [text], [{"duration": text}])
+
+
+def clock_text(moment):
+    return moment_text(moment).partition("T")[2]
+
+
+def of_times_alone(chance, _):
+    """A time of day alone: moved, listed, compared, or rounded to a part of the day."""
+    moment = any_moment(chance).replace(year=2000, month=6, day=15)
+    name, sign = chance.choice(("add", "seq", "diff", "test", "round")), chance.choice((1, -1))
+    if name == "add":
+        unit, count = chance.choice(list(SECONDS)), chance.randint(-5000, 5000)
+        text = clock_text(moment + Span(seconds=SECONDS[unit] * count))
+        return Asked(["add", clock_text(moment), f"{count}{unit}"], [], 0, [text], [{"time": text}])
+    if name == "round":
+        return of_part(chance, moment, clock_text(moment), sign)
+    other = any_moment(chance).replace(year=2000, month=6, day=15)
+    if name == "diff":
+        text = duration_text(other - moment)
+        return Asked(["diff", clock_text(moment), clock_text(other)], [], 0, [text], [{"duration": text}])
+    if name == "test":
+        test = chance.choice(list(TESTS))
+        return Asked(["test", clock_text(moment), f"-{test}", clock_text(other)], [], 0, [], [], int(not TESTS[test](moment, other)))
+    step = Span(minutes=chance.choice((7, 30, 90))) * sign
+    # (past midnight, where the end is on the other side)
+    end = other + DAY * sign * ((other - moment) * sign < Span(0))
+    texts, at = [], moment
+    while (end - at) * sign >= Span(0):
+        texts.append(clock_text(at))
+        at += step
+    words = ["seq", clock_text(moment), clock_text(other), f"{step // Span(minutes=1)}min"]
+    return Asked(words, [], 0, texts, [{"time": it} for it in texts])
+
+
+def of_part(chance, moment, word, sign):
+    """A time rounded to a part of the day: on, or back where the sign is below 0."""
+    name, size = chance.choice((("15min", 900), ("1h", 3600), ("30s", 30), ("6h", 21_600), ("24h", 86_400)))
+    midnight = moment.replace(hour=0, minute=0, second=0, microsecond=0)
+    over = (moment - midnight) % Span(seconds=size)
+    reached = moment - over + (Span(seconds=size) if over and sign > 0 else Span(0))
+    text, key = (clock_text(reached), "time") if "-" not in word else (moment_text(reached), "moment")
+    return Asked(["round", word, f"-{name}" if sign < 0 else name], [], 0, [text], [{key: text}])
+
+
+def of_rounded(chance, _):
+    moment = any_moment(chance)
+    return of_part(chance, moment, moment_text(moment), chance.choice((1, -1)))
+
+
+def of_within(chance, _):
+    """Days within lines, each answered in its place, and one field of CSV: there is no JSON of these."""
+    lines, answers = [], []
+    for _ in range(chance.randint(1, 4)):
+        line, answer = "", ""
+        for _ in range(chance.randint(0, 5)):
+            date, gap = any_day(chance), chance.choice((" ", ", ", "; ", " (", "<", "=", '"', "\t"))
+            old, new = chance.choice(((str(date), str(moved(date, 1, "m"))), ("rent", "rent"), ("2024-2-3", "2024-2-3"), ("20240229", "20240229"), (f"{date}.", f"{moved(date, 1, 'm')}.")))
+            line, answer = line + gap + old, answer + gap + new
+        lines.append(line)
+        answers.append(answer)
+    if chance.random() < 0.5:
+        return Asked(["add", "1mo", "--within"], [], 0, answers, None, given="".join(f"{it}\n" for it in lines).encode())
+    date, place = any_day(chance), chance.randint(1, 3)
+    fields = [chance.choice(("a", '"b, c"', "", '"d ""e"""', str(any_day(chance)))) for _ in range(4)]
+    fields[place - 1] = mark = chance.choice(("{}", '"{}"'))
+    made = [",".join(fields).replace(mark, mark.format(it), 1) for it in (date, moved(date, 1, "m"))]
+    return Asked(["add", "1mo", "--field", str(place)], [], 0, [made[1]], None, given=f"{made[0]}\n".encode())
+
+
+BOUNDS = {"--after": operator.gt, "--from": operator.ge, "--until": operator.le, "--before": operator.lt}
+
+
+def of_grep(chance, _):
+    """Lines whose day or time is looked for, and lines the latest first: there is no JSON of these."""
+    found = [(it, chance.random() < 0.3) for it in (any_moment(chance) for _ in range(chance.randint(1, 6)))]
+    texts = [str(it.date()) if alone else moment_text(it) for it, alone in found]
+    lines = [f"{place} {it} x" for place, it in enumerate(texts)]
+    given = "".join(f"{it}\n" for it in lines).encode()
+    if chance.random() < 0.2:
+        order = sorted(range(len(lines)), key=lambda it: found[it][0].replace(**({"hour": 0, "minute": 0, "second": 0, "microsecond": 0} if found[it][1] else {})), reverse=True)
+        return Asked(["sort", "--reverse"], [], 0, [lines[it] for it in order], None, given=given)
+    bound, _ = chance.choice(found)
+    name, kind = chance.choice(list(BOUNDS)), chance.choice(("day", "time", "moment"))
+    part = {"day": lambda it: it.date(), "time": lambda it: it.time(), "moment": lambda it: it}[kind]
+    text = {"day": str(bound.date()), "time": clock_text(bound), "moment": moment_text(bound)}[kind]
+    is_not, is_only = chance.random() < 0.3, chance.random() < 0.3
+    holds = [(kind == "day" or not alone) and BOUNDS[name](part(it), part(bound)) for it, alone in found]
+    kept = [texts[it] if is_only else lines[it] for it, held in enumerate(holds) if held != is_not]
+    return Asked(["grep", name, text, *["--not"] * is_not, *["--only"] * is_only], [], 0, kept, None, 0 if kept else 1, given=given)
+
+
 def of_instant(chance, _):
     """A command of date-times with their offsets, or of seconds since 1970: none of their words is spoiled."""
     start, unix = any_instant(chance), chance.random() < 0.3
@@ -807,10 +930,10 @@ EXPECTED = {
     "year": "a year as 2024",
     "period": "week, month, quarter or year",
     "in": "in and a unit, as 'in w'",
-    "unit": "d, w, m, mo, y, b, ymd, h, min or s",
+    "unit": "d, w, m, mo, y, b, ymd, h, min, s, act/act, act/360, act/365, 30/360 or 30e/360",
     "convention": ", ".join(ROLLS[1:]) + " or unadjusted",
     "--weekend": "none, or at most two weekdays as fri,sat",
-    "--calendar": "us-federal, target or england",
+    "--calendar": "us-federal, target, england, fedwire, nyse, germany or france",
     "--first": "a weekday as mon",
     "--holidays": "the name of a file",
     "file": "the name of a file",
@@ -925,7 +1048,7 @@ def asks_of_lines(words):
 
 
 SPOILERS = (with_wrong_word, with_wrong_word, with_words_missing, with_a_word_more, with_no_such_day)
-MAKERS = {of_day: 10, of_lines: 4, of_add: 16, of_diff: 16, of_instant: 8, of_zone: 6, of_zoned_add: 6, of_zoned_due: 6, of_seq: 10, of_seq_of_times: 5, of_week: 4, of_end: 12, of_easter: 4, of_leap: 3, of_open: 8, of_roll: 9, of_each: 8, of_check: 5, of_due: 9, of_rule: 9, of_cal: 5}
+MAKERS = {of_day: 10, of_lines: 4, of_add: 16, of_diff: 16, of_instant: 8, of_zone: 6, of_zoned_add: 6, of_zoned_due: 6, of_seq: 10, of_seq_of_times: 5, of_week: 4, of_end: 12, of_easter: 4, of_leap: 3, of_open: 8, of_roll: 9, of_units: 8, of_times_alone: 8, of_rounded: 4, of_within: 8, of_grep: 8, of_each: 8, of_check: 5, of_due: 9, of_rule: 9, of_cal: 5}
 
 
 def commands(chance, files, count):
@@ -934,7 +1057,7 @@ def commands(chance, files, count):
     while len(made) < count:
         maker = chance.choices(list(MAKERS), list(MAKERS.values()))[0]
         asked = maker(chance, files)
-        if maker in (of_each, of_seq_of_times, of_instant, of_zone, of_zoned_add, of_zoned_due):
+        if maker in (of_each, of_units, of_times_alone, of_rounded, of_within, of_grep, of_seq_of_times, of_instant, of_zone, of_zoned_add, of_zoned_due):
             made.append(asked)
             continue
         if asked.kinds and chance.random() < 0.2:
@@ -956,7 +1079,7 @@ def ran(asked, more=()):
 def fault(asked):
     """What is wrong with the answer to a command, as it stands or as JSON; None where nothing is."""
     # (behind an option without its value `--json` would be that value)
-    for form in ((),) if str(asked.error).endswith("its value is missing") else ((), ("--json",)):
+    for form in ((),) if str(asked.error).endswith("its value is missing") or asked.objects is None else ((), ("--json",)):
         output, status, error = ran(asked, form)
         said = [it.rstrip() for it in output.splitlines()]
         try:

@@ -40,7 +40,7 @@ STRUCTS = {
     "calendar_date_time": "Moment", "calendar_fault": "Fault", "calendar_schedule": "Sets", "calendar_fraction": "Quotient",
     "calendar_offsets": "Offsets",
 }
-NOT_USED = ("calendar_version",)
+NOT_USED = ("calendar_layers_version",)
 COUNTS = (r"test result: .*? (\d+) passed", r"test result: .*? (\d+) failed")
 
 PROJECT = """\

@@ -12,8 +12,8 @@ of the library and with the declarations of the Rust crate; the fields of both s
 with one another and with the library's instructions; the same of the second library, for processors with AVX2; and the versions of all packages. The header is then compiled, alone, by each
 compiler that is found. The packages for C and Python are made by the modules of tools/packages in a temporary folder, installed as
 their users would, and tested there by checks/from_c.py and checks/from_python.py, and so is that for Rust by checks/from_rust.py. Each export
-has to be called in C's tests, and to have a test of its name in the other two, but for columns and what belongs to them, which
-Python's module of columns calls. The examples of the READMEs are run too, and the uses that README.md shows have to stand in them. checks/cells.py has an
+has to be called in C's tests, and to have a test of its name in the other two, but for what is for C alone, and for columns and
+what belongs to them, which Python's module of columns calls. The examples of the READMEs are run too, and the uses that README.md shows have to stand in them. checks/cells.py has an
 example of each cell of the table of layers.
 """
 import os
@@ -45,8 +45,12 @@ TYPES = {
     "uint8_t *": "*mut u8", "const uint8_t *": "*const u8", "uint16_t *": "*mut u16",
     "int32_t *": "*mut i32", "const int32_t *": "*const i32", "int64_t *": "*mut i64", "const int64_t *": "*const i64",
     "Moment": "calendar_date_time", "Span": "calendar_duration", "Ymd": "calendar_ymd",
-    "CalendarDateTime": "calendar_date_time", "CalendarDuration": "calendar_duration", "CalendarYmd": "calendar_ymd",
+    "CalendarDateTime": "calendar_date_time", "CalendarDuration": "calendar_duration", "CalendarTimeOfDay": "calendar_time",
+    "CalendarYmd": "calendar_ymd",
 }
+
+# What stands in calendar.h for C alone: the packages have times of day, durations and versions of their own.
+FOR_C = r"calendar_(?:time|duration_(?:add|multiply|divide)|date_time_time|(?:read|write)_(?:time|duration)|version)"
 
 # Columns, and the struct of a date's names. The tests of Python and JavaScript name none of these.
 COLUMNS = r"calendar_(?:column_\w+|split|ymd)"
@@ -161,19 +165,24 @@ def compare(results, what, wanted, found):
         results.count(one == other, f"{what}: {name} is {other}, and in calendar.h {one}")
 
 
+def for_packages(found):
+    """What of the header is not for C alone, by name."""
+    return {name: it for name, it in found.items() if not re.fullmatch(FOR_C, name)}
+
+
 def compare_declarations(results, header):
     compare(results, "exports of crates/calendar_c", header, of_rattle())
-    compare(results, "declarations of languages/rust", header, of_crate())
+    compare(results, "declarations of languages/rust", for_packages(header), of_crate())
     fields = structs("c", HEADER)
     results.count(len(fields) == read(HEADER).count("typedef struct {"), f"calendar.h has the structs {sorted(fields)}")
     compare(results, "structs of crates/calendar_c", fields, structs("rust", *sources(CRATE), *sources(NUMBERS)))
-    compare(results, "structs of languages/rust", fields, structs("rust", DECLARATIONS))
+    compare(results, "structs of languages/rust", for_packages(fields), structs("rust", DECLARATIONS))
 
 
 def compare_safety(results, header):
     """The Rust crate calls a function safe exactly if it takes no pointer."""
     safe = set(re.findall(r"\bsafe fn (calendar_\w+)\(", read(DECLARATIONS)))
-    for name, (_, parameters) in header.items():
+    for name, (_, parameters) in for_packages(header).items():
         takes_pointer = any(kind.startswith("*") for kind, _ in parameters)
         what = "is safe, and takes a pointer" if takes_pointer else "is not safe, and takes no pointer"
         results.count((name in safe) != takes_pointer, f"declarations of languages/rust: {name} {what}")
@@ -235,7 +244,7 @@ def compare_uses(results, header):
         names = [it for it in os.listdir(f"{LANGUAGES}/{folder}") if it.endswith((".c", ".py", ".rs"))]
         text = "\n".join(read(f"{LANGUAGES}/{folder}/{it}") for it in names)
         is_whole = not folder.startswith("python")
-        for name in (it for it in header if is_whole or not re.fullmatch(COLUMNS, it)):
+        for name in (it for it in (header if folder == "c" else for_packages(header)) if is_whole or not re.fullmatch(COLUMNS, it)):
             used = pattern.format(name=name, short=name.removeprefix("calendar_"))
             results.count(re.search(used, text), f"{language}: there is none for {name}")
 

@@ -4,11 +4,12 @@
     checks/layers_c.py [ROUNDS]
 
 It takes or builds the static library as checks/languages.py does. Compared are the functions of the header, with results and parameters, the structs and their fields, and the symbols of the
-library. The test in C has to use each constant of the header, beside what the library makes of it. languages/c/test_layers.c is compiled by each compiler that is found, and run plainly, under valgrind and with
-sanitizers. checks/layers_random.c calls each function with random arguments, 2,000 rounds or so many, in the same three ways.
+library. The test in C has to use each constant of the header, beside what the library makes of it. languages/c/test_layers.c is compiled by each compiler that is found, and run plainly, on a small stack,
+under valgrind and with sanitizers. checks/layers_random.c calls each function with random arguments, 2,000 rounds or so many, in the same three ways.
 """
 import os
 import re
+import resource
 import shutil
 import subprocess
 import sys
@@ -28,6 +29,8 @@ COMPILERS = {
     "gcc": ["gcc", "-std=c99", *WARNINGS], "clang": ["clang", "-std=c99", *WARNINGS],
     "g++": ["g++", "-std=c++17", *WARNINGS, "-Wno-missing-field-initializers", "-x", "c++"],
 }
+# The stack of a test: the 64 KB that the header says, and what the program takes besides.
+STACK = 96 * 1024
 SANITIZERS = ["-fsanitize=address,undefined", "-fno-sanitize-recover=all", "-g"]
 TYPES = {
     "int32_t": "i32", "int64_t": "i64", "uint8_t": "u8", "uint32_t": "u32", "uint64_t": "u64", "size_t": "usize",
@@ -115,10 +118,17 @@ def compare_all(results, library):
     results.count(exported == set(declared), f"symbols: {sorted(exported ^ set(declared))}")
     test, random = read(TEST), read(RANDOM)
     for name in declared:
-        results.count(f"{name}(" in test, f"test_layers.c does not call {name}")
-        results.count(f"{name}(" in random, f"layers_random.c does not call {name}")
+        # (a function is called, or given to one that calls it)
+        used = rf"\b{name}[(,;]"
+        results.count(re.search(used, test), f"test_layers.c does not call {name}")
+        results.count(re.search(used, random), f"layers_random.c does not call {name}")
     for name in constants_of_header(text):
         results.count(re.search(rf"\b{name}\b", test), f"test_layers.c does not use {name}")
+
+
+def bound_stack():
+    """Gives the program that starts no more than STACK."""
+    resource.setrlimit(resource.RLIMIT_STACK, (STACK, STACK))
 
 
 def run_program(results, room, library, source, words):
@@ -127,6 +137,8 @@ def run_program(results, room, library, source, words):
     for compiler, how in COMPILERS.items():
         if shutil.which(compiler) and succeeds(results, [*how, *given, "-o", f"{room}/plain"]) is not None:
             run(results, f"{name} by {compiler}", [f"{room}/plain", *words], COUNTS)
+            if not words:
+                run(results, f"{name} by {compiler} on a small stack", [f"{room}/plain"], COUNTS, env={}, preexec_fn=bound_stack)
     if shutil.which("valgrind"):
         slower = [words[0], str(int(words[1]) // 20)] if words else []
         run(results, f"{name} under valgrind", ["valgrind", "-q", "--error-exitcode=9", f"{room}/plain", *slower], COUNTS)

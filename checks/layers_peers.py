@@ -12,12 +12,14 @@ a month that is too short for the days listed. As many cases count and move open
 As many cases are instants and local times in the zones of this machine, half of them near a change. In a tenth of them the zone is the
 rule at the end of its file, and the time a late one.
 
-A tenth as many are recurrence rules, whose first 20 instances in 30 years have to be dateutil's. No case has BYWEEKNO without BYDAY,
-BYSETPOS in weeks, or weekdays of which some have numbers: there dateutil departs from RFC 5545.
+As many cases are recurrence rules with a start each. Their first 20 instances in 30 years have to be dateutil's, which a process on each
+processor looks for. No case has BYWEEKNO without BYDAY, BYSETPOS in weeks, or weekdays of which some have numbers: there dateutil
+departs from RFC 5545.
 """
 import ctypes
 import datetime
 import itertools
+import multiprocessing
 import os
 import random
 import sys
@@ -42,6 +44,7 @@ except ImportError:
 EPOCH = datetime.datetime(1970, 1, 1)
 RANGES = ((0, 59), (0, 23), (1, 31), (1, 12), (0, 6))
 WEEKDAYS = ("MO", "TU", "WE", "TH", "FR", "SA", "SU")
+INSTANCES = 20
 
 
 class Moment(ctypes.Structure):
@@ -235,18 +238,28 @@ def rule(numbers):
     return ";".join(parts)
 
 
+def rule_peer(given):
+    """The first instances by dateutil of a rule from its start to a day, as numbers of days."""
+    text, start, until = given
+    # (COUNT beside UNTIL, which no text of a rule has)
+    warnings.simplefilter("ignore", DeprecationWarning)
+    found = rrule.rrulestr(text, dtstart=start).replace(until=until)
+    return [it.toordinal() for it in itertools.islice(found, INSTANCES)]
+
+
 def test_rules(results, library, numbers, cases):
     """The first instances of rules beside dateutil's."""
     library.calendar_rule_instances.restype = ctypes.c_size_t
-    out = (ctypes.c_int32 * 20)()
+    out, room = (ctypes.c_int32 * INSTANCES)(), ctypes.c_size_t(INSTANCES)
+    given = []
     for _ in range(cases):
         text, start = rule(numbers), EPOCH + datetime.timedelta(days=numbers.randrange(10_000, 30_000))
-        until = start + datetime.timedelta(days=11_000)
-        theirs = itertools.islice(rrule.rrulestr(text, dtstart=start).replace(until=until), 20)
-        theirs = [it.toordinal() for it in theirs]
-        days = start.toordinal(), start.toordinal(), until.toordinal()
-        found = library.calendar_rule_instances(text.encode(), ctypes.c_size_t(len(text)), *days, out, ctypes.c_size_t(20))
-        results.count(out[:found] == theirs, f"{text} from {start}: {out[:found]}, dateutil has {theirs}")
+        given.append((text, start, start + datetime.timedelta(days=11_000)))
+    with multiprocessing.Pool() as processes:
+        for (text, start, until), theirs in zip(given, processes.imap(rule_peer, given, 50)):
+            days = start.toordinal(), start.toordinal(), until.toordinal()
+            found = library.calendar_rule_instances(text.encode(), ctypes.c_size_t(len(text)), *days, out, room)
+            results.count(out[:found] == theirs, f"{text} from {start}: {out[:found]}, dateutil has {theirs}")
 
 
 def main():
@@ -264,9 +277,7 @@ def main():
             print(f"{left_out} answers on schedules were left out")
             test_open_days(results, library, numbers, cases)
             test_zones(results, library, numbers, cases)
-            # (COUNT beside UNTIL, which no text of a rule has)
-            warnings.simplefilter("ignore", DeprecationWarning)
-            test_rules(results, library, numbers, cases // 10)
+            test_rules(results, library, numbers, cases)
     print(f"{results.passed} passed, {results.failed} failed")
     return 1 if results.failed else 0
 

@@ -59,12 +59,28 @@ static void fill(void *place, size_t length)
 }
 
 /* Whether a function tells a fault of a reader, in so many bytes. */
-static bool is_told(int32_t (*tell)(const calendar_fault *, uint8_t *, size_t), const calendar_fault *fault, size_t room)
+typedef int32_t Teller(const calendar_fault *fault, uint8_t *text, size_t room);
+
+static bool is_told(Teller *tell, const calendar_fault *fault, size_t room)
 {
     uint8_t *said = bytes(room);
     int32_t written = tell(fault, said, room);
     free(said);
     return written > 0 && (size_t)written <= room;
+}
+
+/* Tells of a fault with one of the first codes, of any field and byte, in any room. */
+static void any_fault(Teller *tell, uint32_t codes)
+{
+    calendar_fault fault;
+    fill(&fault, sizeof fault);
+    fault.code = (uint32_t)(any() % codes);
+    fault.field = any() % 4 ? (uint32_t)(any() % 16) : fault.field;
+    size_t room = any() % 110;
+    uint8_t *said = bytes(room);
+    int32_t written = tell(&fault, said, room);
+    HOLDS(written == CALENDAR_NONE || (written > 0 && (size_t)written <= room));
+    free(said);
 }
 
 /* A date-time of the calendar, or now and then any two numbers. */
@@ -106,13 +122,7 @@ static void schedule_texts(void)
         HOLDS(is_told(calendar_schedule_fault_text, &fault, 99));
     }
     free(given);
-    fill(&fault, sizeof fault);
-    fault.code = (uint32_t)(any() % 20);
-    size_t room = any() % 100;
-    uint8_t *said = bytes(room);
-    int32_t written = calendar_schedule_fault_text(&fault, said, room);
-    HOLDS(written == CALENDAR_NONE || (written > 0 && (size_t)written <= room));
-    free(said);
+    any_fault(calendar_schedule_fault_text, 20);
 }
 
 static void schedules(void)
@@ -239,14 +249,7 @@ static void rules(void)
     }
     free(out);
     free(given);
-    fill(&fault, sizeof fault);
-    fault.code = (uint32_t)(any() % 40);
-    fault.field = (uint32_t)(any() % 16);
-    room = any() % 70;
-    uint8_t *said = bytes(room);
-    int32_t told = calendar_rule_fault_text(&fault, said, room);
-    HOLDS(told == CALENDAR_NONE || (told > 0 && (size_t)told <= room));
-    free(said);
+    any_fault(calendar_rule_fault_text, 40);
 }
 
 static void known_holidays(void)
@@ -256,11 +259,16 @@ static void known_holidays(void)
     int32_t first = any() % 8 ? 1960 + (int32_t)(any() % 100) : (int32_t)any() / 4, last = first + (int32_t)(any() % 20) - 1;
     uint8_t weekend = any() % 2 ? 96 : (uint8_t)any();
     calendar_fault fault = {0, 0, 0, 0};
-    int32_t found = calendar_holidays_of((uint32_t)(any() % 4), first, last, weekend, days, room);
+    int32_t found = calendar_holidays_of((uint32_t)(any() % 8), first, last, weekend, days, room);
     HOLDS(found == CALENDAR_NONE || (found >= 0 && (size_t)found <= room && calendar_holidays_check(weekend, days, (size_t)found, &fault)));
     HOLDS(fault.code == 0);
     int32_t year = any() % 2 ? first : (int32_t)any(), easter = calendar_easter(year);
     HOLDS(easter == CALENDAR_NONE || (((int64_t)easter % 7) + 7) % 7 == 0);
+    for (size_t i = 0; i < room; i++) {
+        days[i] = date();
+    }
+    HOLDS(calendar_holidays_check(weekend, days, room, &fault) || is_told(calendar_holidays_fault_text, &fault, 63));
+    any_fault(calendar_holidays_fault_text, 6);
     free(days);
 }
 
@@ -336,6 +344,8 @@ static void patterns(void)
     int32_t day = date(), parsed = calendar_parse_date(given, length, random, text_length, &other);
     HOLDS(is_pattern || (parsed == CALENDAR_NONE && other.code == fault.code && other.byte == fault.byte));
     HOLDS((parsed == CALENDAR_NONE) == (other.code != 0));
+    HOLDS(parsed != CALENDAR_NONE || is_told(calendar_pattern_fault_text, &other, 73));
+    any_fault(calendar_pattern_fault_text, 12);
     int32_t written = calendar_format_date(given, length, day, out, room);
     HOLDS(written == CALENDAR_NONE || (is_pattern && written >= 0 && (size_t)written <= room));
     if (written != CALENDAR_NONE) {
@@ -481,13 +491,7 @@ static void zones(void)
         HOLDS(is_moment(back) && !is_before(back, last) && !is_before(start, back));
     }
     free(given);
-    fill(&fault, sizeof fault);
-    fault.code = (uint32_t)(any() % 20);
-    size_t room = any() % 70;
-    uint8_t *said = bytes(room);
-    int32_t told = calendar_zone_fault_text(&fault, said, room);
-    HOLDS(told == CALENDAR_NONE || (told > 0 && (size_t)told <= room));
-    free(said);
+    any_fault(calendar_zone_fault_text, 20);
 }
 
 /* Lines of calendars, and what is none of them. */
@@ -550,10 +554,7 @@ static void calendars(void)
     uint8_t *said = bytes(room);
     int32_t named = calendar_text_zone(given, length, said, room);
     HOLDS(named == CALENDAR_NONE || (named > 0 && (size_t)named <= room));
-    fill(&fault, sizeof fault);
-    fault.code = (uint32_t)(any() % 30);
-    int32_t told = calendar_text_fault_text(&fault, said, room);
-    HOLDS(told == CALENDAR_NONE || (told > 0 && (size_t)told <= room));
+    any_fault(calendar_text_fault_text, 30);
     free(said);
     free(place);
     free(given);
@@ -572,6 +573,8 @@ static void timed_schedules(void)
     calendar_fault fault = {0, 0, 0, 0};
     bool is_schedule = calendar_timed_schedule_check(given, length, dialect, &fault);
     HOLDS(is_schedule ? fault.code == 0 : (fault.code || dialect > 2) && fault.byte <= fault.end && fault.end <= length);
+    HOLDS(fault.code == 0 || is_told(calendar_timed_schedule_fault_text, &fault, 99));
+    any_fault(calendar_timed_schedule_fault_text, 20);
     calendar_date_time start = moment();
     calendar_date_time next = calendar_timed_schedule_next(given, length, dialect, start);
     calendar_date_time last = calendar_timed_schedule_prev(given, length, dialect, start);
@@ -585,7 +588,7 @@ static void versions(void)
 {
     size_t room = any() % 9;
     uint8_t *said = bytes(room);
-    HOLDS((calendar_version(said, room) == CALENDAR_NONE) == (room < strlen(CALENDAR_VERSION)));
+    HOLDS((calendar_layers_version(said, room) == CALENDAR_NONE) == (room < strlen(CALENDAR_VERSION)));
     free(said);
 }
 

@@ -66,7 +66,7 @@ TEXTS = [
 # What an error of a schedule says of each field and of each fault, and an error of a rule of each part and of each fault.
 FIELDS = {"Minute": "minute", "Hour": "hour", "Day": "day of the month", "Month": "month", "Weekday": "weekday"}
 SCHEDULE_FAULTS = {
-    "Empty": "nothing stands there", "TooFewFields": "fewer than five fields", "TooManyFields": "more than five fields",
+    "Empty": "nothing stands there", "TooFewFields": "too few fields", "TooManyFields": "too many fields",
     "UnknownNickname": "an unknown nickname", "Interval": "an interval, which is no schedule",
     "Reboot": "the start of a machine, which is no schedule", "TimeZone": "a time zone, which no schedule has",
     "UnknownName": "an unknown name", "LongName": "a name of more than three letters", "NotANumber": "no number of one digit or two",

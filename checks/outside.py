@@ -79,6 +79,17 @@ def put_program(room, name, uses, source, kit=()):
     return folder
 
 
+def build_proved(room, folder, uses):
+    """Proves and builds a program that was put into a repository, over what is proved of its libraries here; the path of what is built."""
+    if not take_proved(room, all_below(uses, listed_crates())):
+        sys.exit(f"not all libraries are proved that {', '.join(uses)} stand on: `rt lib` in their folders proves them")
+    built = subprocess.run(["rt", "run", "--jobs", "1"], cwd=folder, stdin=subprocess.DEVNULL, stdout=subprocess.PIPE, stderr=subprocess.STDOUT, text=True)
+    program = f"{folder}/out/{os.path.basename(folder)}"
+    if not os.path.isfile(program):
+        sys.exit(built.stdout[-3000:])
+    return program
+
+
 def answers_in_parts(room, folder, lines, most):
     """What a program answers to lines, behind `= ` each. It is built once, and runs for each part of at most so many lines.
 

@@ -342,8 +342,8 @@ ERRORS = (
     ("quartz", "? 0 12 * * ?", "second, byte 0: no number of one digit or two"),
     ("quartz", "0 0/0 12 * * ?", "minute, byte 4: a step of 0"),
     ("quartz", "0 0 12 * JANUARY ?", "month, byte 9: a name of more than three letters"),
-    ("quartz", "0 0 12 * *", "byte 10: fewer than five fields"),
-    ("quartz", "0 0 12 * * ? 2024 1", "byte 18: more than five fields"),
+    ("quartz", "0 0 12 * *", "byte 10: too few fields"),
+    ("quartz", "0 0 12 * * ? 2024 1", "byte 18: too many fields"),
     ("quartz", "@daily", "byte 0: an unknown nickname"),
     ("quartz", "60 61 24 32 13 8 1", "second, byte 0: a number that is out of range"),
     *((dialect, f"{front} 0 0 12 * * ?", f"byte 0: {fault}") for dialect in ("quartz", "seconds")

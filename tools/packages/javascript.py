@@ -22,11 +22,13 @@ from . import LICENCES, Missing, version
 # A module of WebAssembly: the crate that it is made of, where it is kept, and what it leaves out: modules of the crate, and the libraries
 # below them. (`rt lib` of the static library takes away a module of the crate's own name.)
 Module = collections.namedtuple("Module", "crate kept left_out below_left_out")
-# By the source that holds it. C alone uses a date's names as a struct, and who uses no columns loads none of them.
+# The modules of calendar_c that C alone uses.
+FOR_C = ("durations", "split", "times", "versions")
+# By the source that holds it. Who uses no columns loads none of them.
 MODULES = {
-    "module": Module("calendar_c", "crates/calendar_c/out/calendar.wasm", ("columns", "split"), ("chrono_columns",)),
+    "module": Module("calendar_c", "crates/calendar_c/out/calendar.wasm", ("columns", *FOR_C), ("chrono_columns",)),
     "columns_module": Module(
-        "calendar_c", "crates/calendar_c/out/columns.wasm", ("date_times", "fields", "moves", "names", "split", "texts", "weekdays"), ()
+        "calendar_c", "crates/calendar_c/out/columns.wasm", ("date_times", "fields", "moves", "names", "texts", "weekdays", *FOR_C), ()
     ),
     "layers_module": Module("layers_c", "crates/layers_c/out/layers_with_columns.wasm", (), ()),
 }

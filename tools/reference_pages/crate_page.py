@@ -128,7 +128,7 @@ class CratePage:
         """Puts the traits of a type in a line."""
         if entry.item.kind == "trait":
             return
-        derived = [name for it in entry.item.attributes for name in re.findall(r"\w+", it.removeprefix("derive")) if it.startswith("derive")]
+        derived = [name for it in entry.item.attributes for name in re.findall(r"\w+", re.sub(r"^derive(_where)?", "", it)) if it.startswith("derive")]
         found = [f"`{it}`" for it in derived if it != "Drop"]
         for trait, _, source in self.crate.traits_of(entry.item.name):
             home = self.library.find(self.crate.name, source, "", sources.without_generics(trait))

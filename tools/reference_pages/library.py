@@ -61,7 +61,7 @@ class Crate:
                 self.modules[module] = Source(module, path, sources.lines_above(text, "//!"), items, imports)
         self.entries, self.passed = {}, {}
         self.read("", "")
-        if name == "calendar_c":
+        if name in ("calendar_c", "layers_c"):
             self.read_exported()
         self.blocks = self.read_blocks()
 
