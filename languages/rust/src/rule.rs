@@ -224,3 +224,29 @@ impl Iterator for RuleDays<'_> {
 }
 
 impl FusedIterator for RuleDays<'_> {}
+
+#[cfg(test)]
+mod tests {
+    use super::*;
+
+    /// How often the library is asked while all days are listed.
+    fn searches(mut days: RuleDays<'_>) -> usize {
+        let mut count = 0;
+        loop {
+            if days.given == days.found.len() && days.room > 0 {
+                count += 1;
+            }
+            if days.next().is_none() {
+                return count;
+            }
+        }
+    }
+
+    #[test]
+    fn long_lists_take_few_searches() {
+        let counted: Rule = "FREQ=DAILY;COUNT=50000".parse().unwrap();
+        assert_eq!(searches(counted.instances(Date::UNIX_EPOCH)), 6);
+        let other: Rule = "FREQ=DAILY;UNTIL=19700430".parse().unwrap();
+        assert_eq!(searches(other.instances(Date::UNIX_EPOCH)), 5);
+    }
+}
