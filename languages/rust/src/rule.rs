@@ -244,9 +244,13 @@ mod tests {
 
     #[test]
     fn long_lists_take_few_searches() {
-        let counted: Rule = "FREQ=DAILY;COUNT=50000".parse().unwrap();
-        assert_eq!(searches(counted.instances(Date::UNIX_EPOCH)), 6);
-        let other: Rule = "FREQ=DAILY;UNTIL=19700430".parse().unwrap();
-        assert_eq!(searches(other.instances(Date::UNIX_EPOCH)), 5);
+        for (text, count) in [
+            ("FREQ=DAILY;COUNT=50000", 6),
+            ("count=50000;freq=daily", 6),
+            ("FREQ=DAILY;UNTIL=19700430", 5),
+        ] {
+            let rule: Rule = text.parse().unwrap();
+            assert_eq!(searches(rule.instances(Date::UNIX_EPOCH)), count);
+        }
     }
 }
