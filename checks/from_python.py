@@ -10,7 +10,7 @@ import sys
 
 import cells
 from results import LANGUAGES, TOP, read, run, succeeds
-from wrong_lines import edits, planted
+from wrong_lines import planted, tried
 
 sys.path.insert(0, f"{TOP}/tools")
 import packages  # noqa: E402
@@ -229,16 +229,23 @@ def test_wrong_lines(results, room, libraries):
     right_objects = [f"{right}/src/{it}.o" for it in names]
     every = (*ALONE, *dict.fromkeys(it for path in TESTS_OF for it in tests_of(path)))
     results.count(not said and not fails(right, right_objects, libraries, every), "a test fails over right lines")
-    for number, edit in enumerate(edits("python")):
+
+    def attempt(place, edit):
+        """Whether a wrong line is found, and what the compiler says; None if it cannot be tried."""
         tests, changed = tests_of(edit[0]), os.path.basename(edit[0])
         if not tests:
-            print(f"not run: the wrong line {edit[2]!r} in {edit[0]}, since Debian's Python has not what its tests need")
-            continue
-        folder = planted("python", f"{room}/wrong_{number}", edit)
+            return None
+        folder = planted("python", f"{place}/planted", edit)
         compiled = names if changed.endswith(".h") else [changed] if changed.endswith(".c") else []
         said = compile_c(folder, compiled, flags)
         objects = [f"{folder if it in compiled else right}/src/{it}.o" for it in names]
-        results.count(not said and fails(folder, objects, libraries, tests), f"no test in Python fails with {edit[2]!r} in {edit[0]} {said}")
+        return not said and fails(folder, objects, libraries, tests), said
+
+    for edit, found in tried("python", room, attempt):
+        if found is None:
+            print(f"not run: the wrong line {edit[2]!r} in {edit[0]}, since Debian's Python has not what its tests need")
+            continue
+        results.count(found[0], f"no test in Python fails with {edit[2]!r} in {edit[0]} {found[1]}")
 
 
 def test(results, room, library, layers):

@@ -18,7 +18,7 @@ import cells
 import chrono_docs
 import layers_c
 from results import is_older, read, run
-from wrong_lines import edits, planted
+from wrong_lines import planted, tried
 
 TOP = os.path.dirname(os.path.dirname(os.path.abspath(__file__)))
 sys.path.insert(0, f"{TOP}/tools")
@@ -42,6 +42,8 @@ STRUCTS = {
 }
 NOT_USED = ("calendar_layers_version",)
 COUNTS = (r"test result: .*? (\d+) passed", r"test result: .*? (\d+) failed")
+# The tests of the project and those inside the package.
+TESTING = ["cargo", "test", "--offline", "--tests", "-p", "user", "-p", "proved-calendar"]
 
 PROJECT = """\
 [package]
@@ -175,17 +177,22 @@ def test_missing(results, room, package):
 LONGEST = "240"
 
 
+def try_wrong_line(room, built, edit):
+    """Whether a wrong line in the wrapper is found by the tests, and what they print."""
+    package = f"{room}/package"
+    rust.make_package(TOP, planted("rust", f"{room}/planted", edit), built, package)
+    words = ["timeout", LONGEST, *TESTING, "--quiet", "--no-fail-fast"]
+    project = make_project(f"{room}/project", package, TESTS)
+    ran = subprocess.run(words, cwd=project, env=environment(room), stdout=subprocess.PIPE, stderr=subprocess.STDOUT, text=True)
+    # (timeout ends with the status 124)
+    return "test result: FAILED" in ran.stdout or ran.returncode == 124, ran.stdout[-1500:]
+
+
 def try_wrong_lines(results, room, built):
     """Each wrong line in the wrapper fails its tests, which are built, or keeps them from ending."""
-    package, found = f"{room}/planted-package", 0
-    project = make_project(f"{room}/planted-project", package, TESTS)
-    for number, edit in enumerate(edits("rust"), 1):
-        rust.make_package(TOP, planted("rust", f"{room}/planted", edit), built, package)
-        words = ["timeout", LONGEST, "cargo", "test", "--offline", "--quiet", "--no-fail-fast", "--tests"]
-        ran = subprocess.run(words, cwd=project, env=environment(room), stdout=subprocess.PIPE, stderr=subprocess.STDOUT, text=True)
-        # (timeout ends with the status 124)
-        is_found = "test result: FAILED" in ran.stdout or ran.returncode == 124
-        results.count(is_found, f"wrong line {number} of languages/rust is not found: {edit}\n{ran.stdout[-1500:]}")
+    found = 0
+    for number, (edit, (is_found, said)) in enumerate(tried("rust", room, lambda place, it: try_wrong_line(place, built, it)), 1):
+        results.count(is_found, f"wrong line {number} of languages/rust is not found: {edit}\n{said}")
         found += is_found
     print(f"wrong lines in Rust: {found} found", flush=True)
     results.count(found >= 10, "languages/rust has fewer than ten wrong lines that its tests find")
@@ -211,7 +218,7 @@ def test(results, room, library, layers):
         print(f"not run: the features of the Rust crate, since there is no {REGISTRY}/{missing[0]}")
     tests, features = (TESTS, ()) if missing else (TESTS + FEATURE_TESTS, FEATURES)
     project = make_project(f"{room}/project", package, tests, features)
-    words = ["cargo", "test", "--offline", "--tests", *([] if missing else FROM_DEBIAN)]
+    words = [*TESTING, *([] if missing else FROM_DEBIAN)]
     run(results, "cargo test", words, COUNTS, cwd=project, env=environment(room))
     test_examples(results, room, package)
     chrono_docs.test(results, room, package, environment(room))

@@ -40,7 +40,7 @@ import languages
 import layers_c
 import zoned_schedules
 from results import Results, is_older, read
-from wrong_lines import edits, planted
+from wrong_lines import planted, tried
 
 TOP = os.path.dirname(os.path.dirname(os.path.abspath(__file__)))
 sys.path.insert(0, f"{TOP}/tools")
@@ -271,11 +271,14 @@ def compare_peers(results, project):
 
 def try_wrong_lines(results, room, bytes_of_modules):
     """Each wrong line in the wrapper fails its tests."""
+
+    def attempt(place, edit):
+        folder = planted("javascript", f"{place}/planted", edit)
+        package = javascript.make_package(TOP, folder, bytes_of_modules, f"{place}/package")
+        return run_tests(make_project(f"{place}/project", package))[:2]
+
     found = 0
-    for number, edit in enumerate(edits("javascript"), 1):
-        folder = planted("javascript", f"{room}/planted", edit)
-        package = javascript.make_package(TOP, folder, bytes_of_modules, f"{room}/planted-package")
-        passed, failed, _ = run_tests(make_project(f"{room}/planted-project", package))
+    for number, (edit, (passed, failed)) in enumerate(tried("javascript", room, attempt), 1):
         results.count(failed, f"wrong line {number} of languages/javascript passes all {passed} tests: {edit}")
         found += bool(failed)
     print(f"wrong lines in the wrapper: {found} found", flush=True)

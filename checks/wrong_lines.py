@@ -3,6 +3,7 @@
 They stand in `languages/NAME/wrong_lines.txt` in blocks of three lines with an empty line between: `file: src/date.c`, the path below
 `languages/NAME`; `old: TEXT`, which stands in that file once; `new: TEXT`.
 """
+import concurrent.futures
 import os
 import re
 import shutil
@@ -33,3 +34,17 @@ def planted(language, folder, edit):
     with open(f"{folder}/{path}", "w", encoding="utf-8") as it:
         it.write(text.replace(old, new))
     return folder
+
+
+def tried(language, room, attempt):
+    """Each wrong line with what `attempt(ROOM, EDIT)` says of it. The processors share the lines, and each has a room of its own."""
+    wrong, count = list(edits(language)), os.cpu_count() or 1
+
+    def some(first):
+        place = f"{room}/wrong_{first}"
+        os.makedirs(place)
+        return [attempt(place, edit) for edit in wrong[first::count]]
+
+    with concurrent.futures.ThreadPoolExecutor(count) as workers:
+        shares = list(workers.map(some, range(count)))
+    return [(edit, shares[number % count][number // count]) for number, edit in enumerate(wrong)]
