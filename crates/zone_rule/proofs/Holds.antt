@@ -27,11 +27,11 @@ ends_in_order offset d known y z = changes_in_order d.offset offset d.ends d.beg
 
 -- ---- which came last
 
-told : (b : Bool) (x z : ℤ) → (b ≡ true → z <ℤ x) → (b ≡ false → x <ℤ z) → b ≡ int_le z x
+pub told : (b : Bool) (x z : ℤ) → (b ≡ true → z <ℤ x) → (b ≡ false → x <ℤ z) → b ≡ int_le z x
 told true x z h i = let lt = h refl in sym (int_le-below z x (omega (arith, signed, lt)))
 told false x z h i = sym (int_le-above z x (i refl))
 
-told_not : (b : Bool) (x z : ℤ) → (b ≡ true → x <ℤ z) → (b ≡ false → z <ℤ x) → not b ≡ int_le z x
+pub told_not : (b : Bool) (x z : ℤ) → (b ≡ true → x <ℤ z) → (b ≡ false → z <ℤ x) → not b ≡ int_le z x
 told_not true x z h i = sym (int_le-above z x (h refl))
 told_not false x z h i = let lt = i refl in sym (int_le-below z x (omega (arith, signed, lt)))
 

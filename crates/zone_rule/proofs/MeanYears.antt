@@ -1,19 +1,22 @@
 -- Changes by mean years.
-use Rattle.std.proofs.Common.{◌≡◌, ℕ, ◌+◌, ◌<◌, ℤ, pos, neg_ℤ, ◌+ℤ◌, ◌-ℤ◌, ◌*ℤ◌, ◌≤ℤ◌, ◌<ℤ◌, true, false, int_le, unsigned_abs, to_z, of_z, w64, SFits, ◌⊎◌, ⊎_elim, refl, sym, ap, ◌∙◌, arith}
+use Rattle.std.proofs.Common.{◌≡◌, ℕ, ◌+◌, ◌<◌, ℤ, pos, neg_ℤ, ◌+ℤ◌, ◌-ℤ◌, ◌*ℤ◌, ◌≤ℤ◌, ◌<ℤ◌, Bool, true, false, not, int_le, unsigned_abs, to_z, of_z, w32, w64, SFits, ◌⊎◌, ⊎_elim, refl, sym, ap, ◌∙◌, arith}
 use Rattle.std.specs.Int.{int_div_euclid, int_min, int_rem_euclid}
+use Rattle.std.proofs.lemmas.Bool.{true≢false}
 use Rattle.std.proofs.lemmas.Int.{by_lt_z, int_min_is, to_z-of_z}
 use Rattle.chrono_units.specs.Years.{IsYear}
 use Rattle.chrono_clock.proofs.TimeLemmas.{int_le-above, int_le-below}
 use Rattle.chrono_calendar.specs.Days.{days_before_year}
-use Rattle.chrono_calendar.proofs.Signed.{signed}
+use Rattle.chrono_calendar.proofs.Signed.{casts, signed}
 use Rattle.chrono_calendar.proofs.Years.{days_before_year-closed}
 use Rattle.chrono_zoned.specs.Offsets.{IsOffset}
 use Rattle.zone_rule.specs.Changes.{IsChange, LiesWithin, YearlyChange, change_second, day_in_year, last_by, window_high, window_low, year_of_second}
-use Rattle.zone_rule.specs.Private.{ComesWithin}
+use Rattle.zone_rule.specs.Private.{ComesWithin, IsLastOfTwo}
 use Rattle.zone_rule.specs.RuleDays.{days_later, least_place}
 use Rattle.zone_rule.specs.Rules.{is_daylight}
+use Rattle.zone_rule.specs.declared.mean_year.Past.{Past}
 use Rattle.zone_rule.specs.declared.rule.Daylight.{Daylight}
 use Rattle.zone_rule.proofs.Carried.{carried, fits}
+use Rattle.zone_rule.proofs.Holds.{told, told_not}
 use Rattle.zone_rule.proofs.LastChanges.{last_by-some}
 use Rattle.zone_rule.proofs.LastOfAll.{behind, change_second-later, last_change}
 
@@ -56,8 +59,8 @@ unfolding window_high
 window_high-is c = refl
 
 -- of a second the mean year's number tells which change it is
-pub comes_within : (f : ℤ → ℤ) (second place low high back l h : ℤ) → LiesWithin f low high → pos 0 ≤ℤ second → second ≤ℤ pos 12_622_867_200 → place ≡ int_rem_euclid second (pos 31_556_952) → (k : ℤ) → back ≡ k *ℤ pos 31_556_952 → pos 0 ≤ℤ k → k ≤ℤ pos 1 → l ≡ low -ℤ back → h ≡ high -ℤ back → ComesWithin f (second -ℤ place) l h
-comes_within f second place low high back l h lies first last at k is least most is_l is_h =
+pub comes_within : (f : ℤ → ℤ) (second place low high k : ℤ) (p : Past) → LiesWithin f low high → pos 0 ≤ℤ second → second ≤ℤ pos 12_622_867_200 → place ≡ int_rem_euclid second (pos 31_556_952) → pos 0 ≤ℤ k → k ≤ℤ pos 1 → p.low ≡ low -ℤ k *ℤ pos 31_556_952 → p.high ≡ high -ℤ k *ℤ pos 31_556_952 → p.year ≡ pos 1_970 +ℤ int_div_euclid second (pos 31_556_952) -ℤ k → ComesWithin f (second -ℤ place) p
+comes_within f second place low high k p lies first last at least most is_l is_h is_y =
     let n : ℤ = int_div_euclid second (pos 31_556_952) -ℤ k in
     let begin : (second -ℤ place) ≡ int_div_euclid second (pos 31_556_952) *ℤ pos 31_556_952 = omega (arith, signed, at) in
     let after : neg_ℤ (pos 70) ≤ℤ n = omega (arith, signed, first, most) in
@@ -65,12 +68,17 @@ comes_within f second place low high back l h lies first last at k is least most
     let not_before = lies.not_before n after (omega (arith, signed, before)) in
     let not_behind = lies.not_behind n after (omega (arith, signed, before)) in
     let next = lies.not_before (n +ℤ pos 1) (omega (arith, signed, after)) (omega (arith, signed, before)) in
-    let same : f (pos 1_970 +ℤ (n +ℤ pos 1)) ≡ f (pos 1_970 +ℤ n +ℤ pos 1) = ap f (omega (arith, signed)) in
+    let next_behind = lies.not_behind (n +ℤ pos 1) (omega (arith, signed, after)) (omega (arith, signed, before)) in
+    let again = lies.not_before (n +ℤ pos 2) (omega (arith, signed, after)) (omega (arith, signed, before)) in
+    let same : f (pos 1_970 +ℤ n) ≡ f p.year = ap f (omega (arith, signed, is_y)) in
+    let same_next : f (pos 1_970 +ℤ (n +ℤ pos 1)) ≡ f (p.year +ℤ pos 1) = ap f (omega (arith, signed, is_y)) in
+    let same_again : f (pos 1_970 +ℤ (n +ℤ pos 2)) ≡ f (p.year +ℤ pos 1 +ℤ pos 1) = ap f (omega (arith, signed, is_y)) in
     record {
-      year = pos 1_970 +ℤ n;
-      not_before = omega (arith, signed, begin, is, is_l, not_before);
-      not_behind = omega (arith, signed, begin, is, is_h, not_behind);
-      next = omega (arith, signed, begin, is, is_l, next, same);
+      not_before = omega (arith, signed, begin, is_l, not_before, same);
+      not_behind = omega (arith, signed, begin, is_h, not_behind, same);
+      next = omega (arith, signed, begin, is_l, next, same_next);
+      next_behind = omega (arith, signed, begin, is_h, next_behind, same_next);
+      again = omega (arith, signed, begin, is_l, again, same_again);
     }
 
 -- the change is the last one of all by each second from there on until the next one may come
@@ -85,35 +93,83 @@ known_last offset c u y is near come next =
 
 -- ---- so daylight time holds, or does not
 
-pub daylight_far : (offset : ℤ) (d : Daylight) (begin u bl bh el eh : ℤ) → IsChange d.begins → IsChange d.ends → IsOffset offset → IsOffset d.offset → ComesWithin (change_second offset d.begins) begin bl bh → ComesWithin (change_second d.offset d.ends) begin el eh → (begin +ℤ bh) ≤ℤ u → (begin +ℤ eh) ≤ℤ u → u <ℤ (begin +ℤ bl +ℤ pos 31_556_952) → u <ℤ (begin +ℤ el +ℤ pos 31_556_952) → eh ≤ℤ bl → is_daylight offset d u ≡ true
+pub of_two : (offset : ℤ) (d : Daylight) (u : ℤ) (b : Bool) → IsChange d.begins → IsChange d.ends → IsOffset offset → IsOffset d.offset → IsLastOfTwo (change_second offset d.begins) (change_second d.offset d.ends) u b → is_daylight offset d u ≡ b
 unfolding is_daylight
-daylight_far offset d begin u bl bh el eh is_begin is_end near far begins ends begun ended by_begin by_end order =
-    let b = known_last offset d.begins u begins.year is_begin near (omega (arith, signed, begins.not_behind, begun)) (omega (arith, signed, begins.next, by_begin)) in
-    let e = known_last d.offset d.ends u ends.year is_end far (omega (arith, signed, ends.not_behind, ended)) (omega (arith, signed, ends.next, by_end)) in
-    rw (b, e) (int_le-below (change_second d.offset d.ends ends.year) (change_second offset d.begins begins.year) (omega (arith, signed, ends.not_behind, begins.not_before, order)))
+of_two offset d u b is_begin is_end near far last =
+    let begun = known_last offset d.begins u last.y is_begin near last.first.0 last.first.1 in
+    let ended = known_last d.offset d.ends u last.z is_end far last.other.0 last.other.1 in
+    rw (begun, ended) (sym (told b (change_second offset d.begins last.y) (change_second d.offset d.ends last.z) last.behind last.before))
 
-pub standard_far : (offset : ℤ) (d : Daylight) (begin u bl bh el eh : ℤ) → IsChange d.begins → IsChange d.ends → IsOffset offset → IsOffset d.offset → ComesWithin (change_second offset d.begins) begin bl bh → ComesWithin (change_second d.offset d.ends) begin el eh → (begin +ℤ bh) ≤ℤ u → (begin +ℤ eh) ≤ℤ u → u <ℤ (begin +ℤ bl +ℤ pos 31_556_952) → u <ℤ (begin +ℤ el +ℤ pos 31_556_952) → bh <ℤ el → is_daylight offset d u ≡ false
+pub of_two_ended : (offset : ℤ) (d : Daylight) (u : ℤ) (b : Bool) → IsChange d.begins → IsChange d.ends → IsOffset offset → IsOffset d.offset → IsLastOfTwo (change_second d.offset d.ends) (change_second offset d.begins) u b → is_daylight offset d u ≡ not b
 unfolding is_daylight
-standard_far offset d begin u bl bh el eh is_begin is_end near far begins ends begun ended by_begin by_end order =
-    let b = known_last offset d.begins u begins.year is_begin near (omega (arith, signed, begins.not_behind, begun)) (omega (arith, signed, begins.next, by_begin)) in
-    let e = known_last d.offset d.ends u ends.year is_end far (omega (arith, signed, ends.not_behind, ended)) (omega (arith, signed, ends.next, by_end)) in
-    rw (b, e) (int_le-above (change_second d.offset d.ends ends.year) (change_second offset d.begins begins.year) (omega (arith, signed, begins.not_behind, ends.not_before, order)))
+of_two_ended offset d u b is_begin is_end near far last =
+    let begun = known_last offset d.begins u last.z is_begin near last.other.0 last.other.1 in
+    let ended = known_last d.offset d.ends u last.y is_end far last.first.0 last.first.1 in
+    rw (begun, ended) (sym (told_not b (change_second offset d.begins last.z) (change_second d.offset d.ends last.y) last.behind last.before))
 
-pub holds_far : (offset : ℤ) (d : Daylight) (second place begin m bl bh el eh u : ℤ) → IsChange d.begins → IsChange d.ends → IsOffset offset → IsOffset d.offset → begin ≡ second -ℤ place → ComesWithin (change_second offset d.begins) begin bl bh → ComesWithin (change_second d.offset d.ends) begin el eh → bh ≤ℤ place → eh ≤ℤ place → m ≤ℤ bl → m ≤ℤ el → second ≤ℤ u → u <ℤ (second +ℤ (m +ℤ pos 31_556_952 -ℤ place)) → (eh ≤ℤ bl) ⊎ (bh <ℤ el) → is_daylight offset d u ≡ int_le eh bl
-holds_far offset d second place begin m bl bh el eh u is_begin is_end near far is begins ends begun ended by_b by_e from to order =
-    let after_b : (begin +ℤ bh) ≤ℤ u = omega (arith, signed, is, begun, from) in
-    let after_e : (begin +ℤ eh) ≤ℤ u = omega (arith, signed, is, ended, from) in
-    let before_b : u <ℤ (begin +ℤ bl +ℤ pos 31_556_952) = omega (arith, signed, is, by_b, to) in
-    let before_e : u <ℤ (begin +ℤ el +ℤ pos 31_556_952) = omega (arith, signed, is, by_e, to) in
-    by_lt_z bl eh
-    (λ (above : bl <ℤ eh).
-    let apart : bh <ℤ el = ⊎_elim (λ below. absurd (omega (arith, signed, above, below))) (λ lt. lt) order in
-    standard_far offset d begin u bl bh el eh is_begin is_end near far begins ends after_b after_e before_b before_e apart ∙ sym (int_le-above eh bl above))
-    (λ (below : eh ≤ℤ bl). daylight_far offset d begin u bl bh el eh is_begin is_end near far begins ends after_b after_e before_b before_e below ∙ sym (int_le-below eh bl below))
+pub daylight_far : (offset : ℤ) (d : Daylight) (begin u : ℤ) (b e : Past) → IsChange d.begins → IsChange d.ends → IsOffset offset → IsOffset d.offset → ComesWithin (change_second offset d.begins) begin b → ComesWithin (change_second d.offset d.ends) begin e → (begin +ℤ b.high) ≤ℤ u → (begin +ℤ e.high) ≤ℤ u → u <ℤ (begin +ℤ b.low +ℤ pos 31_556_952) → u <ℤ (begin +ℤ e.low +ℤ pos 31_556_952) → e.high ≤ℤ b.low → is_daylight offset d u ≡ true
+unfolding is_daylight
+daylight_far offset d begin u b e is_begin is_end near far begins ends begun ended by_begin by_end order =
+    let last_b = known_last offset d.begins u b.year is_begin near (omega (arith, signed, begins.not_behind, begun)) (omega (arith, signed, begins.next, by_begin)) in
+    let last_e = known_last d.offset d.ends u e.year is_end far (omega (arith, signed, ends.not_behind, ended)) (omega (arith, signed, ends.next, by_end)) in
+    rw (last_b, last_e) (int_le-below (change_second d.offset d.ends e.year) (change_second offset d.begins b.year) (omega (arith, signed, ends.not_behind, begins.not_before, order)))
+
+pub standard_far : (offset : ℤ) (d : Daylight) (begin u : ℤ) (b e : Past) → IsChange d.begins → IsChange d.ends → IsOffset offset → IsOffset d.offset → ComesWithin (change_second offset d.begins) begin b → ComesWithin (change_second d.offset d.ends) begin e → (begin +ℤ b.high) ≤ℤ u → (begin +ℤ e.high) ≤ℤ u → u <ℤ (begin +ℤ b.low +ℤ pos 31_556_952) → u <ℤ (begin +ℤ e.low +ℤ pos 31_556_952) → b.high <ℤ e.low → is_daylight offset d u ≡ false
+unfolding is_daylight
+standard_far offset d begin u b e is_begin is_end near far begins ends begun ended by_begin by_end order =
+    let last_b = known_last offset d.begins u b.year is_begin near (omega (arith, signed, begins.not_behind, begun)) (omega (arith, signed, begins.next, by_begin)) in
+    let last_e = known_last d.offset d.ends u e.year is_end far (omega (arith, signed, ends.not_behind, ended)) (omega (arith, signed, ends.next, by_end)) in
+    rw (last_b, last_e) (int_le-above (change_second d.offset d.ends e.year) (change_second offset d.begins b.year) (omega (arith, signed, begins.not_behind, ends.not_before, order)))
+
+pub holds_far : (offset : ℤ) (d : Daylight) (second place begin m u : ℤ) (b e : Past) → IsChange d.begins → IsChange d.ends → IsOffset offset → IsOffset d.offset → begin ≡ second -ℤ place → ComesWithin (change_second offset d.begins) begin b → ComesWithin (change_second d.offset d.ends) begin e → b.high ≤ℤ place → e.high ≤ℤ place → m ≤ℤ b.low → m ≤ℤ e.low → second ≤ℤ u → u <ℤ (second +ℤ (m +ℤ pos 31_556_952 -ℤ place)) → (e.high ≤ℤ b.low) ⊎ (b.high <ℤ e.low) → is_daylight offset d u ≡ int_le e.high b.low
+holds_far offset d second place begin m u b e is_begin is_end near far is begins ends begun ended by_b by_e from to order =
+    let after_b : (begin +ℤ b.high) ≤ℤ u = omega (arith, signed, is, begun, from) in
+    let after_e : (begin +ℤ e.high) ≤ℤ u = omega (arith, signed, is, ended, from) in
+    let before_b : u <ℤ (begin +ℤ b.low +ℤ pos 31_556_952) = omega (arith, signed, is, by_b, to) in
+    let before_e : u <ℤ (begin +ℤ e.low +ℤ pos 31_556_952) = omega (arith, signed, is, by_e, to) in
+    by_lt_z b.low e.high
+    (λ (above : b.low <ℤ e.high).
+    let apart : b.high <ℤ e.low = ⊎_elim (λ below. absurd (omega (arith, signed, above, below))) (λ lt. lt) order in
+    standard_far offset d begin u b e is_begin is_end near far begins ends after_b after_e before_b before_e apart ∙ sym (int_le-above e.high b.low above))
+    (λ (below : e.high ≤ℤ b.low). daylight_far offset d begin u b e is_begin is_end near far begins ends after_b after_e before_b before_e below ∙ sym (int_le-below e.high b.low below))
+
+-- ---- near the next one of two changes
+
+pub not_come : (f g : ℤ → ℤ) (second place u : ℤ) (p q : Past) → ComesWithin f (second -ℤ place) p → ComesWithin g (second -ℤ place) q → p.high ≤ℤ place → q.high ≤ℤ place → p.high <ℤ q.low → second ≤ℤ u → u <ℤ f (p.year +ℤ pos 1) → IsLastOfTwo f g u false
+not_come f g second place u p q comes other come behind order from by = record {
+  y = p.year;
+  z = q.year;
+  first = (omega (arith, signed, comes.not_behind, come, from), by);
+  other = (omega (arith, signed, other.not_behind, behind, from), omega (arith, signed, other.next, comes.next_behind, order, by));
+  behind = λ (e : false ≡ true). absurd (true≢false (sym e));
+  before = λ (e : false ≡ false). omega (arith, signed, comes.not_behind, other.not_before, order);
+}
+
+pub has_come : (f g : ℤ → ℤ) (second place u : ℤ) (p q : Past) → ComesWithin f (second -ℤ place) p → ComesWithin g (second -ℤ place) q → q.high ≤ℤ place → q.high <ℤ (p.low +ℤ pos 31_556_952) → f (p.year +ℤ pos 1) ≤ℤ second → second ≤ℤ u → u <ℤ (second -ℤ place +ℤ q.low +ℤ pos 31_556_952) → IsLastOfTwo f g u true
+has_come f g second place u p q comes other behind order come from by = record {
+  y = p.year +ℤ pos 1;
+  z = q.year;
+  first = (omega (arith, signed, come, from), omega (arith, signed, comes.again, other.not_before, other.not_behind, order, by));
+  other = (omega (arith, signed, other.not_behind, behind, from), omega (arith, signed, other.next, by));
+  behind = λ (e : true ≡ true). omega (arith, signed, comes.next, other.not_behind, order);
+  before = λ (e : true ≡ false). absurd (true≢false e);
+}
+
+pub year_is : (y : ℤ) → pos 1_969 ≤ℤ y → y ≤ℤ pos 2_370 → to_z w32 (of_z w32 (to_z w32 (of_z w32 y) +ℤ pos 1)) ≡ y +ℤ pos 1
+year_is y low high = omega (arith, casts, low, high)
+
+pub year_before : (y q : ℤ) → pos 1_970 ≤ℤ y → y ≤ℤ pos 2_370 → y ≡ q → to_z w32 (of_z w32 (to_z w32 (of_z w32 y) -ℤ pos 1)) ≡ q -ℤ pos 1
+year_before y q low high is = omega (arith, casts, low, high, is)
+
+pub year_kept : (y q : ℤ) → pos 1_970 ≤ℤ y → y ≤ℤ pos 2_370 → y ≡ q → to_z w32 (of_z w32 y) ≡ q -ℤ pos 0
+year_kept y q low high is = omega (arith, casts, low, high, is)
+
+pub again_is : (s p l second place low : ℤ) → s ≡ second → p ≡ place → l ≡ low → (s -ℤ p +ℤ l +ℤ pos 31_556_952) ≡ (second -ℤ place +ℤ low +ℤ pos 31_556_952)
+again_is s p l second place low is at from = omega (arith, signed, is, at, from)
 
 -- ---- the wait in numbers that fit
 
-sum_is : (m : ℤ) → SFits w64 m → unsigned_abs m < 80_000_000 → to_z w64 (of_z w64 (to_z w64 (of_z w64 m) +ℤ pos 31_556_952)) ≡ m +ℤ pos 31_556_952
+pub sum_is : (m : ℤ) → SFits w64 m → unsigned_abs m < 80_000_000 → to_z w64 (of_z w64 (to_z w64 (of_z w64 m) +ℤ pos 31_556_952)) ≡ m +ℤ pos 31_556_952
 sum_is m fit near = carried (to_z w64 (of_z w64 m) +ℤ pos 31_556_952) (m +ℤ pos 31_556_952) (ap (λ (z : ℤ). z +ℤ pos 31_556_952) (to_z-of_z w64 m fit)) (omega (arith, signed, near))
 
 pub sum_fits : (m : ℤ) → SFits w64 m → unsigned_abs m < 80_000_000 → SFits w64 (to_z w64 (of_z w64 m) +ℤ pos 31_556_952)
@@ -131,7 +187,7 @@ wait_is m p fit here near low high =
     (ap (λ (z : ℤ). z -ℤ to_z w64 (of_z w64 p)) (sum_is m fit near) ∙ ap (λ (z : ℤ). m +ℤ pos 31_556_952 -ℤ z) (to_z-of_z w64 p here))
     (omega (arith, signed, near, low, high))
 
-small : (x : ℤ) → unsigned_abs x < 80_000_000 → SFits w64 x
+pub small : (x : ℤ) → unsigned_abs x < 80_000_000 → SFits w64 x
 small x h = fits x (omega (arith, h))
 
 pub kept : (x : ℤ) → unsigned_abs x < 80_000_000 → to_z w64 (of_z w64 x) ≡ x
@@ -143,3 +199,6 @@ least_is m b e fit near far is =
     let at_e = kept e far in
     let bounds = int_min_is (to_z w64 (of_z w64 b)) (to_z w64 (of_z w64 e)) in
     (omega (arith, signed, is, at_b, at_e, bounds, near, far), omega (arith, signed, is, at_b, bounds), omega (arith, signed, is, at_e, bounds))
+
+pub is_short : (wait m p : ℤ) → wait ≡ m +ℤ pos 31_556_952 -ℤ p → unsigned_abs m < 80_000_000 → pos 0 ≤ℤ p → wait ≤ℤ pos 120_000_000
+is_short wait m p is near low = omega (arith, signed, is, near, low)

@@ -1,8 +1,9 @@
 -- Words of functions that are not public.
-use Rattle.std.specs.Prelude.{◌≡◌, ◌⊎◌, true, false, ℤ, pos, ◌+ℤ◌, ◌≤ℤ◌, ◌<ℤ◌}
+use Rattle.std.specs.Prelude.{Bool, ◌≡◌, ◌⊎◌, true, false, ℤ, pos, ◌+ℤ◌, ◌≤ℤ◌, ◌<ℤ◌}
 use Rattle.chrono_zoned.specs.Offsets.{IsOffset}
 use Rattle.zone_rule.specs.Changes.{IsChange, last_by}
 use Rattle.zone_rule.specs.declared.rule.Daylight.{Daylight}
+use Rattle.zone_rule.specs.declared.mean_year.Past.{Past}
 use Rattle.zone_rule.specs.declared.turn.Turn.{Turn}
 
 -- the changes of daylight time are in range, and so are the two offsets
@@ -30,9 +31,19 @@ pub record IsTurn (f g : ℤ → ℤ) (y s : ℤ) (t : Turn) : Type 0 where
 
 -- Mean years are those of `Changes`.
 
--- in some year the change comes from `low` seconds behind a second up to `high` seconds behind it, and next a mean year later at the soonest
-pub record ComesWithin (f : ℤ → ℤ) (begin low high : ℤ) : Type 0 where
-  pub year : ℤ
-  pub not_before : (begin +ℤ low) ≤ℤ f year
-  pub not_behind : f year ≤ℤ (begin +ℤ high)
-  pub next : (begin +ℤ low +ℤ pos 31_556_952) ≤ℤ f (year +ℤ pos 1)
+-- in the year of p the change came within its seconds from another one on, and it comes again a mean year later, and then again
+pub record ComesWithin (f : ℤ → ℤ) (begin : ℤ) (p : Past) : Type 0 where
+  pub not_before : (begin +ℤ p.low) ≤ℤ f p.year
+  pub not_behind : f p.year ≤ℤ (begin +ℤ p.high)
+  pub next : (begin +ℤ p.low +ℤ pos 31_556_952) ≤ℤ f (p.year +ℤ pos 1)
+  pub next_behind : f (p.year +ℤ pos 1) ≤ℤ (begin +ℤ p.high +ℤ pos 31_556_952)
+  pub again : (begin +ℤ p.low +ℤ pos 63_113_904) ≤ℤ f (p.year +ℤ pos 1 +ℤ pos 1)
+
+-- of two changes, the first one came last by the second u, or the other one
+pub record IsLastOfTwo (f g : ℤ → ℤ) (u : ℤ) (is_first : Bool) : Type 0 where
+  pub y : ℤ
+  pub z : ℤ
+  pub first : (f y ≤ℤ u) × (u <ℤ f (y +ℤ pos 1))
+  pub other : (g z ≤ℤ u) × (u <ℤ g (z +ℤ pos 1))
+  pub behind : is_first ≡ true → g z <ℤ f y
+  pub before : is_first ≡ false → f y <ℤ g z

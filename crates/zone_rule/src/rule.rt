@@ -1,5 +1,5 @@
 //! `ZoneRule`: standard time, and daylight time in a part of each year.
-ghost use Rattle.std.specs.Prelude.{◌≡◌, ◌↔◌, ◌⊎◌, Bool, if◌then◌else◌, ℤ, pos, neg_ℤ, ◌+ℤ◌, ◌-ℤ◌, ◌<ℤ◌, ◌≤ℤ◌, IfNone, IfSome, IsSome, Some};
+ghost use Rattle.std.specs.Prelude.{◌≡◌, ◌↔◌, ◌⊎◌, Bool, if◌then◌else◌, ℤ, pos, neg_ℤ, ◌+ℤ◌, ◌-ℤ◌, ◌<ℤ◌, ◌≤ℤ◌, ◌<◌, IfNone, IfSome, IsSome, Some, unsigned_abs};
 ghost use Rattle.chrono_units.specs.Years.{IsYear};
 ghost use Rattle.chrono_zoned.specs.Offsets.{IsOffset};
 ghost use Rattle.chrono_zoned.specs.Zones.{HoldsUntil, IsMapped};
@@ -9,15 +9,15 @@ ghost use Rattle.zone_rule.specs.Rules.{IsNextSetting, IsSetAt, IsSteadyUntil, i
 
 use crate::change::{Change, SECS_PER_DAY, UNIX_EPOCH_DAY};
 use crate::mean_year::SECS_PER_MEAN_YEAR;
-use crate::turn::turn_at;
+use crate::turn::{turn_at, turn_near};
 use chrono_datetime::{Datelike, NaiveDate};
 use chrono_zoned::{FixedOffset, MappedLocalTime, Stretch};
 
 // The seconds of 400 years, after which the calendar comes again.
 const SECS_PER_CYCLE: i64 = 12_622_780_800;
 
-// The seconds of six days. Where a change may be so near, the changes of the year are looked at.
-const SECS_NEAR: i64 = 518_400;
+// The seconds of four days. Where a change may be so near, its year is looked at.
+const SECS_NEAR: i64 = 345_600;
 
 /// A clock in each year: how far standard time is ahead of UTC, and daylight time if there is one.
 ///
@@ -233,7 +233,7 @@ impl ZoneRule {
         if second < 0 || SECS_PER_CYCLE <= second {
             return None;
         }
-        let hold = daylight.hold_far(self.standard, second)?;
+        let hold = daylight.hold_by_windows(self.standard, second)?;
         // A proof knows the range of what is read. The compiler leaves it out.
         let _near = (
             self.standard.local_minus_utc(),
@@ -396,7 +396,7 @@ impl Daylight {
         requires first { pos 0 ≤ℤ second }
         requires last { second ≤ℤ pos 12_622_867_200 }
         ensures holds { IfSome result (λ h. (u : ℤ) → second ≤ℤ u → u <ℤ (second +ℤ h.wait) → is_daylight standard self.now u ≡ h.is_daylight) }
-        ensures long { IfSome result (λ h. pos 518_400 ≤ℤ h.wait) }
+        ensures long { IfSome result (λ h. pos 345_600 ≤ℤ h.wait) }
         ensures short { IfSome result (λ h. h.wait ≤ℤ pos 120_000_000) }
     {
         let place = second.rem_euclid(SECS_PER_MEAN_YEAR);
@@ -413,6 +413,44 @@ impl Daylight {
             is_daylight: ended.high <= begun.low,
             wait,
         })
+    }
+
+    // The same, also near a change, if that is the next one.
+    #[inline(always)]
+    fn hold_by_windows(&self, standard: FixedOffset, second: i64) -> Option<Hold>
+        requires first { pos 0 ≤ℤ second }
+        requires last { second ≤ℤ pos 12_622_867_200 }
+        ensures holds { IfSome result (λ h. (u : ℤ) → second ≤ℤ u → u <ℤ (second +ℤ h.wait) → is_daylight standard self.now u ≡ h.is_daylight) }
+        ensures later { IfSome result (λ h. pos 0 <ℤ h.wait) }
+        ensures short { IfSome result (λ h. h.wait <ℤ pos 9_000_000_000_000) }
+    {
+        if let Some(hold) = self.hold_far(standard, second) {
+            return Some(hold);
+        }
+        self.hold_near(standard, second)
+    }
+
+    // The same by the year of the next change.
+    #[inline(never)]
+    fn hold_near(&self, standard: FixedOffset, second: i64) -> Option<Hold>
+        requires first { pos 0 ≤ℤ second }
+        requires last { second ≤ℤ pos 12_622_867_200 }
+        ensures holds { IfSome result (λ h. (u : ℤ) → second ≤ℤ u → u <ℤ (second +ℤ h.wait) → is_daylight standard self.now u ≡ h.is_daylight) }
+        ensures later { IfSome result (λ h. pos 0 <ℤ h.wait) }
+        ensures short { IfSome result (λ h. h.wait <ℤ pos 9_000_000_000_000) }
+    {
+        let place = second.rem_euclid(SECS_PER_MEAN_YEAR);
+        let begun = self.begins.last_window(standard, second, place);
+        let ended = self.ends.last_window(self.offset, second, place);
+        if place < begun.high || place < ended.high {
+            return None;
+        }
+        if begun.low < ended.low {
+            let turn = turn_near(&self.begins, standard, begun, ended, second, place)?;
+            return hold_until(turn.is_first, second, turn.next);
+        }
+        let turn = turn_near(&self.ends, self.offset, ended, begun, second, place)?;
+        hold_until(!turn.is_first, second, turn.next)
     }
 
     // Whether daylight time holds at the second, in or beside the years 1970 to 2369.
@@ -453,6 +491,26 @@ impl Daylight {
         last_by(&self.ends, self.offset, year, second)
             <= last_by(&self.begins, standard, year, second)
     }
+}
+
+// That daylight time holds or does not, from a second on until another. `None` if that does not come later.
+#[inline(always)]
+fn hold_until(is_daylight: bool, second: i64, until: i64) -> Option<Hold>
+    requires first { pos 0 ≤ℤ second }
+    requires last { second ≤ℤ pos 12_622_867_200 }
+    requires near { unsigned_abs until < 8_400_000_000_000 }
+    ensures holds { (test : ℤ → Bool) → ((u : ℤ) → second ≤ℤ u → u <ℤ until → test u ≡ is_daylight)
+        → IfSome result (λ h. (u : ℤ) → second ≤ℤ u → u <ℤ (second +ℤ h.wait) → test u ≡ h.is_daylight) }
+    ensures later { IfSome result (λ h. pos 0 <ℤ h.wait) }
+    ensures short { IfSome result (λ h. h.wait <ℤ pos 9_000_000_000_000) }
+{
+    if until <= second {
+        return None;
+    }
+    Some(Hold {
+        is_daylight,
+        wait: until - second,
+    })
 }
 
 // The offsets at all instants at which the clock shows a local time, where daylight time holds or does not at the instants to which

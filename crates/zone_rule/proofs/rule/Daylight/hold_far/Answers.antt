@@ -2,7 +2,7 @@ use Rattle.std.proofs.Common.{arith, ap, subst, sym, ◌≡◌, ◌∙◌, ◌+�
 use Rattle.std.proofs.lemmas.Int.{to_z-of_z}
 use Rattle.chrono_calendar.proofs.Signed.{signed}
 use Rattle.zone_rule.proofs.LastChanges.{is_later-fact}
-use Rattle.zone_rule.proofs.MeanYears.{holds_far, kept, least_is, sum_fits, wait_fits, wait_is}
+use Rattle.zone_rule.proofs.MeanYears.{holds_far, is_short, kept, least_is, sum_fits, wait_fits, wait_is}
 use Rattle.zone_rule.proofs.Turns.{not_before}
 use Rattle.zone_rule.proofs.rule.Daylight.hold_far.Goals as goal
 use Rattle.zone_rule.proofs.rule.Daylight.hold_far.Goals.{else-begun-ended-via-then-begun-ended+else-ended-begun, else-begun-ended-via-else-begun-ended}
@@ -46,7 +46,7 @@ returns-clause-holds c = λ u from to.
     ] in
     let past_b = not_before (to_z w64 (of_z w64 place)) (to_z w64 (of_z w64 bh)) c.if-place-begun.false in
     let past_e = not_before (to_z w64 (of_z w64 place)) (to_z w64 (of_z w64 eh)) c.if-place-ended.false in
-    holds_far c.args.standard c.args.self.now c.args.second place _ c.min.result bl bh el eh u begun.change ended.change begun.offset ended.offset
+    holds_far c.args.standard c.args.self.now c.args.second place _ c.min.result u c.last_window-begun.result c.last_window-ended.result begun.change ended.change begun.offset ended.offset
     (ap (λ (z : ℤ). z -ℤ to_z w64 (of_z w64 place)) (to_z-of_z w64 c.args.second c.ranges.second) ∙ ap (λ (z : ℤ). c.args.second -ℤ z) at)
     begun.comes ended.comes (omega (arith, signed, past_b, at, at_bh)) (omega (arith, signed, past_e, at, at_eh)) least.1 least.2 from
     (subst (λ (z : ℤ). u <ℤ (c.args.second +ℤ z)) wait to) order
@@ -58,5 +58,4 @@ returns-clause-short c =
     let least = least_is c.min.result c.last_window-begun.result.low c.last_window-ended.result.low fit c.last_window-begun.ensures.low c.last_window-ended.ensures.low c.min.ensures.value in
     let low : pos 0 ≤ℤ c.rem_euclid-place.result = omega (arith, signed, c.rem_euclid-place.ensures.lower_bound) in
     let wait = wait_is c.min.result c.rem_euclid-place.result fit (record { sfits = c.rem_euclid-place.type_inv }) least.0 low (omega (arith, signed, c.rem_euclid-place.ensures.upper_bound)) in
-    let near = least.0 in
-    omega (arith, signed, wait, near, low)
+    is_short _ c.min.result c.rem_euclid-place.result wait least.0 low

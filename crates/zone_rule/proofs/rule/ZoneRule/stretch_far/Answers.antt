@@ -18,11 +18,11 @@ returns-clause-holds c =
     let here : to_z w64 (of_z w64 second) ≡ second = to_z-of_z w64 second c.ranges.second in
     let first = not_before (to_z w64 (of_z w64 second)) (pos 0) c.if-second-lt0.false in
     let last = is_later-fact (pos 12_622_780_800) (to_z w64 (of_z w64 second)) c.if-second-ge-SECS_PER_CYCLE.false in
-    let long = c.in_ok-hold.ensures.long in
+    let later = c.in_ok-hold.ensures.later in
     let short = c.in_ok-hold.ensures.short in
     let far : (u : ℤ) → second ≤ℤ u → u <ℤ (second +ℤ wait) → is_daylight r.standard d u ≡ hold.is_daylight =
     subst (λ (x : ℤ). (u : ℤ) → x ≤ℤ u → u <ℤ (x +ℤ wait) → is_daylight r.standard d u ≡ hold.is_daylight) here c.in_ok-hold.ensures.holds in
-    far_holds r d second (second +ℤ wait) _ hold.is_daylight c.in_ok-daylight.was (omega (arith, signed, long)) far (omega (arith, casts, here, first, last, long, short))
+    far_holds r d second (second +ℤ wait) _ hold.is_daylight c.in_ok-daylight.was (omega (arith, signed, later)) far (omega (arith, casts, here, first, last, later, short))
 
 pub returns-clause-near : goal.returns-clause-near
 returns-clause-near c =
