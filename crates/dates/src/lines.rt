@@ -143,16 +143,13 @@ impl Reading<'_> {
 
 // What a line has beside a day, where that is all that keeps it from being one.
 fn beside_day(text: &[u8]) -> Reason {
-    let unmarked = text.strip_prefix(b"\xef\xbb\xbf").unwrap_or(text);
-    let line = unmarked.strip_suffix(b"\r").unwrap_or(unmarked);
+    let line = text.strip_prefix(b"\xef\xbb\xbf").unwrap_or(text);
     Reason::Other(if text.is_empty() {
         "nothing stands there"
     } else if read_day(line.trim_ascii()).is_err() {
         return Reason::Form;
-    } else if unmarked.len() < text.len() {
-        "begins with a byte order mark"
     } else if line.len() < text.len() {
-        "ends in a carriage return"
+        "begins with a byte order mark"
     } else {
         "begins or ends with white space"
     })

@@ -175,8 +175,12 @@ impl<'a> Asked<'a> {
         let mut place: usize = 0;
         for argument in arguments {
             place = place.saturating_add(1);
-            let text = argument.as_str();
-            if !is_named && text != "--json" {
+            let text = match argument.as_str() {
+                "-h" => "--help",
+                "help" if !is_named => "--help",
+                text => text,
+            };
+            if !is_named && text != "--json" && text != "--help" {
                 is_named = true;
                 self.command = command_named(text);
                 if !self.command.name.is_empty() {

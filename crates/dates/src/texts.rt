@@ -10,8 +10,8 @@ use chrono_stamps::parse_from_iso8601;
 use chrono_text::{Text, byte_place, read_decimal};
 use std::str::from_utf8;
 
-// The day that a text names by its calendar date, its ordinal date or its week date, with hyphens or without; else what is wrong by the form
-// that it has.
+// The day that a text names by its calendar date, its ordinal date or its week date, with hyphens or without, or by its calendar date with
+// slashes; else what is wrong by the form that it has.
 pub(crate) fn read_day(text: &[u8]) -> Result<NaiveDate, ReadError> {
     let other = match read_hyphened(text) {
         Err(error) if error.cause == ReadCause::NotThisForm => error,
@@ -21,6 +21,7 @@ pub(crate) fn read_day(text: &[u8]) -> Result<NaiveDate, ReadError> {
     match read_hyphened(full.as_bytes()) {
         Ok(date) => Ok(date),
         Err(error) if error.cause == ReadCause::NotThisForm => Err(other),
+        Err(error) if full.as_bytes().len() == text.len() => Err(error),
         Err(ReadError { cause, byte }) => {
             let byte = byte.saturating_sub(added(b'-', text, &full, byte));
             Err(ReadError { cause, byte })
@@ -28,7 +29,7 @@ pub(crate) fn read_day(text: &[u8]) -> Result<NaiveDate, ReadError> {
     }
 }
 
-// A day of the basic form with its hyphens, and a week with its Monday; no text where it has another form.
+// A day of the basic form with its hyphens, a week with its Monday, and a day with slashes; no text where it has another form.
 fn hyphened(text: &[u8]) -> Joined {
     let marks = match text.len() {
         7 if byte_at(text, 4) == b'W' => "dddd-ddd-1",
@@ -36,9 +37,20 @@ fn hyphened(text: &[u8]) -> Joined {
         8 if byte_at(text, 5) == b'W' => "dddddddd-1",
         8 if byte_at(text, 4) == b'W' => "dddd-ddd-d",
         8 => "dddd-dd-dd",
+        10 if byte_at(text, 4) == b'/' && byte_at(text, 7) == b'/' => return slashed(text),
         _ => return Joined::new(),
     };
     spread(text, marks)
+}
+
+// A text with hyphens for its slashes.
+fn slashed(text: &[u8]) -> Joined {
+    let mut full = Joined::new();
+    for byte in text {
+        let byte = if *byte == b'/' { b'-' } else { *byte };
+        full.push_clipped(&[byte]);
+    }
+    full
 }
 
 // The byte at a place of a text, and 0 behind its end.
@@ -269,7 +281,7 @@ pub(crate) enum Order {
 }
 
 // The patterns of days with the name of a month.
-const SPELLED: &[&str] = &["%d %B %Y", "%B %d, %Y", "%A, %d %B %Y"];
+const SPELLED: &[&str] = &["%d %B %Y", "%B %d, %Y", "%B %d %Y", "%A, %d %B %Y"];
 
 const DAY_FIRST: &[&str] = &["%d.%m.%Y", "%d/%m/%Y", "%d-%m-%Y"];
 

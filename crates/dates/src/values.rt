@@ -76,8 +76,9 @@ impl Reading<'_> {
         }
     }
 
-    // The day, the date-time or the instant that a text names; by seconds an instant alone.
+    // The day, the date-time or the instant that a text names; by seconds an instant alone. A line may end in a carriage return.
     pub(crate) fn read(&self, text: &[u8]) -> Result<Start, Unreadable> {
+        let text = text.strip_suffix(b"\r").unwrap_or(text);
         if let Some(pattern) = &self.pattern {
             return Ok(read_by(pattern, text)?);
         }

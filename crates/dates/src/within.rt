@@ -123,7 +123,8 @@ impl Asked<'_> {
             command.take_line(self, part_of(line, part));
             match &self.held {
                 Some(held) if self.status != NONE => {
-                    self.put_answer(held.text()?.as_bytes(), line, part, written)?
+                    let kept = self.as_written(held.text()?, part_of(line, part));
+                    self.put_answer(kept.text()?.as_bytes(), line, part, written)?
                 }
                 _ => written.extend_from_slice(part_of(line, part))?,
             }
@@ -154,6 +155,25 @@ pub(crate) fn text_in<'a>(
 }
 
 impl Asked<'_> {
+    // An answer as the date-time is written that it replaces: with a blank for the `T`, and without seconds that are zero.
+    fn as_written(&self, answer: &str, text: &[u8]) -> Buffer {
+        let mut kept = Buffer::new(self.rt.alloc());
+        if self.format.is_some() {
+            kept.put(answer);
+            return kept;
+        }
+        let is_short = count_of(b':', text) == 1 && count_of(b':', answer.as_bytes()) == 2;
+        let short = answer.strip_suffix(":00").unwrap_or(answer);
+        let answer = if is_short { short } else { answer };
+        match answer.split_once('T') {
+            Some((day, time)) if text.contains(&b' ') && ends_in_digit(day) => {
+                put!(kept, day, " ", time)
+            }
+            _ => kept.put(answer),
+        }
+        kept
+    }
+
     // Puts an answer in the place of a part. One that a field cannot have as it stands is quoted, and its quotation marks are doubled.
     fn put_answer(
         &self,
@@ -180,6 +200,14 @@ impl Asked<'_> {
             written.push(*byte)?;
         }
         Ok(written.extend_from_slice(mark)?)
+    }
+}
+
+// Whether a text ends in a digit.
+fn ends_in_digit(text: &str) -> bool {
+    match text.as_bytes().last() {
+        Some(last) => last.is_ascii_digit(),
+        None => false,
     }
 }
 
