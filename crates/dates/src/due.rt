@@ -4,10 +4,10 @@ use crate::prelude::*;
 use zoned_cron::{Policy, Schedule, ZonedSchedule, read_schedule};
 
 const AFTER: Opt =
-    option!("--from", "TIME"; "after which date-time, as 2024-02-29T04:30\n(default: now)", default: "now");
+    option!("--from", "TIME"; "after which date-time, as 2024-02-29T04:30, or from\nwhich day on (default: now)", default: "now");
 
 const BEFORE: Opt =
-    option!("--from", "TIME"; "before which date-time, as 2024-02-29T04:30\n(default: now)", default: "now");
+    option!("--from", "TIME"; "before which date-time, as 2024-02-29T04:30, or day\n(default: now)", default: "now");
 
 const HOW_MANY: Opt =
     option!("--count", "N"; "how many are printed, a line each (default: 1)", default: "1");
@@ -57,14 +57,14 @@ pub(crate) fn answer(asked: &mut Asked<'_>) {
     };
     let schedule = asked.schedule(asked.word(0));
     let word = asked.option("--from");
-    let from = asked.moment(word);
+    let goes_back = asked.command.name == PREV;
+    let from = asked.moment_beside(word, goes_back);
     let count = asked.amount_if("--count").unwrap_or(1);
     asked.take_zone();
     let mut last = asked.once(word, from);
     let (Some(schedule), zone) = (schedule, asked.zone.take()) else {
         return;
     };
-    let goes_back = asked.command.name == PREV;
     for _ in 0..count {
         let Some(due) = due_beside(zone.as_ref(), &schedule, last, goes_back) else {
             return asked.print(asked.none);
@@ -123,6 +123,20 @@ fn fired_beside(
 }
 
 impl Asked<'_> {
+    // The date-time that a word names; of a day its midnight, or to go on the second before, so that midnight counts.
+    fn moment_beside(&mut self, word: Word<'_>, goes_back: bool) -> Start {
+        let start = self.start_as(word, MOMENT_EXPECTED);
+        if !start.is_day() {
+            return self.moment_at(word, start);
+        }
+        let midnight = start.local();
+        let before = match TimeDelta::try_seconds(-1) {
+            Some(second) if !goes_back => midnight.checked_add_signed(second),
+            _ => None,
+        };
+        Start::DateTime(before.unwrap_or(midnight))
+    }
+
     // The schedule that a word writes.
     pub(crate) fn schedule(&mut self, word: Word<'_>) -> Option<Schedule> {
         match read_schedule(word.text.as_bytes()) {

@@ -155,6 +155,9 @@ impl Asked<'_> {
         if self.format.is_some() {
             return self.print_by_pattern(&Start::Stamp(shown));
         }
+        if self.held.is_some() {
+            return self.print(Reply::Stamp(shown));
+        }
         let form = self.form;
         let name = zone.abbreviation(stamp.timestamp()).unwrap_or("");
         self.print_line(&ClockLine { form, shown, name }, ANSWERED);
