@@ -738,7 +738,8 @@ def of_check(chance, files):
         reason = None
         if chance.random() < 0.15:
             text = chance.choice(ODD_LINES + tuple(it.encode() for it in NO_DAYS))
-            reason = "ends in a carriage return" if text.endswith(b"\r") else REASONS.get(text.decode(errors="replace"), NO_FORM)
+            # (a line may end in a carriage return)
+            reason = None if text.endswith(b"\r") else REASONS.get(text.decode(errors="replace"), NO_FORM)
         elif chance.random() < 0.1:
             text, reason = past_month(chance)
             text = text.encode()
@@ -956,8 +957,8 @@ def refused(asked, words, error):
 
 
 def begins_with_a_name(asked):
-    """Whether a day of a command that has a word of its own behind it begins with a name: a wrong command then takes the day for that word."""
-    return asked.words[:1] in (["diff"], ["roll"]) and any(it[:1].isalpha() and " " in it for it in asked.words[1:])
+    """Whether a day of a command that has a word of its own behind it begins with a name or a mark: a wrong command then takes the day for that word."""
+    return asked.words[:1] in (["diff"], ["roll"]) and any(it[:1] in ("#", "@") or it[:1].isalpha() and " " in it for it in asked.words[1:])
 
 
 # What may stand behind a fault where a name is like the word.
