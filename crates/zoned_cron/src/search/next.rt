@@ -41,17 +41,25 @@ impl<Z: TimeZone> ZonedSchedule<Z> {
         ensures { IsNextFiring Z.ahead self.now start.now result }
     {
         let Some(planned) = self.planned_by(*start, held.offset) else {
-            return self.first_near(start);
+            return self.first_late(start);
         };
         if let Some(found) = instant_ahead(self.zone, held, planned) {
             return Some(found);
         }
-        self.first_behind(start, held, &planned)
+        self.first_after_change(start, held, &planned)
     }
 
-    // The same, where the stretch ends near the next planned local time or before it.
-    #[inline(never)]
-    fn first_behind(
+    // [`first_near`](Self::first_near), called from the place where it is needed: there alone its result takes room, which is filled with zeros.
+    #[inline(always)]
+    fn first_late(&self, start: &NaiveDateTime) -> Option<DateTime<Z>>
+        ensures { IsNextFiring Z.ahead self.now start.now result }
+    {
+        self.first_near(*start)
+    }
+
+    // [`first_behind`](Self::first_behind), likewise.
+    #[inline(always)]
+    fn first_after_change(
         &self,
         start: &NaiveDateTime,
         held: &Held,
@@ -62,12 +70,28 @@ impl<Z: TimeZone> ZonedSchedule<Z> {
         requires next { IsNextAtOffset self.now held.now.offset start.now planned.now }
         ensures { IsNextFiring Z.ahead self.now start.now result }
     {
-        date_times_exist(*start);
-        if let Some(found) = self.first_in_two(*start, held, *planned) {
+        self.first_behind(*start, *held, *planned)
+    }
+
+    // The same, where the stretch ends near the next planned local time or before it.
+    #[inline(never)]
+    fn first_behind(
+        &self,
+        start: NaiveDateTime,
+        held: Held,
+        planned: NaiveDateTime,
+    ) -> Option<DateTime<Z>>
+        requires held { IsHeld (Z.ahead self.now.zone) held }
+        requires begun { Precedes held (epoch_second start) }
+        requires next { IsNextAtOffset self.now held.offset start planned }
+        ensures { IsNextFiring Z.ahead self.now start result }
+    {
+        date_times_exist(start);
+        if let Some(found) = self.first_in_two(start, &held, planned) {
             return Some(found);
         }
         if held.outlasts(start.timestamp()) {
-            if let Some(found) = self.settled_beyond(*planned) {
+            if let Some(found) = self.settled_beyond(planned) {
                 return Some(found);
             }
         }
@@ -104,13 +128,13 @@ impl<Z: TimeZone> ZonedSchedule<Z> {
 
     // The same, where a change may be near the start.
     #[inline(never)]
-    fn first_near(&self, start: &NaiveDateTime) -> Option<DateTime<Z>>
-        ensures { IsNextFiring Z.ahead self.now start.now result }
+    fn first_near(&self, start: NaiveDateTime) -> Option<DateTime<Z>>
+        ensures { IsNextFiring Z.ahead self.now start result }
     {
-        if let Some(found) = self.first_shown_once(*start) {
+        if let Some(found) = self.first_shown_once(start) {
             return Some(found);
         }
-        self.first_searched(*start)
+        self.first_searched(start)
     }
 
     // The instant of a planned local time, if no change is near it.
