@@ -34,6 +34,7 @@ import business
 import counted
 import cron
 import rules_days
+import timed_schedules
 
 TOP = os.path.dirname(os.path.dirname(os.path.abspath(__file__)))
 sys.path.insert(0, os.path.join(TOP, "tools"))
@@ -843,6 +844,81 @@ def of_rule(chance, _):
     return Asked(words, kinds, len(words), lines or ["none"], objects or [{"date": None}], int(not days))
 
 
+def of_timed_rule(chance, _):
+    """The instances of a rule from a date-time on, by local time or by an offset, some left out and some added: none of the words is spoiled."""
+    rule, start = rules_days.at_random(chance)
+    minutes, offset = chance.randrange(0, 1440, 5), chance.choice((None, 0, 330, -300))
+    begin = DateTime.combine(start, datetime.time(*divmod(minutes, 60)))
+    found = [DateTime.combine(it, begin.time()) for it in rules_days.of_dateutil(rule, start)]
+    if not found:
+        return of_timed_rule(chance, _)
+    rule.until, last = None, found[-1]
+    if chance.random() < 0.4:
+        rule.count, last = chance.randint(1, len(found)), DateTime.max
+    found = found[: rule.count]
+    added = [begin + Span(minutes=chance.randint(-7_000, 70_000)) for _ in range(chance.choice((0, 0, 1, 2)))]
+    left_out = chance.sample(found[:9] + added, chance.choice((0, 0, 1)))
+    is_day = chance.random() < 0.5
+    kept = {it for it in [*found, *added] if it <= last and not any(it == out or is_day and it.date() == out.date() for out in left_out)}
+    since = begin + Span(minutes=chance.randint(-9_000, 90_000)) if chance.random() < 0.3 else None
+    kept = sorted(it for it in kept if not since or since <= it)
+    if not kept:
+        return of_timed_rule(chance, _)
+    count = None if rule.count and chance.random() < 0.3 else chance.randint(1, min(len(kept), 40))
+
+    def word(moment):
+        return moment_word(chance, moment) if offset is None else instant_word(chance, placed(moment), False)
+
+    def placed(moment):
+        return moment.replace(tzinfo=datetime.timezone(Span(minutes=offset)))
+
+    options = [["--start", word(begin)], *(["--rdate", word(it)] for it in added), *(["--exdate", day_word(chance, it.date()) if is_day else word(it)] for it in left_out)]
+    options += [*([["--from", word(since)]] if since else []), *([["--count", str(count)]] if count else [])]
+    chance.shuffle(options)
+    lines = [moment_text(it) if offset is None else instant_text(placed(it), False) for it in kept[:count]]
+    return Asked(["rule", rule.text(), *(word for it in options for word in it)], [], 0, lines, [{"moment": it} for it in lines])
+
+
+def of_timed_due(chance, _):
+    """When a schedule with seconds, or one of Quartz, is due: none of the words is spoiled."""
+    back, count = chance.random() < 0.4, chance.choice((1, 1, 2, 5))
+    start = DateTime(2000, 1, 1) + Span(seconds=chance.randrange(30 * 366 * 86_400))
+    dialect = chance.choice(("seconds", "quartz"))
+    found = in_quartz(chance, start, count, back) if dialect == "quartz" else in_seconds(chance, start, count, back)
+    if found is None:
+        return of_timed_due(chance, _)
+    text, moments = found
+    lines = [moment_text(it) for it in moments]
+    words = ["prev" if back else "next", text, "--from", moment_word(chance, start), "--dialect", dialect, "--count", str(count)]
+    return Asked(words, [], 0, lines, [{"moment": it} for it in lines])
+
+
+def in_quartz(chance, start, count, back):
+    """A schedule of Quartz, and when it is due next to a start; None where that is not known."""
+    text, moments = timed_schedules.quartz_text(chance), []
+    second = (start - EPOCH.replace(tzinfo=None)) // Span(seconds=1)
+    for _ in range(count):
+        second = timed_schedules.Quartz(text).found("prev" if back else "next", second)
+        if second is None:
+            return None
+        moments.append(EPOCH.replace(tzinfo=None) + Span(seconds=second))
+    return text, moments
+
+
+def in_seconds(chance, start, count, back):
+    """A schedule with seconds, and when it is due next to a start; None where that is not known."""
+    text, seconds = cron.schedule_text(chance), sorted(chance.sample(range(60), chance.choice((1, 2, 4))))
+    if text.startswith("@") or re.search(r"L-0\b", text):
+        return None
+    minute = start.replace(second=0)
+    minutes = due_moments(cron.Schedule(text, False), minute + Span(minutes=1 if back else -1), count + 1, back)
+    if not minutes:
+        return None
+    due = sorted((it + Span(seconds=second) for it in minutes for second in seconds), reverse=back)
+    moments = [it for it in due if (it < start if back else start < it)][:count]
+    return (f"{','.join(map(str, seconds))} {text}", moments) if len(moments) == count else None
+
+
 def examples():
     """The rows of crates/rows_rules that ask for a rule's instances, as commands: all of them or as many as the row has, one of them, those behind one, and none."""
     made = []
@@ -1002,7 +1078,7 @@ def with_words_missing(chance, asked):
     # (a schedule goes from now where nothing else is said)
     if kind == "due_option" or kind == "rule_option" and "--start" in cut:
         return None
-    missing = "--start DAY" if kind == "rule_option" else "[A-Z|]+"
+    missing = "--start TIME" if kind == "rule_option" else "[A-Z|]+"
     return refused(asked, cut, re.compile(f"dates: {missing} is missing; usage: dates {cut[0]} .*"))
 
 
@@ -1049,7 +1125,7 @@ def asks_of_lines(words):
 
 
 SPOILERS = (with_wrong_word, with_wrong_word, with_words_missing, with_a_word_more, with_no_such_day)
-MAKERS = {of_day: 10, of_lines: 4, of_add: 16, of_diff: 16, of_instant: 8, of_zone: 6, of_zoned_add: 6, of_zoned_due: 6, of_seq: 10, of_seq_of_times: 5, of_week: 4, of_end: 12, of_easter: 4, of_leap: 3, of_open: 8, of_roll: 9, of_units: 8, of_times_alone: 8, of_rounded: 4, of_within: 8, of_grep: 8, of_each: 8, of_check: 5, of_due: 9, of_rule: 9, of_cal: 5}
+MAKERS = {of_day: 10, of_lines: 4, of_add: 16, of_diff: 16, of_instant: 8, of_zone: 6, of_zoned_add: 6, of_zoned_due: 6, of_seq: 10, of_seq_of_times: 5, of_week: 4, of_end: 12, of_easter: 4, of_leap: 3, of_open: 8, of_roll: 9, of_units: 8, of_times_alone: 8, of_rounded: 4, of_within: 8, of_grep: 8, of_each: 8, of_check: 5, of_due: 9, of_timed_due: 4, of_rule: 9, of_timed_rule: 6, of_cal: 5}
 
 
 def commands(chance, files, count):
@@ -1058,7 +1134,7 @@ def commands(chance, files, count):
     while len(made) < count:
         maker = chance.choices(list(MAKERS), list(MAKERS.values()))[0]
         asked = maker(chance, files)
-        if maker in (of_each, of_units, of_times_alone, of_rounded, of_within, of_grep, of_seq_of_times, of_instant, of_zone, of_zoned_add, of_zoned_due):
+        if maker in (of_each, of_units, of_times_alone, of_rounded, of_within, of_grep, of_seq_of_times, of_instant, of_zone, of_zoned_add, of_zoned_due, of_timed_due, of_timed_rule):
             made.append(asked)
             continue
         if asked.kinds and chance.random() < 0.2:

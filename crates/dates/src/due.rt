@@ -1,6 +1,7 @@
 //! When a schedule is due.
 
 use crate::prelude::*;
+use timed_cron::{Dialect, TimedSchedule, read_timed_schedule};
 use zoned_cron::{Policy, Schedule, ZonedSchedule, read_schedule};
 
 const AFTER: Opt =
@@ -24,16 +25,24 @@ const MORE: &str = "A CRON is a nickname as @daily, or five fields in one word, 
     With --zone it is due by the zone's clock, and TIME may be its local time.\n\
     What is planned for a time that the clock skips comes right behind the gap,\n\
     and for one that it shows twice at the first. Where the minute or the hour is\n\
-    *, it follows the clock as it runs.";
+    *, it follows the clock as it runs.\n\
+    With --dialect seconds a CRON has a field of seconds in front. With quartz it is\n\
+    a trigger of Quartz: so too, with weekdays 1-7 from sun on and ? for one of both\n\
+    days, and years may stand behind.";
 
 const BY_CLOCK: Opt = option!("--zone", "ZONE"; "by the clock of which time zone");
+
+const DIALECT: Opt = option!(
+    "--dialect", "NAME"; "crontab, seconds or quartz (default: crontab)",
+    values: &["crontab", "seconds", "quartz"], any: false
+);
 
 // The command that goes back.
 const PREV: &str = "prev";
 
 pub(crate) fn next() -> &'static CommandRow {
     row!(
-        "next", &[operand!("CRON")], &[AFTER, HOW_MANY, BY_CLOCK, NOW, UNIX, PARSE, ORDER, FORMAT, LONG, JSON, HELP];
+        "next", &[operand!("CRON")], &[AFTER, HOW_MANY, BY_CLOCK, DIALECT, NOW, UNIX, PARSE, ORDER, FORMAT, LONG, JSON, HELP];
         help: "print when a schedule is due next",
         more: MORE,
         example: "$ dates next '0 9 * * 5#3' --from 2024-03-01T00:00\n2024-03-15T09:00:00"
@@ -42,11 +51,18 @@ pub(crate) fn next() -> &'static CommandRow {
 
 pub(crate) fn prev() -> &'static CommandRow {
     row!(
-        PREV, &[operand!("CRON")], &[BEFORE, HOW_MANY, BY_CLOCK, NOW, UNIX, PARSE, ORDER, FORMAT, LONG, JSON, HELP];
+        PREV, &[operand!("CRON")], &[BEFORE, HOW_MANY, BY_CLOCK, DIALECT, NOW, UNIX, PARSE, ORDER, FORMAT, LONG, JSON, HELP];
         help: "print when a schedule was due before",
         more: MORE,
         example: "$ dates prev '0 0 L * *' --from 2024-03-15T00:00\n2024-02-29T00:00:00"
     )
+}
+
+// A schedule: of minutes, or of a dialect with seconds.
+#[derive(Clone, Copy)]
+enum Plan {
+    Minutes(Schedule),
+    Seconds(TimedSchedule),
 }
 
 // The moments at which the schedule is due, on or back, a line each; `none` where there are fewer.
@@ -55,18 +71,18 @@ pub(crate) fn answer(asked: &mut Asked<'_>) {
         false if asked.words.has("--zone") => Reply::NoClock,
         _ => asked.reading.no_moment(),
     };
-    let schedule = asked.schedule(asked.word(0));
+    let plan = asked.plan(asked.word(0));
     let word = asked.option("--from");
     let goes_back = asked.command.name == PREV;
     let from = asked.moment_beside(word, goes_back);
     let count = asked.amount_if("--count").unwrap_or(1);
     asked.take_zone();
     let mut last = asked.once(word, from);
-    let (Some(schedule), zone) = (schedule, asked.zone.take()) else {
+    let (Some(plan), zone) = (plan, asked.zone.take()) else {
         return;
     };
     for _ in 0..count {
-        let Some(due) = due_beside(zone.as_ref(), &schedule, last, goes_back) else {
+        let Some(due) = due_beside(zone.as_ref(), &plan, last, goes_back) else {
             return asked.print(asked.none);
         };
         print_due(asked, zone.as_ref(), &due);
@@ -89,17 +105,18 @@ fn print_due(asked: &mut Asked<'_>, zone: Option<&OwnedZone>, due: &Start) {
 // When a schedule is due next, or was due last before: by the clock of a zone, if there is one.
 fn due_beside(
     zone: Option<&OwnedZone>,
-    schedule: &Schedule,
+    plan: &Plan,
     last: Start,
     goes_back: bool,
 ) -> Option<Start> {
-    if let (Some(zone), Start::Stamp(stamp)) = (zone, last) {
+    if let (Some(zone), Plan::Minutes(schedule), Start::Stamp(stamp)) = (zone, plan, last) {
         return Some(Start::Stamp(fired_beside(zone, schedule, stamp, goes_back)?));
     }
-    let moment = if goes_back {
-        schedule.prev_before(last.local())
-    } else {
-        schedule.next_after(last.local())
+    let moment = match plan {
+        Plan::Minutes(schedule) if goes_back => schedule.prev_before(last.local()),
+        Plan::Minutes(schedule) => schedule.next_after(last.local()),
+        Plan::Seconds(timed) if goes_back => timed.prev_before(last.local()),
+        Plan::Seconds(timed) => timed.next_after(last.local()),
     };
     last.at(moment?)
 }
@@ -135,6 +152,22 @@ impl Asked<'_> {
             _ => None,
         };
         Start::DateTime(before.unwrap_or(midnight))
+    }
+
+    // The schedule that a word writes in the dialect that is named.
+    fn plan(&mut self, word: Word<'_>) -> Option<Plan> {
+        let dialect = match self.option("--dialect").text {
+            "seconds" => Dialect::Seconds,
+            "quartz" => Dialect::Quartz,
+            _ => return Some(Plan::Minutes(self.schedule(word)?)),
+        };
+        match read_timed_schedule(dialect, word.text.as_bytes()) {
+            Ok(timed) => Some(Plan::Seconds(timed)),
+            Err(error) => {
+                self.wrong_by(word, &error, "");
+                None
+            }
+        }
     }
 
     // The schedule that a word writes.

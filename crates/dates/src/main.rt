@@ -71,13 +71,13 @@ mod seq;
 mod table;
 mod test;
 mod texts;
+mod timed_rule;
 mod values;
 mod week;
 mod weekday;
 mod within;
 mod zone_changes;
 mod zoned;
-mod zoned_rule;
 
 use prelude::*;
 use std::env;

@@ -1,19 +1,21 @@
 //! The instances of a recurrence rule.
 
 use crate::prelude::*;
+use crate::timed_rule::answer_timed;
 use chrono_rules::{Recurrence, Rule, read_rule};
 
-const START: Opt = option!("--start", "DAY"; "from which day on it recurs", required: true);
+const START: Opt =
+    option!("--start", "TIME"; "from which day or date-time on it recurs", required: true);
 
 const FROM: Opt =
-    option!("--from", "DAY"; "from which day on they are wanted\n(default: that of --start)");
+    option!("--from", "TIME"; "from which day or date-time on they are wanted\n(default: that of --start)");
 
 const EXDATE: Opt = option!(
-    "--exdate", "DAY"; "a day that is left out; may be given again", repeated: true
+    "--exdate", "TIME"; "a day or date-time that is left out; may be given again", repeated: true
 );
 
 const RDATE: Opt = option!(
-    "--rdate", "DAY"; "a day that is added; may be given again", repeated: true
+    "--rdate", "TIME"; "one that is added; may be given again", repeated: true
 );
 
 const BY_CLOCK: Opt = option!("--zone", "ZONE"; "by the clock of which time zone");
@@ -32,8 +34,9 @@ pub(crate) fn command() -> &'static CommandRow {
             FREQ=MONTHLY;BYMONTHDAY=15,-1;UNTIL=20240301   15th and last days, to 1 March\n\
             FREQ=MONTHLY;BYDAY=3FR                         third Fridays\n\
             FREQ=MONTHLY;BYDAY=MO,TU,WE,TH,FR;BYSETPOS=-1  months' last workdays, Mon-Fri\n\
-            With --zone it recurs by the zone's clock from a date-time on, also by BYHOUR or\n\
-            HOURLY. A time that the clock skips goes by the offset before.",
+            From a date-time on it recurs at that time of day, also by BYHOUR or HOURLY. With\n\
+            --zone it does so by the zone's clock, and a time that the clock skips goes by\n\
+            the offset before. An --exdate that is a day leaves out all of it.",
         example: "$ dates rule 'FREQ=MONTHLY;BYDAY=-1FR' --start 2024-01-01 --count 2\n\
             2024-01-26\n\
             2024-02-23"
@@ -42,12 +45,17 @@ pub(crate) fn command() -> &'static CommandRow {
 
 // The instances of the rule, a line each; `none` where there is none.
 pub(crate) fn answer(asked: &mut Asked<'_>) {
-    if let Some(zone) = asked.value("--zone") {
+    if asked.words.has("--zone") {
         asked.none = Reply::NoClock;
-        return crate::zoned_rule::answer_in(asked, zone);
+        return answer_timed(asked);
+    }
+    let word = asked.option("--start");
+    if asked.names_moment(word) {
+        asked.none = asked.reading.no_moment();
+        return answer_timed(asked);
     }
     let rule = asked.rule(asked.word(0));
-    let start = asked.day(asked.option("--start"));
+    let start = asked.day(word);
     let most = asked.amount_if("--count").unwrap_or(u64::MAX);
     let (dates, exceptions) = (asked.days_given("--rdate"), asked.days_given("--exdate"));
     let first = start.min(dates.first().copied().unwrap_or(start));
@@ -69,6 +77,11 @@ pub(crate) fn answer(asked: &mut Asked<'_>) {
 }
 
 impl Asked<'_> {
+    // Whether a word names a date-time or an instant.
+    fn names_moment(&self, word: Word<'_>) -> bool {
+        matches!(self.reading.read(word.text.as_bytes()), Ok(start) if start.is_moment())
+    }
+
     // The days that an option gives, in order, each once.
     fn days_given(&mut self, name: &str) -> Vec<NaiveDate> {
         let mut days = Vec::new(self.rt.alloc());
@@ -76,7 +89,7 @@ impl Asked<'_> {
             if let Some(given) = self.words.options.get(place).copied() {
                 if given.option.name == name {
                     let day = self.day(given.value);
-                    self.done(put_day(&mut days, day));
+                    self.done(put_behind(&mut days, day));
                 }
             }
         }
@@ -97,7 +110,7 @@ impl Asked<'_> {
     }
 }
 
-// Puts a day behind others.
-fn put_day<A: Allocator>(days: &mut Vec<NaiveDate, A>, day: NaiveDate) -> io::Result<()> {
-    Ok(days.push(day)?)
+// Puts an item behind others.
+pub(crate) fn put_behind<T: Drop>(items: &mut Vec<T>, item: T) -> io::Result<()> {
+    Ok(items.push(item)?)
 }

@@ -138,6 +138,9 @@ fn command_named(name: &str) -> &'static CommandRow {
 // Answers a command by its words, or prints its help.
 fn answer_words(asked: &mut Asked<'_>) {
     if asked.words.has("--help") {
+        if let Some(word) = asked.words.operand(0) {
+            asked.check_first(word);
+        }
         return print_page(asked);
     }
     if asked.words.has("--json") {
@@ -163,8 +166,7 @@ const APART: &[[&str; 2]] = &[
     ["--within", "--field"],
     ["--within", "--json"],
     ["--field", "--json"],
-    ["--exdate", "--zone"],
-    ["--rdate", "--zone"],
+    ["--dialect", "--zone"],
 ];
 
 impl<'a> Asked<'a> {

@@ -272,10 +272,11 @@ pub(crate) const NO_YEAR: &str = "expected a year from -262143 to +262142";
 /// That there is one word too many.
 pub(crate) const NO_MORE: &str = "expected no further argument";
 
-// Whether a word begins with a digit or a sign, and so was meant for a day.
+// Whether a word begins with a digit, a sign or a mark, and so was meant for a day.
 pub(crate) fn begins_as_day(word: Word<'_>) -> bool {
     match word.text.as_bytes() {
-        [first, ..] => first.is_ascii_digit() || *first == b'+' || *first == b'-',
+        [b'+' | b'-' | b'#' | b'@', ..] => true,
+        [first, ..] => first.is_ascii_digit(),
         [] => false,
     }
 }
