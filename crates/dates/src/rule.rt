@@ -34,9 +34,9 @@ pub(crate) fn command() -> &'static CommandRow {
             FREQ=MONTHLY;BYMONTHDAY=15,-1;UNTIL=20240301   15th and last days, to 1 March\n\
             FREQ=MONTHLY;BYDAY=3FR                         third Fridays\n\
             FREQ=MONTHLY;BYDAY=MO,TU,WE,TH,FR;BYSETPOS=-1  months' last workdays, Mon-Fri\n\
-            From a date-time on it recurs at that time of day, also by BYHOUR or HOURLY. With\n\
-            --zone it does so by the zone's clock, and a time that the clock skips goes by\n\
-            the offset before. An --exdate that is a day leaves out all of it.",
+            From a date-time on it recurs at that time, also by BYHOUR or HOURLY. --zone has\n\
+            it go by the zone's clock, and a time that the clock skips goes by the offset\n\
+            before. An --exdate that is a day leaves out all of it.",
         example: "$ dates rule 'FREQ=MONTHLY;BYDAY=-1FR' --start 2024-01-01 --count 2\n\
             2024-01-26\n\
             2024-02-23"
