@@ -256,10 +256,7 @@ pub(crate) fn like(asked: &mut Asked<'_>, first: &Start, word: Word<'_>) -> Star
         asked.wrong(word, why);
     }
     if first.has_offset() != second.has_offset() {
-        asked.wrong(
-            word,
-            "expected an offset of both date-times, or of none; --zone gives one",
-        );
+        asked.wrong(word, ONE_OFFSET);
     }
     second
 }

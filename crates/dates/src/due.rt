@@ -28,7 +28,7 @@ const MORE: &str = "A CRON is a nickname as @daily, or five fields in one word, 
     *, it follows the clock as it runs.\n\
     With --dialect seconds a CRON has a field of seconds in front. With quartz it is\n\
     a trigger of Quartz: so too, with weekdays 1-7 from sun on and ? for one of both\n\
-    days, and years may stand behind.";
+    days, and years from 1970 to 2099 may stand behind. Both go without --zone.";
 
 const BY_CLOCK: Opt = option!("--zone", "ZONE"; "by the clock of which time zone");
 
@@ -156,11 +156,15 @@ impl Asked<'_> {
 
     // The schedule that a word writes in the dialect that is named.
     fn plan(&mut self, word: Word<'_>) -> Option<Plan> {
-        let dialect = match self.option("--dialect").text {
+        let named = self.option("--dialect");
+        let dialect = match named.text {
             "seconds" => Dialect::Seconds,
             "quartz" => Dialect::Quartz,
             _ => return Some(Plan::Minutes(self.schedule(word)?)),
         };
+        if self.words.has("--zone") {
+            self.wrong(named, "expected no --zone beside it");
+        }
         match read_timed_schedule(dialect, word.text.as_bytes()) {
             Ok(timed) => Some(Plan::Seconds(timed)),
             Err(error) => {

@@ -15,6 +15,10 @@ pub(crate) const PAST: &str = "past the calendar's end";
 /// Why a local time is no instant.
 pub(crate) const NOT_ONCE: &str = "a local time that the zone's clock shows twice, or never";
 
+/// That of two date-times one has an offset and one has none.
+pub(crate) const ONE_OFFSET: &str =
+    "expected an offset of both date-times, or of none; --zone gives one";
+
 // What a day is expected as, and what else the first word may be.
 const ORDER_WANTED: &str =
     "expected a day as 2024-02-29; --order dmy, --order mdy or --parse reads others";

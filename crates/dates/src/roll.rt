@@ -42,7 +42,7 @@ pub(crate) fn answer(asked: &mut Asked<'_>) {
     let (date, roll) = match asked.words.operand(1) {
         Some(second) => (asked.day_if(asked.word_or_lines(0)), asked.roll_of(second)),
         None if begins_as_day(first) => {
-            asked.day(first);
+            asked.day_if(asked.word_or_lines(0));
             return asked.missing_operand(1);
         }
         None => (None, asked.roll_of(first)),

@@ -63,7 +63,7 @@ pub(crate) fn answer(asked: &mut Asked<'_>) {
     let Some(rule) = rule else {
         return;
     };
-    asked.end_by(NONE);
+    let mut is_alone = true;
     // (both are in order, each once)
     if let Some(days) = Recurrence::try_new(rule, start, dates.as_slice(), exceptions.as_slice()) {
         for day in days.iter_from(from).take(most as usize) {
@@ -71,9 +71,12 @@ pub(crate) fn answer(asked: &mut Asked<'_>) {
                 break;
             }
             asked.print(Reply::Date(day));
+            is_alone = false;
         }
     }
-    asked.print_none_if_alone();
+    if is_alone {
+        asked.print(asked.none);
+    }
 }
 
 impl Asked<'_> {

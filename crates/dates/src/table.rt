@@ -166,7 +166,6 @@ const APART: &[[&str; 2]] = &[
     ["--within", "--field"],
     ["--within", "--json"],
     ["--field", "--json"],
-    ["--dialect", "--zone"],
 ];
 
 impl<'a> Asked<'a> {
@@ -179,7 +178,7 @@ impl<'a> Asked<'a> {
             place = place.saturating_add(1);
             let text = match argument.as_str() {
                 "-h" => "--help",
-                "help" if !is_named => "--help",
+                "help" if place == 1 => "--help",
                 text => text,
             };
             if !is_named && text != "--json" && text != "--help" {

@@ -3,6 +3,7 @@
 use crate::prelude::*;
 use crate::rule::put_behind;
 use calendar_rules::{TimedRule, TimedRuleError, read_timed_rule};
+use chrono_datetime::Timelike;
 use zoned_rules::{Bound, instant_of};
 
 // Where a rule begins, and by which clock it recurs: that of a zone, or one that is always so far ahead of UTC.
@@ -15,8 +16,8 @@ struct Begin {
 // Which instances are printed.
 #[derive(Drop)]
 struct Wanted {
-    // Behind which instant, and how many at most.
-    before: DateTime<FixedOffset>,
+    // From which instant on, and how many at most.
+    from: DateTime<FixedOffset>,
     most: u64,
     // What is added, as seconds since 1970, and what is left out: instants, or whole days.
     added: Vec<i64>,
@@ -25,22 +26,21 @@ struct Wanted {
 
 // The instances from a date-time on, by the clock of a zone, if one is named, a line each; `none` where there is none.
 pub(crate) fn answer_timed(asked: &mut Asked<'_>) {
-    let rule = asked.timed_rule(asked.word(0));
     asked.take_zone();
-    let start = asked.moment(asked.option("--start"));
+    let word = asked.option("--start");
+    let start = asked.moment(word);
+    let rule = asked.timed_rule(asked.word(0), &start);
+    asked.check_whole(word, &start);
     let zone = asked.zone.take();
     let begin = Begin { start, zone };
-    let Some(rule) = rule else {
-        return;
-    };
+    asked.check_shown_first(word, &begin);
     let wanted = asked.wanted(&begin);
-    asked.end_by(NONE);
-    if let (Some(local), Some(wanted)) = (begin.local(), wanted) {
-        if let Some(rule) = begin.ended(&rule, local) {
-            print_instances(asked, &begin, &rule, local, &wanted);
-        }
+    let (Some(rule), Some(local), Some(wanted)) = (rule, begin.local(), wanted) else {
+        return asked.print(asked.none);
+    };
+    if !print_instances(asked, &begin, &rule, local, &wanted) {
+        asked.print(asked.none);
     }
-    asked.print_none_if_alone();
 }
 
 impl Begin {
@@ -93,6 +93,19 @@ impl Begin {
         }
     }
 
+    // Whether the clock has not shown the local time of the start before.
+    fn is_shown_first(&self) -> bool {
+        match self.local() {
+            Some(local) => self.second_of(Start::DateTime(local)) == self.second_of(self.start),
+            None => true,
+        }
+    }
+
+    // The second of the first such instant.
+    fn second_of(&self, start: Start) -> Option<i64> {
+        Some(self.instant(start)?.timestamp())
+    }
+
     // The instant of the start, or an earlier one that is added first.
     fn first(&self, added: &[i64]) -> Option<DateTime<FixedOffset>> {
         let start = self.instant(self.start)?;
@@ -100,15 +113,6 @@ impl Begin {
             Some(second) if *second < start.timestamp() => instant_at(*second),
             _ => Some(start),
         }
-    }
-
-    // A rule with its last instant in place of its count.
-    fn ended(&self, rule: &TimedRule, local: NaiveDateTime) -> Option<TimedRule> {
-        let bound = match &self.zone {
-            Some(zone) => bound_in(zone, rule, local)?,
-            None => bound_by(self.offset()?, rule, local)?,
-        };
-        Some(TimedRule { bound, ..*rule })
     }
 
     // The next instance after an instant.
@@ -124,6 +128,22 @@ impl Begin {
         }
     }
 
+    // The search for instances: from the start on where the rule counts them, and else from the first that is wanted.
+    fn search(&self, rule: &TimedRule, wanted: &Wanted) -> Search {
+        let mut search = Search {
+            rule: *rule,
+            last: Some(wanted.from),
+            count: u64::MAX,
+        };
+        if let Bound::Count(count) = rule.bound {
+            search.rule.bound = Bound::Never;
+            search.count = u64::from(count);
+            search.last = self.first(wanted.added.as_slice());
+        }
+        search.last = just_before(search.last);
+        search
+    }
+
     // Prints an instance in the way of the start.
     fn print(&self, asked: &mut Asked<'_>, due: DateTime<FixedOffset>) {
         match (&self.zone, self.start) {
@@ -132,22 +152,6 @@ impl Begin {
             _ => asked.print_start(&Start::DateTime(due.naive_local())),
         }
     }
-}
-
-// The end of a rule by a clock so far ahead of UTC, without a count.
-fn bound_by(offset: FixedOffset, rule: &TimedRule, local: NaiveDateTime) -> Option<Bound> {
-    let zoned = rule.in_zone(local, offset)?;
-    Some(zoned.without_count().bound)
-}
-
-// The end of a rule by a zone's clock, without a count.
-fn bound_in(zone: &OwnedZone, rule: &TimedRule, local: NaiveDateTime) -> Option<Bound> {
-    let lent = zone.zone();
-    let Some(zoned) = rule.in_zone(local, &lent) else {
-        return None;
-    };
-    let ended = zoned.without_count();
-    Some(ended.bound)
 }
 
 // The next instance by a clock so far ahead of UTC after an instant.
@@ -183,23 +187,21 @@ fn due_in(
     Some(zoned.next_after(start)?.fixed_offset())
 }
 
-// Prints the instances, with what is added, and without what is left out.
+// Prints the instances, with what is added, and without what is left out; whether there is one. COUNT counts from the start on.
 fn print_instances(
     asked: &mut Asked<'_>,
     begin: &Begin,
     rule: &TimedRule,
     local: NaiveDateTime,
     wanted: &Wanted,
-) {
-    let mut last = wanted.before;
+) -> bool {
+    let mut search = begin.search(rule, wanted);
     let mut left = wanted.most;
     for _ in 0..u64::MAX {
-        let due = begin.due_after(rule, local, last);
-        let Some(due) = begin.shown_if(wanted.earlier(last, due)) else {
+        let Some(due) = search.next(begin, local, wanted) else {
             break;
         };
-        last = due;
-        if !wanted.leaves_out(due) {
+        if due >= wanted.from && !wanted.leaves_out(due) {
             begin.print(asked, due);
             left = left.saturating_sub(1);
         }
@@ -207,6 +209,43 @@ fn print_instances(
             break;
         }
     }
+    left < wanted.most
+}
+
+// Where the search for instances stands: behind which instant, and how many the rule still has.
+#[derive(Clone, Copy)]
+struct Search {
+    rule: TimedRule,
+    last: Option<DateTime<FixedOffset>>,
+    count: u64,
+}
+
+impl Search {
+    // The next instance, or what is added before it.
+    fn next(
+        &mut self,
+        begin: &Begin,
+        local: NaiveDateTime,
+        wanted: &Wanted,
+    ) -> Option<DateTime<FixedOffset>> {
+        let last = self.last?;
+        let due = if self.count > 0 {
+            begin.due_after(&self.rule, local, last)
+        } else {
+            None
+        };
+        let next = begin.shown_if(wanted.earlier(last, due));
+        if due.is_some() && next == due {
+            self.count = self.count.saturating_sub(1);
+        }
+        self.last = next;
+        next
+    }
+}
+
+// A nanosecond before an instant.
+fn just_before(stamp: Option<DateTime<FixedOffset>>) -> Option<DateTime<FixedOffset>> {
+    stamp?.checked_sub_signed(TimeDelta::nanoseconds(1))
 }
 
 impl Wanted {
@@ -249,10 +288,31 @@ impl Wanted {
 }
 
 impl Asked<'_> {
+    // Ends where a date-time lies within a second, which no rule has.
+    fn check_whole(&mut self, word: Word<'_>, start: &Start) {
+        if start.local().time().nanosecond() > 0 {
+            self.wrong(word, "expected a whole second, and no leap second");
+        }
+    }
+
+    // Ends where a clock shows the local time of the start for the second time: a rule begins at the first.
+    fn check_shown_first(&mut self, word: Word<'_>, begin: &Begin) {
+        if !begin.is_shown_first() {
+            self.no_such(word, NOT_ONCE);
+        }
+    }
+
+    // Ends where of two date-times without a zone one has an offset and one has none.
+    fn check_alike(&mut self, word: Word<'_>, begin: &Begin, start: &Start) {
+        if begin.zone.is_none() && begin.start.has_offset() != start.has_offset() {
+            self.wrong(word, ONE_OFFSET);
+        }
+    }
+
     // Which instances the options ask for.
     fn wanted(&mut self, begin: &Begin) -> Option<Wanted> {
         let from = match self.value("--from") {
-            Some(word) => Some(self.moment(word)),
+            Some(word) => Some(self.beside(begin, word)),
             None => None,
         };
         let most = self.amount_if("--count").unwrap_or(u64::MAX);
@@ -275,26 +335,38 @@ impl Asked<'_> {
             }
         }
         added.as_mut_slice().sort_unstable();
-        let first = match from {
+        let from = match from {
             Some(from) => begin.instant(from)?,
             None => begin.first(added.as_slice())?,
         };
         Some(Wanted {
-            before: first.checked_sub_signed(TimeDelta::nanoseconds(1))?,
+            from,
             most,
             added,
             left_out,
         })
     }
 
-    // The instant that a word adds; of a day, at the time of the start.
-    fn added(&mut self, begin: &Begin, word: Word<'_>) -> Option<DateTime<FixedOffset>> {
-        let start = match self.start_as(word, MOMENT_EXPECTED) {
-            Start::Day(date) => {
-                Start::DateTime(NaiveDateTime::new(date, begin.start.local().time()))
+    // The date-time that a word names, or the midnight of a day, as the start is written.
+    fn beside(&mut self, begin: &Begin, word: Word<'_>) -> Start {
+        match self.start_as(word, MOMENT_EXPECTED) {
+            Start::Day(date) => Start::DateTime(NaiveDateTime::new(date, NaiveTime::MIN)),
+            start => {
+                self.check_alike(word, begin, &start);
+                self.moment_at(word, start)
             }
-            start => self.moment_at(word, start),
-        };
+        }
+    }
+
+    // The instant that a word adds; of a day, at the time that the clock shows at the start.
+    fn added(&mut self, begin: &Begin, word: Word<'_>) -> Option<DateTime<FixedOffset>> {
+        let start = self.start_as(word, MOMENT_EXPECTED);
+        if start.is_day() {
+            let local = NaiveDateTime::new(start.local().date(), begin.local()?.time());
+            return begin.instant(Start::DateTime(local));
+        }
+        let start = self.beside(begin, word);
+        self.check_whole(word, &start);
         begin.instant(start)
     }
 
@@ -304,12 +376,13 @@ impl Asked<'_> {
         if start.is_day() {
             return Some(start);
         }
-        Some(Start::Stamp(begin.instant(self.moment_at(word, start))?))
+        Some(Start::Stamp(begin.instant(self.beside(begin, word))?))
     }
 
     // The rule over date-times that a word writes.
-    fn timed_rule(&mut self, word: Word<'_>) -> Option<TimedRule> {
-        match read_rule_in(self.rt, word.text.as_bytes()) {
+    fn timed_rule(&mut self, word: Word<'_>, start: &Start) -> Option<TimedRule> {
+        let is_local = !self.words.has("--zone") && !start.has_offset();
+        match read_rule_in(self.rt, word.text.as_bytes(), is_local) {
             Ok(Ok(rule)) => return Some(rule),
             Ok(Err(error)) => self.wrong(word, why_no_rule(error)),
             Err(error) => self.fail(error),
@@ -318,11 +391,36 @@ impl Asked<'_> {
     }
 }
 
-// The rule over date-times that a text writes.
-fn read_rule_in(rt: &HostRuntime, text: &[u8]) -> io::Result<Result<TimedRule, TimedRuleError>> {
+// The rule over date-times that a text writes, also behind `RRULE:` and with `;` at its end. UNTIL of a rule by local time alone is local time too.
+fn read_rule_in(
+    rt: &HostRuntime,
+    text: &[u8],
+    is_local: bool,
+) -> io::Result<Result<TimedRule, TimedRuleError>> {
+    let text = text.strip_prefix(b"RRULE:").unwrap_or(text);
+    let text = text.strip_suffix(b";").unwrap_or(text);
+    let mut full: Vec<u8> = Vec::new(rt.alloc());
+    for part in text.split(|byte| *byte == b';') {
+        if !full.as_slice().is_empty() {
+            full.push(b';')?;
+        }
+        full.extend_from_slice(part)?;
+        if is_local {
+            full.extend_from_slice(end_of_until(part))?;
+        }
+    }
     let mut buffer: Vec<u8> = Vec::new(rt.alloc());
-    buffer.resize(text.len().saturating_add(1), 0)?;
-    Ok(read_timed_rule(text, buffer.as_mut_slice()))
+    buffer.resize(full.len().saturating_add(1), 0)?;
+    Ok(read_timed_rule(full.as_slice(), buffer.as_mut_slice()))
+}
+
+// What UNTIL lacks of a time in UTC: the end of its day, and the mark of UTC.
+fn end_of_until(part: &[u8]) -> &'static [u8] {
+    match part.strip_prefix(b"UNTIL=") {
+        Some(value) if value.len() == 8 => b"T235959Z",
+        Some(value) if value.len() == 15 => b"Z",
+        _ => b"",
+    }
 }
 
 // Why a text is no rule over date-times.
