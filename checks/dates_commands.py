@@ -852,19 +852,23 @@ def of_timed_rule(chance, _):
     found = [DateTime.combine(it, begin.time()) for it in rules_days.of_dateutil(rule, start)]
     if not found:
         return of_timed_rule(chance, _)
-    rule.until, last = None, found[-1]
+    until, rule.until, last = rule.until, None, found[-1]
     if chance.random() < 0.4:
         rule.count, last = chance.randint(1, len(found)), DateTime.max
+    elif offset is None and chance.random() < 0.4:
+        rule.until, last = until, DateTime.max
     found = found[: rule.count]
     added = [begin + Span(minutes=chance.randint(-7_000, 70_000)) for _ in range(chance.choice((0, 0, 1, 2)))]
     left_out = chance.sample(found[:9] + added, chance.choice((0, 0, 1)))
     is_day = chance.random() < 0.5
     kept = {it for it in [*found, *added] if it <= last and not any(it == out or is_day and it.date() == out.date() for out in left_out)}
     since = begin + Span(minutes=chance.randint(-9_000, 90_000)) if chance.random() < 0.3 else None
+    since_day = since and chance.random() < 0.4
+    since = since.replace(hour=0, minute=0) if since_day else since
     kept = sorted(it for it in kept if not since or since <= it)
     if not kept:
         return of_timed_rule(chance, _)
-    count = None if rule.count and chance.random() < 0.3 else chance.randint(1, min(len(kept), 40))
+    count = None if (rule.count or rule.until) and len(kept) < 60 and chance.random() < 0.3 else chance.randint(1, min(len(kept), 40))
 
     def word(moment):
         return moment_word(chance, moment) if offset is None else instant_word(chance, placed(moment), False)
@@ -873,7 +877,7 @@ def of_timed_rule(chance, _):
         return moment.replace(tzinfo=datetime.timezone(Span(minutes=offset)))
 
     options = [["--start", word(begin)], *(["--rdate", word(it)] for it in added), *(["--exdate", day_word(chance, it.date()) if is_day else word(it)] for it in left_out)]
-    options += [*([["--from", word(since)]] if since else []), *([["--count", str(count)]] if count else [])]
+    options += [*([["--from", day_word(chance, since.date()) if since_day else word(since)]] if since else []), *([["--count", str(count)]] if count else [])]
     chance.shuffle(options)
     lines = [moment_text(it) if offset is None else instant_text(placed(it), False) for it in kept[:count]]
     return Asked(["rule", rule.text(), *(word for it in options for word in it)], [], 0, lines, [{"moment": it} for it in lines])
