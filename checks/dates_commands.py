@@ -844,6 +844,49 @@ def of_rule(chance, _):
     return Asked(words, kinds, len(words), lines or ["none"], objects or [{"date": None}], int(not days))
 
 
+def of_skipping(chance, _):
+    """The instances of a rule with SKIP, which are looked for here day by day: none of the words is spoiled."""
+    start, yearly = any_day(chance, 1900, 2200), chance.random() < 0.5
+    if chance.random() < 0.4:
+        start = start.replace(month=chance.choice((1, 3, 5, 7, 8, 10, 12)), day=chance.randint(29, 31))
+    interval, skip = chance.choice((1, 1, 1, 2, 3, 5)), chance.choice(("OMIT", "BACKWARD", "FORWARD"))
+    listed = sorted({chance.choice((1, 15, 28, 29, 30, 31, 31, 31)) for _ in range(chance.choice((0, 1, 1, 2)))})
+    in_year = sorted({chance.randint(1, 12) for _ in range(chance.choice((0, 0, 1, 3)))})
+    parts = ["FREQ=YEARLY" if yearly else "FREQ=MONTHLY", f"SKIP={skip}", *(["RSCALE=GREGORIAN"] if chance.random() < 0.3 else [])]
+    parts += [f"{name}={','.join(map(str, values))}" for name, values in (("BYMONTHDAY", listed), ("BYMONTH", in_year)) if values]
+    in_year = in_year or ([start.month] if yearly and not listed else range(1, 13))
+    listed = listed or [start.day]
+
+    def recurs(date):
+        periods = date.year - start.year if yearly else 12 * (date.year - start.year) + date.month - start.month
+        return periods >= 0 and periods % interval == 0 and date.month in in_year
+
+    def is_due(date):
+        is_last, before = (date + DAY).day == 1, date - DAY
+        is_put = skip == "BACKWARD" and is_last and recurs(date) and listed[-1] > date.day
+        is_put |= skip == "FORWARD" and date.day == 1 and recurs(before) and listed[-1] > before.day
+        return is_put or (recurs(date) and date.day in listed)
+
+    found = [it for it in (start + Span(days) for days in range(366 * 30)) if is_due(it)][:40]
+    if not found:
+        return of_skipping(chance, _)
+    count, until = chance.randint(1, len(found)), chance.choice(found)
+    ends = [[f"COUNT={count}"], [f"UNTIL={until:%Y%m%d}"], []]
+    place = chance.randrange(3)
+    kept = [found[:count], [it for it in found if it <= until], found[:count]][place]
+    parts += ends[place] + ([f"INTERVAL={interval}"] if interval > 1 else [])
+    chance.shuffle(parts)
+    added = [start + Span(chance.randint(-40, 400)) for _ in range(chance.choice((0, 0, 1, 2)))] if ends[place] else []
+    left_out = chance.sample(kept + added, 1) if ends[place] and chance.random() < 0.3 else []
+    lines = [str(it) for it in sorted({*kept, *added} - {*left_out})]
+    if not lines:
+        return of_skipping(chance, _)
+    options = [["--start", day_word(chance, start)], *(["--rdate", day_word(chance, it)] for it in added), *(["--exdate", day_word(chance, it)] for it in left_out)]
+    options += [] if ends[place] else [["--count", str(count)]]
+    chance.shuffle(options)
+    return Asked(["rule", ";".join(parts), *(word for it in options for word in it)], [], 0, lines, [{"date": it} for it in lines])
+
+
 def of_timed_rule(chance, _):
     """The instances of a rule from a date-time on, by local time or by an offset, some left out and some added: none of the words is spoiled."""
     rule, start = rules_days.at_random(chance)
@@ -1129,7 +1172,7 @@ def asks_of_lines(words):
 
 
 SPOILERS = (with_wrong_word, with_wrong_word, with_words_missing, with_a_word_more, with_no_such_day)
-MAKERS = {of_day: 10, of_lines: 4, of_add: 16, of_diff: 16, of_instant: 8, of_zone: 6, of_zoned_add: 6, of_zoned_due: 6, of_seq: 10, of_seq_of_times: 5, of_week: 4, of_end: 12, of_easter: 4, of_leap: 3, of_open: 8, of_roll: 9, of_units: 8, of_times_alone: 8, of_rounded: 4, of_within: 8, of_grep: 8, of_each: 8, of_check: 5, of_due: 9, of_timed_due: 4, of_rule: 9, of_timed_rule: 6, of_cal: 5}
+MAKERS = {of_day: 10, of_lines: 4, of_add: 16, of_diff: 16, of_instant: 8, of_zone: 6, of_zoned_add: 6, of_zoned_due: 6, of_seq: 10, of_seq_of_times: 5, of_week: 4, of_end: 12, of_easter: 4, of_leap: 3, of_open: 8, of_roll: 9, of_units: 8, of_times_alone: 8, of_rounded: 4, of_within: 8, of_grep: 8, of_each: 8, of_check: 5, of_due: 9, of_timed_due: 4, of_rule: 9, of_timed_rule: 6, of_skipping: 5, of_cal: 5}
 
 
 def commands(chance, files, count):
@@ -1138,7 +1181,7 @@ def commands(chance, files, count):
     while len(made) < count:
         maker = chance.choices(list(MAKERS), list(MAKERS.values()))[0]
         asked = maker(chance, files)
-        if maker in (of_each, of_units, of_times_alone, of_rounded, of_within, of_grep, of_seq_of_times, of_instant, of_zone, of_zoned_add, of_zoned_due, of_timed_due, of_timed_rule):
+        if maker in (of_each, of_units, of_times_alone, of_rounded, of_within, of_grep, of_seq_of_times, of_instant, of_zone, of_zoned_add, of_zoned_due, of_timed_due, of_timed_rule, of_skipping):
             made.append(asked)
             continue
         if asked.kinds and chance.random() < 0.2:

@@ -20,8 +20,9 @@ pub(crate) fn answer(asked: &mut Asked<'_>) {
     let word = asked.word(0);
     let mut out = Buffer::new(asked.rt.alloc());
     if word.text.contains("FREQ") || word.text.contains("freq") {
-        if let Some(rule) = asked.rule(word) {
+        if let Some((rule, skip)) = asked.rule_with_skip(word) {
             put_rule(&mut out, &rule);
+            out.put(skip.words());
         }
     } else if let Some(schedule) = asked.schedule(word) {
         put_schedule(&mut out, &schedule);

@@ -68,6 +68,7 @@ mod roll;
 mod round;
 mod rule;
 mod seq;
+mod skip;
 mod table;
 mod test;
 mod texts;

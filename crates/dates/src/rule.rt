@@ -1,6 +1,7 @@
 //! The instances of a recurrence rule.
 
 use crate::prelude::*;
+use crate::skip::{DaysWanted, Skip, cut_skip, goes_with_skip, print_skipping};
 use crate::timed_rule::answer_timed;
 use chrono_rules::{Recurrence, Rule, read_rule};
 
@@ -34,6 +35,7 @@ pub(crate) fn command() -> &'static CommandRow {
             FREQ=MONTHLY;BYMONTHDAY=15,-1;UNTIL=20240301   15th and last days, to 1 March\n\
             FREQ=MONTHLY;BYDAY=3FR                         third Fridays\n\
             FREQ=MONTHLY;BYDAY=MO,TU,WE,TH,FR;BYSETPOS=-1  months' last workdays, Mon-Fri\n\
+            FREQ=MONTHLY;BYMONTHDAY=31;SKIP=BACKWARD       the 31st, or else the last (RFC 7529)\n\
             From a date-time on it recurs at that time, also by BYHOUR or HOURLY. --zone has\n\
             it go by the zone's clock, and a time that the clock skips goes by the offset\n\
             before. An --exdate that is a day leaves out all of it.",
@@ -54,29 +56,47 @@ pub(crate) fn answer(asked: &mut Asked<'_>) {
         asked.none = asked.reading.no_moment();
         return answer_timed(asked);
     }
-    let rule = asked.rule(asked.word(0));
+    let rule = asked.rule_with_skip(asked.word(0));
     let start = asked.day(word);
     let most = asked.amount_if("--count").unwrap_or(u64::MAX);
-    let (dates, exceptions) = (asked.days_given("--rdate"), asked.days_given("--exdate"));
-    let first = start.min(dates.first().copied().unwrap_or(start));
+    let (added, left_out) = (asked.days_given("--rdate"), asked.days_given("--exdate"));
+    let first = start.min(added.first().copied().unwrap_or(start));
     let from = asked.day_if(asked.value("--from")).unwrap_or(first);
-    let Some(rule) = rule else {
+    let Some((rule, skip)) = rule else {
         return;
     };
-    let mut is_alone = true;
+    let mut wanted = DaysWanted {
+        from,
+        most,
+        added,
+        passed: 0,
+        left_out,
+    };
+    if matches!(skip, Skip::Omit) {
+        print_instances(asked, rule, start, &mut wanted);
+    } else {
+        print_skipping(asked, &rule, skip, start, &mut wanted);
+    }
+    if wanted.most == most {
+        asked.print(asked.none);
+    }
+}
+
+// Prints the instances of a rule from a day on, with what is added, and without what is left out.
+fn print_instances(asked: &mut Asked<'_>, rule: Rule, start: NaiveDate, wanted: &mut DaysWanted) {
+    let (added, left_out) = (wanted.added.as_slice(), wanted.left_out.as_slice());
+    let mut left = wanted.most;
     // (both are in order, each once)
-    if let Some(days) = Recurrence::try_new(rule, start, dates.as_slice(), exceptions.as_slice()) {
-        for day in days.iter_from(from).take(most as usize) {
+    if let Some(days) = Recurrence::try_new(rule, start, added, left_out) {
+        for day in days.iter_from(wanted.from).take(wanted.most as usize) {
             if asked.is_over {
                 break;
             }
             asked.print(Reply::Date(day));
-            is_alone = false;
+            left = left.saturating_sub(1);
         }
     }
-    if is_alone {
-        asked.print(asked.none);
-    }
+    wanted.most = left;
 }
 
 impl Asked<'_> {
@@ -101,15 +121,26 @@ impl Asked<'_> {
         days
     }
 
-    // The rule that a word writes.
-    pub(crate) fn rule(&mut self, word: Word<'_>) -> Option<Rule> {
-        match read_rule(word.text.as_bytes()) {
-            Ok(rule) => Some(rule),
+    // The rule that a word writes, and where it puts a day that a month does not have.
+    pub(crate) fn rule_with_skip(&mut self, word: Word<'_>) -> Option<(Rule, Skip)> {
+        let mut others = Vec::new(self.rt.alloc());
+        let skip = match cut_skip(word.text.as_bytes(), &mut others) {
+            Ok(skip) => skip,
+            Err(error) => {
+                self.fail(error);
+                return None;
+            }
+        };
+        match read_rule(others.as_slice()) {
+            Ok(rule) if matches!(skip, Skip::Omit) || goes_with_skip(&rule) => {
+                return Some((rule, skip));
+            }
+            Ok(_) => self.wrong(word, "SKIP goes with days of months alone, as BYMONTHDAY=31"),
             Err(error) => {
                 self.wrong_by(word, &error, "; expected a rule as FREQ=MONTHLY;BYDAY=-1FR");
-                None
             }
         }
+        None
     }
 }
 

@@ -400,11 +400,11 @@ fn read_rule_in(
     let text = text.strip_prefix(b"RRULE:").unwrap_or(text);
     let text = text.strip_suffix(b";").unwrap_or(text);
     let mut full: Vec<u8> = Vec::new(rt.alloc());
+    let mut gap: &[u8] = b"";
     for part in text.split(|byte| *byte == b';') {
-        if !full.as_slice().is_empty() {
-            full.push(b';')?;
-        }
+        full.extend_from_slice(gap)?;
         full.extend_from_slice(part)?;
+        gap = b";";
         if is_local {
             full.extend_from_slice(end_of_until(part))?;
         }

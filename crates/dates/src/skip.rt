@@ -1,0 +1,185 @@
+//! The instances of a rule with SKIP (RFC 7529), which says where a day goes that a month does not have.
+
+use crate::prelude::*;
+use chrono_rules::{End, Frequency, NumberSet, Rule};
+use chrono_text::same_but_for_case;
+
+/// SKIP: where a day goes that a month does not have.
+#[derive(Clone, Copy)]
+pub(crate) enum Skip {
+    /// Nowhere: it is left out, as in RFC 5545.
+    Omit,
+    /// To the last day of the month.
+    Backward,
+    /// To the first day of the next month.
+    Forward,
+}
+
+impl Skip {
+    // What it says.
+    pub(crate) fn words(self) -> &'static str {
+        match self {
+            Skip::Omit => "",
+            Skip::Backward => ", or the last day of a month that has no such day",
+            Skip::Forward => ", or the first day after a month that has no such day",
+        }
+    }
+}
+
+// Puts the parts of a rule's text behind another, but for SKIP and the calendar of RFC 5545; what SKIP says.
+pub(crate) fn cut_skip(text: &[u8], others: &mut Vec<u8>) -> io::Result<Skip> {
+    let mut skip = None;
+    let mut gap: &[u8] = b"";
+    for part in text.split(|byte| *byte == b';') {
+        if same_but_for_case(part, b"RSCALE=GREGORIAN") {
+            continue;
+        }
+        if let (None, Some(named)) = (skip, skip_named(part)) {
+            skip = Some(named);
+            continue;
+        }
+        others.extend_from_slice(gap)?;
+        others.extend_from_slice(part)?;
+        gap = b";";
+    }
+    Ok(skip.unwrap_or(Skip::Omit))
+}
+
+// What a part of a rule's text says of days that a month does not have.
+fn skip_named(part: &[u8]) -> Option<Skip> {
+    if same_but_for_case(part, b"SKIP=OMIT") {
+        Some(Skip::Omit)
+    } else if same_but_for_case(part, b"SKIP=BACKWARD") {
+        Some(Skip::Backward)
+    } else if same_but_for_case(part, b"SKIP=FORWARD") {
+        Some(Skip::Forward)
+    } else {
+        None
+    }
+}
+
+/// Which days of a rule are printed.
+#[derive(Drop)]
+pub(crate) struct DaysWanted {
+    /// From which day on, and how many at most.
+    pub from: NaiveDate,
+    pub most: u64,
+    /// What is added, in order, and how many of these have been passed.
+    pub added: Vec<NaiveDate>,
+    pub passed: usize,
+    /// What is left out.
+    pub left_out: Vec<NaiveDate>,
+}
+
+impl DaysWanted {
+    // Prints a day, if it is wanted.
+    fn print(&mut self, asked: &mut Asked<'_>, day: NaiveDate) {
+        if self.most > 0 && day >= self.from && !self.left_out.as_slice().contains(&day) {
+            asked.print(Reply::Date(day));
+            self.most = self.most.saturating_sub(1);
+        }
+    }
+
+    // Prints what is added before an instance, and passes over what is that day; all that is added where no instance follows.
+    fn print_added(&mut self, asked: &mut Asked<'_>, due: Option<NaiveDate>) {
+        while let Some(day) = self.added.as_slice().get(self.passed).copied() {
+            let is_that_day = match due {
+                Some(due) if due < day => break,
+                Some(due) => due == day,
+                None => false,
+            };
+            self.passed = self.passed.saturating_add(1);
+            if !is_that_day {
+                self.print(asked, day);
+            }
+        }
+    }
+}
+
+// Prints the instances of a rule from a day on, with what is added: a day that a month lacks goes where SKIP says.
+pub(crate) fn print_skipping(
+    asked: &mut Asked<'_>,
+    rule: &Rule,
+    skip: Skip,
+    start: NaiveDate,
+    wanted: &mut DaysWanted,
+) {
+    let rule = filled(rule, start);
+    let mut next = start.num_days_from_ce();
+    let mut count = match rule.end {
+        End::Count(count) => u64::from(count),
+        _ => u64::MAX,
+    };
+    for first in months_of(&rule).instances(first_period(&rule, start)) {
+        for place in 1..32 {
+            let day = match landed(&rule, first, place, skip) {
+                Some(day) if day.num_days_from_ce() >= next => day,
+                _ => continue,
+            };
+            if count == 0 || wanted.most == 0 || asked.is_over || !rule.not_after(day) {
+                return wanted.print_added(asked, None);
+            }
+            wanted.print_added(asked, Some(day));
+            wanted.print(asked, day);
+            next = day.num_days_from_ce().saturating_add(1);
+            count = count.saturating_sub(1);
+        }
+    }
+    wanted.print_added(asked, None);
+}
+
+// Whether SKIP has a meaning for a rule: its days are those of months alone.
+pub(crate) fn goes_with_skip(rule: &Rule) -> bool {
+    let is_by_months = matches!(rule.frequency, Frequency::Monthly | Frequency::Yearly);
+    let is_by_weeks =
+        !rule.weekdays.is_empty() || !rule.weeks.is_empty() || !rule.weeks_from_end.is_empty();
+    let is_by_year_days = !rule.year_days.is_empty() || !rule.year_days_from_end.is_empty();
+    let is_by_places = !rule.positions.is_empty() || !rule.positions_from_end.is_empty();
+    is_by_months && !is_by_weeks && !is_by_year_days && !is_by_places
+}
+
+// The rule with the day of the start, if it names none, and then with its month too, if it recurs each year.
+fn filled(rule: &Rule, start: NaiveDate) -> Rule {
+    let mut filled = *rule;
+    if rule.month_days.is_empty() && rule.month_days_from_end.is_empty() {
+        filled.month_days = NumberSet::single(start.day());
+        if matches!(rule.frequency, Frequency::Yearly) && rule.months.is_empty() {
+            filled.months = NumberSet::single(start.month());
+        }
+    }
+    filled
+}
+
+// The rule of the first days of the months in which a rule recurs.
+fn months_of(rule: &Rule) -> Rule {
+    Rule {
+        month_days: NumberSet::single(1),
+        month_days_from_end: NumberSet::none(),
+        end: End::Never,
+        ..*rule
+    }
+}
+
+// The first day of the rule's first period, in which the start lies.
+fn first_period(rule: &Rule, start: NaiveDate) -> NaiveDate {
+    let first = start.with_day(1).unwrap_or(start);
+    match rule.frequency {
+        Frequency::Yearly => first.with_month(1).unwrap_or(first),
+        _ => first,
+    }
+}
+
+// The day at a place of a month, if the rule names it; where SKIP puts it, if the month lacks it.
+fn landed(rule: &Rule, first: NaiveDate, place: u32, skip: Skip) -> Option<NaiveDate> {
+    if let Some(day) = first.with_day(place) {
+        return if rule.on_month_day(day) { Some(day) } else { None };
+    }
+    if !rule.month_days.contains(place) {
+        return None;
+    }
+    match skip {
+        Skip::Omit => None,
+        Skip::Backward => Some(first.last_day_of_month()),
+        Skip::Forward => first.last_day_of_month().succ_opt(),
+    }
+}
