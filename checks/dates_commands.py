@@ -821,12 +821,15 @@ def of_zoned_due(chance, _):
     if chance.random() < 0.7:
         start = DateTime.combine(chance.choice(SET_ON) + chance.randint(-1, 1) * DAY, start.timetz())
     fired = firings(cron.Schedule(text, False), zone, start, days)
+    seconds = sorted(chance.sample(range(60), chance.choice((1, 2, 4)))) if chance.random() < 0.3 else []
+    if seconds:
+        text, fired = f"{','.join(map(str, seconds))} {text}", [it + Span(seconds=second) for it in fired for second in seconds]
     near = [it for it in reversed(fired) if it < start] if back else [it for it in fired if start < it]
     count = chance.choice((1, 2, 3))
     shown = [it.astimezone(zone) for it in near[:count]]
     if len(shown) < count or any(it.utcoffset() % Span(minutes=1) for it in shown):
         return of_zoned_due(chance, _)
-    words = ["prev" if back else "next", text, "--from", instant_word(chance, start, False), "--zone", name, "--count", str(count)]
+    words = ["prev" if back else "next", text, "--from", instant_word(chance, start, False), "--zone", name, "--count", str(count), *(["--dialect", "seconds"] if seconds else [])]
     return Asked(words, [], 0, [f"{instant_text(it, False)} {it.tzname()}" for it in shown], [{"moment": instant_text(it, False), "name": it.tzname()} for it in shown])
 
 

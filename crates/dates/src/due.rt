@@ -1,7 +1,8 @@
 //! When a schedule is due.
 
 use crate::prelude::*;
-use timed_cron::{Dialect, TimedSchedule, read_timed_schedule};
+use chrono_datetime::Timelike;
+use timed_cron::{Dialect, NumberSet, TimedSchedule, read_timed_schedule};
 use zoned_cron::{Policy, Schedule, ZonedSchedule, read_schedule};
 
 const AFTER: Opt =
@@ -28,13 +29,16 @@ const MORE: &str = "A CRON is a nickname as @daily, or five fields in one word, 
     *, it follows the clock as it runs.\n\
     With --dialect seconds a CRON has a field of seconds in front. With quartz it is\n\
     a trigger of Quartz: so too, with weekdays 1-7 from sun on and ? for one of both\n\
-    days, and years from 1970 to 2099 may stand behind. Both go without --zone.";
+    days, and years from 1970 to 2099 may stand behind. With robfig it is a job of\n\
+    Go's robfig/cron: five fields, with weekdays 0-6, ? as *, and 5/15 as 5-59/15.\n\
+    There */2 of days counts as a list. cronie is crontab by another name. Years do\n\
+    not go with --zone.";
 
 const BY_CLOCK: Opt = option!("--zone", "ZONE"; "by the clock of which time zone");
 
-const DIALECT: Opt = option!(
-    "--dialect", "NAME"; "crontab, seconds or quartz (default: crontab)",
-    values: &["crontab", "seconds", "quartz"], any: false
+pub(crate) const DIALECT: Opt = option!(
+    "--dialect", "NAME"; "crontab, cronie, seconds, quartz or robfig\n(default: crontab)",
+    values: &["crontab", "cronie", "seconds", "quartz", "robfig"], any: false
 );
 
 // The command that goes back.
@@ -58,10 +62,12 @@ pub(crate) fn prev() -> &'static CommandRow {
     )
 }
 
-// A schedule: of minutes, or of a dialect with seconds.
+/// A schedule.
 #[derive(Clone, Copy)]
-enum Plan {
+pub(crate) enum Plan {
+    /// It is due where a minute begins, in each year.
     Minutes(Schedule),
+    /// It is due at other seconds, or in some years.
     Seconds(TimedSchedule),
 }
 
@@ -109,8 +115,12 @@ fn due_beside(
     last: Start,
     goes_back: bool,
 ) -> Option<Start> {
-    if let (Some(zone), Plan::Minutes(schedule), Start::Stamp(stamp)) = (zone, plan, last) {
-        return Some(Start::Stamp(fired_beside(zone, schedule, stamp, goes_back)?));
+    if let (Some(zone), Start::Stamp(stamp)) = (zone, last) {
+        let fired = match plan {
+            Plan::Minutes(schedule) => fired_beside(zone, schedule, stamp, goes_back),
+            Plan::Seconds(timed) => second_beside(zone, timed, stamp, goes_back),
+        };
+        return Some(Start::Stamp(fired?));
     }
     let moment = match plan {
         Plan::Minutes(schedule) if goes_back => schedule.prev_before(last.local()),
@@ -139,6 +149,47 @@ fn fired_beside(
     Some(due?.fixed_offset())
 }
 
+// The same of a schedule with seconds: another second of the minute at which it is due, or one of the next such minute or the last.
+fn second_beside(
+    zone: &OwnedZone,
+    timed: &TimedSchedule,
+    last: DateTime<FixedOffset>,
+    goes_back: bool,
+) -> Option<DateTime<FixedOffset>> {
+    let time = shown_in(zone, Some(last))?.naive_local().time();
+    let minute = after_seconds(last, -i64::from(time.second()))?
+        .checked_sub_signed(TimeDelta::nanoseconds(i64::from(time.nanosecond())))?;
+    let before = minute.checked_sub_signed(TimeDelta::nanoseconds(1))?;
+    if fired_beside(zone, &timed.schedule, before, false) == Some(minute) {
+        if let Some(second) = other_second(timed.seconds, time, goes_back) {
+            return after_seconds(minute, i64::from(second));
+        }
+    }
+    let other = fired_beside(zone, &timed.schedule, minute, goes_back)?;
+    let second = if goes_back {
+        timed.seconds.last_in(0, 60)?
+    } else {
+        timed.seconds.first_in(0, 60)?
+    };
+    after_seconds(other, i64::from(second))
+}
+
+// The next of some seconds behind a time of the same minute, or the last before it.
+fn other_second(seconds: NumberSet, time: NaiveTime, goes_back: bool) -> Option<u32> {
+    if !goes_back {
+        seconds.first_in(time.second().saturating_add(1), 60)
+    } else if time.nanosecond() > 0 {
+        seconds.last_in(0, time.second().saturating_add(1))
+    } else {
+        seconds.last_in(0, time.second())
+    }
+}
+
+// The instant so many seconds behind another.
+fn after_seconds(stamp: DateTime<FixedOffset>, seconds: i64) -> Option<DateTime<FixedOffset>> {
+    stamp.checked_add_signed(TimeDelta::try_seconds(seconds)?)
+}
+
 impl Asked<'_> {
     // The date-time that a word names; of a day its midnight, or to go on the second before, so that midnight counts.
     fn moment_beside(&mut self, word: Word<'_>, goes_back: bool) -> Start {
@@ -155,17 +206,24 @@ impl Asked<'_> {
     }
 
     // The schedule that a word writes in the dialect that is named.
-    fn plan(&mut self, word: Word<'_>) -> Option<Plan> {
+    pub(crate) fn plan(&mut self, word: Word<'_>) -> Option<Plan> {
         let named = self.option("--dialect");
         let dialect = match named.text {
             "seconds" => Dialect::Seconds,
             "quartz" => Dialect::Quartz,
+            "robfig" => Dialect::Robfig,
             _ => return Some(Plan::Minutes(self.schedule(word)?)),
         };
-        if self.words.has("--zone") {
-            self.wrong(named, "expected no --zone beside it");
-        }
         match read_timed_schedule(dialect, word.text.as_bytes()) {
+            Ok(timed) if timed.years.is_some() => {
+                if self.words.has("--zone") {
+                    self.wrong(word, "expected no years beside --zone");
+                }
+                Some(Plan::Seconds(timed))
+            }
+            Ok(timed) if timed.seconds == NumberSet::single(0) => {
+                Some(Plan::Minutes(timed.schedule))
+            }
             Ok(timed) => Some(Plan::Seconds(timed)),
             Err(error) => {
                 self.wrong_by(word, &error, "");

@@ -1,13 +1,15 @@
 //! A schedule or a recurrence rule in plain English.
 
+use crate::due::{DIALECT, Plan};
 use crate::prelude::*;
 use chrono_datetime::Month;
 use chrono_rules::{End, Frequency, NumberSet, PlaceSet, Rule};
+use timed_cron::TimedSchedule;
 use zoned_cron::Schedule;
 
 pub(crate) fn command() -> &'static CommandRow {
     row!(
-        "explain", &[operand!("CRON|RRULE")], PLAIN;
+        "explain", &[operand!("CRON|RRULE")], &[DIALECT, JSON, HELP];
         help: "tell a schedule or a rule in plain English",
         more: "A CRON is written as for next, an RRULE as for rule.",
         example: "$ dates explain '30 4 1,15 * 5'\n\
@@ -24,8 +26,12 @@ pub(crate) fn answer(asked: &mut Asked<'_>) {
             put_rule(&mut out, &rule);
             out.put(skip.words());
         }
-    } else if let Some(schedule) = asked.schedule(word) {
-        put_schedule(&mut out, &schedule);
+    } else {
+        match asked.plan(word) {
+            Some(Plan::Minutes(schedule)) => put_schedule(&mut out, &schedule),
+            Some(Plan::Seconds(timed)) => put_timed(&mut out, &timed),
+            None => {}
+        }
     }
     asked.print_buffer(Key::Rule, &out);
 }
@@ -43,6 +49,8 @@ enum Names {
     Weekdays,
     /// As January.
     Months,
+    /// As 2024, which is 54.
+    Years,
     /// As 3rd Friday: a day of seven from Sunday on in each week of a month, of which the sixth is the last.
     WeekdayPlaces,
 }
@@ -55,6 +63,7 @@ fn put_name(out: &mut Buffer, names: Names, number: u32) {
         Names::FromEnd => put_from_end(out, number),
         Names::Weekdays => put!(out, weekday_name(number), "s"),
         Names::Months => out.put(month_name(number)),
+        Names::Years => out.show(&number.saturating_add(1970)),
         Names::WeekdayPlaces => {
             match number / 7 {
                 5 => out.put("last"),
@@ -219,6 +228,21 @@ fn put_schedule(out: &mut Buffer, schedule: &Schedule) {
         put_hours(out, hours, " of every hour");
     }
     put_days(out, schedule);
+}
+
+// Puts a schedule with seconds behind a text.
+fn put_timed(out: &mut Buffer, timed: &TimedSchedule) {
+    put_schedule(out, &timed.schedule);
+    if count_of(timed.seconds) == 60 {
+        out.put(", at every second");
+    } else if timed.seconds != NumberSet::single(0) {
+        out.put(", at the seconds ");
+        put_set(out, timed.seconds, Names::Number);
+    }
+    if let Some(years) = &timed.years {
+        out.put(", in ");
+        put_list(out, &years.places, Names::Years);
+    }
 }
 
 // Puts hours behind a text, or what is said of all.
