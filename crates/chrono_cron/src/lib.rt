@@ -26,6 +26,7 @@ pub use named_days::MonthDays;
 pub use schedule::Schedule;
 pub use search::due_moments::Dues;
 pub use text::field::read_field;
+pub use text::nicknames::nickname_meaning;
 pub use text::number_names::Names;
 pub use text::schedule_error::{ScheduleError, ScheduleFault, ScheduleField};
 pub use text::schedule_reader::read_schedule;

@@ -28,13 +28,16 @@ const MORE: &str = "A CRON is a nickname as @daily, or five fields in one word, 
     *, it follows the clock as it runs.\n\
     With --dialect seconds a CRON has a field of seconds in front. With quartz it is\n\
     a trigger of Quartz: so too, with weekdays 1-7 from sun on and ? for one of both\n\
-    days, and years from 1970 to 2099 may stand behind. Both go without --zone.";
+    days, and years from 1970 to 2099 may stand behind. With robfig it is a job of\n\
+    Go's robfig/cron: five fields, with weekdays 0-6, ? as *, and 5/15 as 5-59/15.\n\
+    There */2 of days counts as a list. These three go without --zone. The dialect\n\
+    cronie is crontab by another name.";
 
 const BY_CLOCK: Opt = option!("--zone", "ZONE"; "by the clock of which time zone");
 
 const DIALECT: Opt = option!(
-    "--dialect", "NAME"; "crontab, seconds or quartz (default: crontab)",
-    values: &["crontab", "seconds", "quartz"], any: false
+    "--dialect", "NAME"; "crontab, cronie, seconds, quartz or robfig\n(default: crontab)",
+    values: &["crontab", "cronie", "seconds", "quartz", "robfig"], any: false
 );
 
 // The command that goes back.
@@ -160,6 +163,7 @@ impl Asked<'_> {
         let dialect = match named.text {
             "seconds" => Dialect::Seconds,
             "quartz" => Dialect::Quartz,
+            "robfig" => Dialect::Robfig,
             _ => return Some(Plan::Minutes(self.schedule(word)?)),
         };
         if self.words.has("--zone") {

@@ -4,9 +4,16 @@ ghost use Rattle.chrono_cron.specs.ScheduleTexts.{nickname_meaning};
 
 use chrono_text::same_but_for_case;
 
-// The five fields that a nickname stands for, in letters of either case, or the word itself if it is none.
+/// Returns the five fields that a nickname such as `@daily` stands for. Returns `word` itself if it is no nickname.
+///
+/// The nicknames are those of [`read_schedule`](crate::read_schedule), in letters of either case. No blank stands before or behind them.
+///
+/// ```
+/// *nickname_meaning(b"@Daily") == *b"0 0 * * *" // true
+/// *nickname_meaning(b"@day") == *b"@day" // true
+/// ```
 #[tactic(auto, unfolding(crate::specs::ScheduleTexts::nickname_meaning))]
-pub(crate) fn nickname_meaning(word: &[u8]) -> &[u8]
+pub fn nickname_meaning(word: &[u8]) -> &[u8]
     ensures { result.now ≡ nickname_meaning word.now }
 {
     if same_but_for_case(word, b"@yearly") || same_but_for_case(word, b"@annually") {
