@@ -1,15 +1,12 @@
 -- The words of a text of robfig/cron.
-use Rattle.std.proofs.Common.{◌≡◌, ◌≢◌, ℕ, ◌||◌, Bool, true, false, List, [], ◌∷◌, length, Option, None, Err, refl, sym, ap, ◌∙◌}
-use Rattle.std.specs.List.{list_any}
+use Rattle.std.proofs.Common.{◌≡◌, ◌≢◌, ℕ, List, [], ◌∷◌, length, Option, None, Err, refl, sym, ap, ◌∙◌}
 use Rattle.std.specs.Option.{ok_or}
-use Rattle.std.specs.Str.{byte}
 use Rattle.std.proofs.Math.Path.{subst}
-use Rattle.chrono_text.specs.Lists.{pieces}
 use Rattle.chrono_cron.specs.PlacedWords.{placed_words}
 use Rattle.chrono_cron.specs.ScheduleErrors.{count_fault, schedule_error_at, words_fault}
 use Rattle.chrono_cron.specs.ScheduleTexts.{nickname_meaning}
 use Rattle.timed_cron.specs.Private.{IsOtherCount}
-use Rattle.timed_cron.specs.RobfigTexts.{has_star, is_star_item, robfig_meaning_read, robfig_words_read}
+use Rattle.timed_cron.specs.RobfigTexts.{robfig_meaning_read, robfig_words_read}
 use Rattle.timed_cron.specs.declared.timed_error.TimedError.TheVariants.{Fields as InFields}
 use Rattle.timed_cron.specs.declared.timed_schedule.TimedSchedule.{TimedSchedule}
 
@@ -18,7 +15,7 @@ use Rattle.timed_cron.specs.declared.timed_schedule.TimedSchedule.{TimedSchedule
 pub other_count : (text : List ℕ) (others : List (ℕ × List ℕ)) → placed_words 0 text ≡ others → (length others ≡ 5 → ⊥) → IsOtherCount text (count_fault (length text) others)
 other_count text others same other =
     record {
-      count = ap (count_fault (length text)) (sym same);
+      told = ap (count_fault (length text)) (sym same);
       others = λ a b c d e five. other (ap length (sym same ∙ five));
     }
 
@@ -49,15 +46,3 @@ pub by_meaning : (end : ℕ) (words : List (ℕ × List ℕ)) (word : ℕ × Lis
 by_meaning end words word text meaning alone is_text is_meaning =
     subst (λ l. robfig_words_read end l ≡ ok_or meaning (InFields (schedule_error_at None (words_fault end l)))) (sym alone)
     (ap (λ m. ok_or m (InFields (schedule_error_at None (words_fault end (word ∷ []))))) (ap (λ t. robfig_meaning_read (placed_words 0 t)) (sym is_text) ∙ sym is_meaning))
-
--- ---- the star bit of a field, one item after another
-
-pub star_of : (text item : List ℕ) (items : List (List ℕ)) → pieces (byte ",") text ≡ item ∷ items → has_star text ≡ (is_star_item item || list_any is_star_item items)
-unfolding has_star
-star_of text item items is = ap (list_any is_star_item) is
-
-pub star_here : (text item : List ℕ) (items : List (List ℕ)) → pieces (byte ",") text ≡ item ∷ items → is_star_item item ≡ true → has_star text ≡ true
-star_here text item items is star = star_of text item items is ∙ ap (λ b. b || list_any is_star_item items) star
-
-pub star_behind : (text item : List ℕ) (items : List (List ℕ)) → pieces (byte ",") text ≡ item ∷ items → is_star_item item ≡ false → has_star text ≡ list_any is_star_item items
-star_behind text item items is star = star_of text item items is ∙ ap (λ b. b || list_any is_star_item items) star

@@ -140,7 +140,7 @@ pub record AreFiveWords (text : List ℕ) (w : FiveWords) : Type 0 where
 
 -- the text has other words than five, and this is wrong with their number
 pub record IsOtherCount (text : List ℕ) (count : ℕ × ScheduleFault) : Type 0 where
-  pub count : count ≡ count_fault (length text) (placed_words 0 text)
+  pub told : count ≡ count_fault (length text) (placed_words 0 text)
   pub others : (a b c d e : ℕ × List ℕ) → placed_words 0 text ≢ a ∷ b ∷ c ∷ d ∷ e ∷ []
 
 -- the text has one word, with these two ends

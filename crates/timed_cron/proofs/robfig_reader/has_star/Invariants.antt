@@ -3,8 +3,8 @@ use Rattle.std.proofs.Common.{◌≡◌, length}
 use Rattle.timed_cron.specs.RobfigTexts.{has_star}
 use Rattle.timed_cron.proofs.robfig_reader.has_star.Given as goal
 
-abbrev pub invariant-loop : goal.invariant-loop
-invariant-loop l = has_star l.initial.rest ≡ has_star l.rest
+abbrev pub invariant-loop-behind : goal.invariant-loop-behind
+invariant-loop-behind l = has_star l.initial.rest ≡ has_star l.rest
 
-abbrev pub decreases-loop : goal.decreases-loop
-decreases-loop l = length l.rest
+abbrev pub decreases-loop-behind : goal.decreases-loop-behind
+decreases-loop-behind l = length l.rest
