@@ -33,6 +33,7 @@ from concurrent.futures import ThreadPoolExecutor
 import business
 import counted
 import cron
+import robfig_schedules
 import rules_days
 import timed_schedules
 
@@ -930,11 +931,16 @@ def of_timed_rule(chance, _):
 
 
 def of_timed_due(chance, _):
-    """When a schedule with seconds, or one of Quartz, is due: none of the words is spoiled."""
+    """When a schedule with seconds, or one of Quartz or robfig/cron, is due: none of the words is spoiled."""
     back, count = chance.random() < 0.4, chance.choice((1, 1, 2, 5))
     start = DateTime(2000, 1, 1) + Span(seconds=chance.randrange(30 * 366 * 86_400))
-    dialect = chance.choice(("seconds", "quartz"))
-    found = in_quartz(chance, start, count, back) if dialect == "quartz" else in_seconds(chance, start, count, back)
+    dialect = chance.choice(("seconds", "quartz", "robfig"))
+    if dialect == "seconds":
+        found = in_seconds(chance, start, count, back)
+    elif dialect == "quartz":
+        found = by_days(timed_schedules.quartz_text(chance), timed_schedules.Quartz, start, count, back)
+    else:
+        found = by_days(robfig_schedules.robfig_text(chance), robfig_schedules.Robfig, start, count, back)
     if found is None:
         return of_timed_due(chance, _)
     text, moments = found
@@ -943,12 +949,12 @@ def of_timed_due(chance, _):
     return Asked(words, [], 0, lines, [{"moment": it} for it in lines])
 
 
-def in_quartz(chance, start, count, back):
-    """A schedule of Quartz, and when it is due next to a start; None where that is not known."""
-    text, moments = timed_schedules.quartz_text(chance), []
+def by_days(text, reading, start, count, back):
+    """A text of Quartz or robfig/cron, and when it is due next to a start by a second reading of it; None where that is not known."""
+    moments = []
     second = (start - EPOCH.replace(tzinfo=None)) // Span(seconds=1)
     for _ in range(count):
-        second = timed_schedules.Quartz(text).found("prev" if back else "next", second)
+        second = reading(text).found("prev" if back else "next", second)
         if second is None:
             return None
         moments.append(EPOCH.replace(tzinfo=None) + Span(seconds=second))

@@ -563,16 +563,16 @@ static void calendars(void)
 /* Schedules with seconds and years, and texts that are none. */
 static void timed_schedules(void)
 {
-    static const char *const schedules[] = {"*/15 30 4 * * *", "0 30 4 ? * MON-FRI 2024-2026", "0 0 0 L * ?", "59 59 23 29 2 *", "@daily", "*/5 * * * *"};
+    static const char *const schedules[] = {"*/15 30 4 * * *", "0 30 4 ? * MON-FRI 2024-2026", "0 0 0 L * ?", "59 59 23 29 2 *", "@daily", "*/5 * * * *", "0/5 ? */2 * MON"};
     size_t length = any() % 24;
     uint8_t *given = any() % 4 ? copy_of(schedules[any() % (sizeof schedules / sizeof *schedules)], &length) : text(length);
     if (length && any() % 8 == 0) {
         given[any() % length] ^= (uint8_t)(1 << any() % 8);
     }
-    uint32_t dialect = any() % 16 ? (uint32_t)(any() % 3) : (uint32_t)any();
+    uint32_t dialect = any() % 16 ? (uint32_t)(any() % 4) : (uint32_t)any();
     calendar_fault fault = {0, 0, 0, 0};
     bool is_schedule = calendar_timed_schedule_check(given, length, dialect, &fault);
-    HOLDS(is_schedule ? fault.code == 0 : (fault.code || dialect > 2) && fault.byte <= fault.end && fault.end <= length);
+    HOLDS(is_schedule ? fault.code == 0 : (fault.code || dialect > 3) && fault.byte <= fault.end && fault.end <= length);
     HOLDS(fault.code == 0 || is_told(calendar_timed_schedule_fault_text, &fault, 99));
     any_fault(calendar_timed_schedule_fault_text, 20);
     calendar_date_time start = moment();

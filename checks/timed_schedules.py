@@ -59,13 +59,17 @@ fn main(rt: HostRuntime) -> io::Result<()> {
     Ok(())
 }
 
-// Answers `CALL START SCHEDULE`. A dialect stands in front of the call, unless it is that with seconds.
+// Answers `CALL START SCHEDULE`, where `reads` asks for no time. A dialect stands in front of the call, unless it is that with seconds.
 fn answer(rt: &HostRuntime, call: &str, start: i64, text: &str) -> io::Result<()> {
     let (dialect, call) = match call.split_once('-') {
         Some(("quartz", call)) => (Dialect::Quartz, call),
+        Some(("robfig", call)) => (Dialect::Robfig, call),
         Some(("crontab", call)) => (Dialect::Crontab, call),
         _ => (Dialect::Seconds, call),
     };
+    if call == "reads" {
+        return println!(rt; "= {}", read_timed_schedule(dialect, text.as_bytes()).is_ok());
+    }
     let schedule = match read_timed_schedule(dialect, text.as_bytes()) {
         Ok(schedule) => schedule,
         Err(error) => return println!(rt; "= {error}"),
@@ -231,7 +235,27 @@ def is_named(day, names, weekday_names, wrong):
     return is_place and ((day.day - 1) // 7 + 1 == int(nth) if sharp else day.day + 7 > last)
 
 
-class Quartz:
+class Walked:
+    """A schedule with its seconds, minutes and hours in order, which is found day by day."""
+
+    def found(self, call, start):
+        """The first due second after a start or the last before it, among 12 years; None if there is none."""
+        moment = datetime.datetime.fromtimestamp(start, datetime.timezone.utc).replace(tzinfo=None)
+        seconds, minutes, hours = self.times
+        times = [datetime.time(h, m, s) for h in hours for m in minutes for s in seconds] if call == "next" else [
+            datetime.time(h, m, s) for h in hours[::-1] for m in minutes[::-1] for s in seconds[::-1]]
+        for k in range(366 * 12):
+            day = moment.date() + datetime.timedelta(k if call == "next" else -k)
+            if not self.has(day):
+                continue
+            for time in times:
+                due = datetime.datetime.combine(day, time)
+                if (due > moment if call == "next" else due < moment):
+                    return calendar.timegm(due.timetuple())
+        return None
+
+
+class Quartz(Walked):
     """A text of Quartz, read by this script."""
 
     def __init__(self, text, wrong=None):
@@ -256,22 +280,6 @@ class Quartz:
             return is_named(day, self.days if self.days in DAY_NAMES else "", self.weekdays, self.wrong)
         weekday = day.isoweekday() % 7 + (self.wrong != "Sunday is 0")
         return day.day in self.listed[0] and weekday in self.listed[1]
-
-    def found(self, call, start):
-        """The first due second after a start or the last before it, among 12 years; None if there is none."""
-        moment = datetime.datetime.fromtimestamp(start, datetime.timezone.utc).replace(tzinfo=None)
-        seconds, minutes, hours = self.times
-        times = [datetime.time(h, m, s) for h in hours for m in minutes for s in seconds] if call == "next" else [
-            datetime.time(h, m, s) for h in hours[::-1] for m in minutes[::-1] for s in seconds[::-1]]
-        for k in range(366 * 12):
-            day = moment.date() + datetime.timedelta(k if call == "next" else -k)
-            if not self.has(day):
-                continue
-            for time in times:
-                due = datetime.datetime.combine(day, time)
-                if (due > moment if call == "next" else due < moment):
-                    return calendar.timegm(due.timetuple())
-        return None
 
 
 def croniter_text(text):

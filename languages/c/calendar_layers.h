@@ -111,11 +111,12 @@ size_t calendar_schedule_due(const calendar_schedule *schedule, calendar_date_ti
  * for no date-time. */
 
 /* What stands in a text: the five fields of cron, or six with seconds in front, or those of Quartz, which has weekdays from 1 for Sunday,
- * `?` for one field of days, and years such as `2024-2026` behind it. */
+ * `?` for one field of days, and years such as `2024-2026` behind it, or the five fields of Go's robfig/cron. */
 enum {
     CALENDAR_DIALECT_CRONTAB = 0,
     CALENDAR_DIALECT_SECONDS,
-    CALENDAR_DIALECT_QUARTZ
+    CALENDAR_DIALECT_QUARTZ,
+    CALENDAR_DIALECT_ROBFIG
 };
 
 /* What else can be wrong than with a schedule of cron: a text of Quartz has `?` in neither of the fields of days, or in both. */

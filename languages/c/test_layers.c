@@ -911,13 +911,14 @@ static void timed_schedules(void)
     size_t length = strlen(quarters), long_one = strlen(years);
     calendar_fault fault = {7, 8, 9, 10};
     IS(calendar_timed_schedule_check(bytes_of(quarters), length, CALENDAR_DIALECT_SECONDS, &fault), true);
-    IS(calendar_timed_schedule_check(bytes_of(quarters), length, 3, &fault), false);
+    IS(calendar_timed_schedule_check(bytes_of(quarters), length, 4, &fault), false);
     IS(fault.code, 7u);
     IS(has_timed_fault(quarters, CALENDAR_DIALECT_CRONTAB, CALENDAR_SCHEDULE_TOO_MANY_FIELDS, 0, 14, 15), true);
     IS(has_timed_fault("0,60 * * * * *", CALENDAR_DIALECT_SECONDS, CALENDAR_SCHEDULE_OUT_OF_RANGE, 6, 2, 4), true);
     IS(has_timed_fault("0 0 24 * * *", CALENDAR_DIALECT_SECONDS, CALENDAR_SCHEDULE_OUT_OF_RANGE, 2, 4, 6), true);
     IS(has_timed_fault("0 0 0 1 * MON", CALENDAR_DIALECT_QUARTZ, CALENDAR_SCHEDULE_QUESTION_MARKS, 5, 10, 13), true);
     IS(has_timed_fault("0 0 0 1 * ? 2100", CALENDAR_DIALECT_QUARTZ, CALENDAR_SCHEDULE_OUT_OF_RANGE, 7, 12, 16), true);
+    IS(has_timed_fault("0 0 ? * 7", CALENDAR_DIALECT_ROBFIG, CALENDAR_SCHEDULE_OUT_OF_RANGE, 5, 8, 9), true);
     /* 9 February 2024, 04:30:15 */
     IS_MOMENT(calendar_timed_schedule_next(bytes_of(quarters), length, CALENDAR_DIALECT_SECONDS, moment(1707453015, 0)), 1707453030, 0);
     IS_MOMENT(calendar_timed_schedule_next(bytes_of(quarters), length, CALENDAR_DIALECT_SECONDS, moment(1707453045, 0)), 1707539400, 0);
@@ -929,9 +930,13 @@ static void timed_schedules(void)
     IS_MOMENT(calendar_timed_schedule_next(bytes_of(years), long_one, CALENDAR_DIALECT_QUARTZ, moment(1767328200, 0)), 1767587400, 0);
     NO_MOMENT(calendar_timed_schedule_next(bytes_of(years), long_one, CALENDAR_DIALECT_QUARTZ, moment(1798691400, 0)));
     NO_MOMENT(calendar_timed_schedule_next(bytes_of(years), long_one, CALENDAR_DIALECT_SECONDS, moment(0, 0)));
-    NO_MOMENT(calendar_timed_schedule_prev(bytes_of(years), long_one, 3, moment(0, 0)));
+    NO_MOMENT(calendar_timed_schedule_prev(bytes_of(years), long_one, 4, moment(0, 0)));
     NO_MOMENT(calendar_timed_schedule_prev(bytes_of(years), long_one, CALENDAR_DIALECT_QUARTZ, moment(INT64_MAX, 0)));
     IS(calendar_timed_schedule_is_due(bytes_of(years), long_one, CALENDAR_DIALECT_CRONTAB, moment(1767328200, 0)), false);
+    /* from Friday, 16 February 2024, to the 21st, and to Friday, 1 March, where both fields of days have to match */
+    const char *days = "30 4 */20 * FRI";
+    IS_MOMENT(calendar_timed_schedule_next(bytes_of(days), strlen(days), CALENDAR_DIALECT_ROBFIG, moment(1708057800, 0)), 1708489800, 0);
+    IS_MOMENT(calendar_timed_schedule_next(bytes_of(days), strlen(days), CALENDAR_DIALECT_CRONTAB, moment(1708057800, 0)), 1709267400, 0);
     /* a nickname is due at second 0 */
     IS_MOMENT(calendar_timed_schedule_next(bytes_of("@daily"), 6, CALENDAR_DIALECT_SECONDS, moment(MARCH - 1, 0)), MARCH, 0);
 }

@@ -345,11 +345,11 @@ export class Schedule {
   readonly [Symbol.toStringTag]: "Schedule";
 }
 
-/** A cron schedule with seconds. `crontab` has the five fields of a Schedule, `seconds` one in front, and `quartz` years behind. */
+/** A cron schedule with seconds. `crontab` has the five fields of a Schedule, `seconds` one in front, `quartz` years behind, and `robfig` those of Go. */
 export class TimedSchedule {
   /** Throws a TextError if the text is no schedule of the dialect. */
-  constructor(text: string, options?: { dialect?: "crontab" | "seconds" | "quartz" });
-  readonly dialect: "crontab" | "seconds" | "quartz";
+  constructor(text: string, options?: { dialect?: "crontab" | "seconds" | "quartz" | "robfig" });
+  readonly dialect: "crontab" | "seconds" | "quartz" | "robfig";
   /** The first date-time after another at which it is due; undefined if there is none. */
   nextAfter(start: DateTimeLike): PlainDateTime | undefined;
   /** The last date-time before another at which it is due; undefined if there is none. */

@@ -116,7 +116,7 @@ _dates()
     next:--from) COMPREPLY=($(compgen -W $'' -- "$word")) ;;
     next:--count) COMPREPLY=($(compgen -W $'' -- "$word")) ;;
     next:--zone) COMPREPLY=($(compgen -W $'' -- "$word")) ;;
-    next:--dialect) COMPREPLY=($(compgen -W $'crontab\nseconds\nquartz\n' -- "$word")) ;;
+    next:--dialect) COMPREPLY=($(compgen -W $'crontab\ncronie\nseconds\nquartz\nrobfig\n' -- "$word")) ;;
     next:--now) COMPREPLY=($(compgen -W $'' -- "$word")) ;;
     next:--parse) COMPREPLY=($(compgen -W $'' -- "$word")) ;;
     next:--order) COMPREPLY=($(compgen -W $'dmy\nmdy\n' -- "$word")) ;;
@@ -125,7 +125,7 @@ _dates()
     prev:--from) COMPREPLY=($(compgen -W $'' -- "$word")) ;;
     prev:--count) COMPREPLY=($(compgen -W $'' -- "$word")) ;;
     prev:--zone) COMPREPLY=($(compgen -W $'' -- "$word")) ;;
-    prev:--dialect) COMPREPLY=($(compgen -W $'crontab\nseconds\nquartz\n' -- "$word")) ;;
+    prev:--dialect) COMPREPLY=($(compgen -W $'crontab\ncronie\nseconds\nquartz\nrobfig\n' -- "$word")) ;;
     prev:--now) COMPREPLY=($(compgen -W $'' -- "$word")) ;;
     prev:--parse) COMPREPLY=($(compgen -W $'' -- "$word")) ;;
     prev:--order) COMPREPLY=($(compgen -W $'dmy\nmdy\n' -- "$word")) ;;

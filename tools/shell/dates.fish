@@ -155,7 +155,7 @@ complete -c dates -n __fish_use_subcommand -a next -d 'print when a schedule is 
 complete -c dates -n '__fish_seen_subcommand_from next' -l from -r -a ''
 complete -c dates -n '__fish_seen_subcommand_from next' -l count -r -a ''
 complete -c dates -n '__fish_seen_subcommand_from next' -l zone -r -a ''
-complete -c dates -n '__fish_seen_subcommand_from next' -l dialect -r -a 'crontab seconds quartz '
+complete -c dates -n '__fish_seen_subcommand_from next' -l dialect -r -a 'crontab cronie seconds quartz robfig '
 complete -c dates -n '__fish_seen_subcommand_from next' -l now -r -a ''
 complete -c dates -n '__fish_seen_subcommand_from next' -l unix
 complete -c dates -n '__fish_seen_subcommand_from next' -l parse -r -a ''
@@ -168,7 +168,7 @@ complete -c dates -n __fish_use_subcommand -a prev -d 'print when a schedule was
 complete -c dates -n '__fish_seen_subcommand_from prev' -l from -r -a ''
 complete -c dates -n '__fish_seen_subcommand_from prev' -l count -r -a ''
 complete -c dates -n '__fish_seen_subcommand_from prev' -l zone -r -a ''
-complete -c dates -n '__fish_seen_subcommand_from prev' -l dialect -r -a 'crontab seconds quartz '
+complete -c dates -n '__fish_seen_subcommand_from prev' -l dialect -r -a 'crontab cronie seconds quartz robfig '
 complete -c dates -n '__fish_seen_subcommand_from prev' -l now -r -a ''
 complete -c dates -n '__fish_seen_subcommand_from prev' -l unix
 complete -c dates -n '__fish_seen_subcommand_from prev' -l parse -r -a ''

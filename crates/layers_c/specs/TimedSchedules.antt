@@ -7,7 +7,7 @@ use Rattle.timed_cron.specs.DueSeconds.{NoSecondAfter, NoSecondBefore, NoSecondB
 use Rattle.timed_cron.specs.TimedErrors.{timed_error_text}
 use Rattle.timed_cron.specs.TimedTexts.{IsTimedText}
 use Rattle.timed_cron.specs.declared.dialect.Dialect.{Dialect}
-use Rattle.timed_cron.specs.declared.dialect.Dialect.TheVariants.{Crontab, Seconds, Quartz}
+use Rattle.timed_cron.specs.declared.dialect.Dialect.TheVariants.{Crontab, Seconds, Quartz, Robfig}
 use Rattle.timed_cron.specs.declared.timed_error.TimedError.{TimedError}
 use Rattle.timed_cron.specs.declared.timed_error.TimedError.TheVariants.{Seconds as InSeconds, Fields as InFields, QuestionMarks, Years as InYears}
 use Rattle.timed_cron.specs.declared.timed_schedule.TimedSchedule.{TimedSchedule}
@@ -17,7 +17,7 @@ use Rattle.layers_c.specs.declared.faults.CalendarFault.{CalendarFault}
 
 -- the dialects, numbered from 0
 abbrev pub dialect_numbered : ℕ → Option Dialect
-dialect_numbered n = slice_get (Crontab ∷ Seconds ∷ Quartz ∷ []) n
+dialect_numbered n = slice_get (Crontab ∷ Seconds ∷ Quartz ∷ Robfig ∷ []) n
 
 -- the text writes the schedule in the dialect with a number
 abbrev pub WritesTimed : ℕ → List ℕ → TimedSchedule → Type 0

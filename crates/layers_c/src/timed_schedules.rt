@@ -143,6 +143,7 @@ fn dialect_of(number: u32) -> Option<Dialect>
         0 => Some(Dialect::Crontab),
         1 => Some(Dialect::Seconds),
         2 => Some(Dialect::Quartz),
+        3 => Some(Dialect::Robfig),
         _ => None,
     }
 }

@@ -3,6 +3,7 @@ mod PieceLemmas
 mod YearSteps
 mod TextWords
 mod QuartzWords
+mod RobfigWords
 mod SixFields
 mod Laws
 mod TimedDueLists

@@ -1,15 +1,15 @@
 -- The words of a text of Quartz.
-use Rattle.std.proofs.Common.{◌≡◌, ℕ, ◌*◌, ◌+◌, ◌-◌, List, [], ◌∷◌, Option, Some, None, Err, refl, sym, ap, arith}
+use Rattle.std.proofs.Common.{◌≡◌, ℕ, ◌*◌, ◌+◌, ◌-◌, List, [], ◌∷◌, Option, Some, None, Err, refl, sym, ap}
 use Rattle.std.specs.Option.{option_map, option_and_then}
 use Rattle.std.proofs.Math.Path.{subst}
 use Rattle.chrono_text.specs.Numbers.{digits_of, natural_of}
-use Rattle.chrono_cron.specs.ScheduleErrors.{front_fault, front_or, schedule_error_at, told_or}
+use Rattle.chrono_cron.specs.ScheduleErrors.{front_fault, front_or, schedule_error_at}
 use Rattle.chrono_cron.specs.declared.text.schedule_error.ScheduleFault.{ScheduleFault}
 use Rattle.timed_cron.specs.DialectFields.{named_number, field_number, number_written}
-use Rattle.timed_cron.specs.Private.{IsWordOf, IsWordAt, year_words}
-use Rattle.timed_cron.specs.QuartzTexts.{fields_read, plain_form, unless_in_front, words_read}
+use Rattle.timed_cron.specs.Private.{year_words}
+use Rattle.timed_cron.specs.DialectTexts.{unless_in_front}
+use Rattle.timed_cron.specs.QuartzTexts.{fields_read, plain_form, words_read}
 use Rattle.timed_cron.specs.declared.timed_error.TimedError.TheVariants.{Fields as InFields}
-use Rattle.timed_cron.specs.declared.words.Ends.{Ends}
 
 -- words of another number, by what they are
 pub told : (end : ℕ) (words others : List (ℕ × List ℕ)) (count : ℕ × ScheduleFault) → words ≡ others
@@ -21,17 +21,6 @@ pub words_by : (end : ℕ) (words : List (ℕ × List ℕ)) (a b c d e f : ℕ �
     → words_read end words ≡ unless_in_front (front_fault a.1) a.0 (fields_read a b c d e f g)
 words_by end words a b c d e f None is = ap (words_read end) is
 words_by end words a b c d e f (Some g) is = ap (words_read end) is
-
-pub within : (text : List ℕ) (from : ℕ) (e : Ends) → IsWordAt text from e.place e.end → IsWordOf text e
-within text from e is = (omega (arith, is.some), is.within)
-
-pub told_first : (word : ℕ × List ℕ) (words more : List (ℕ × List ℕ)) (count : ℕ × ScheduleFault) → words ≡ word ∷ more → front_or words count ≡ told_or word.0 (front_fault word.1) count
-unfolding front_or
-told_first word words more count e = ap (λ l. front_or l count) e
-
-pub told_none : (words : List (ℕ × List ℕ)) (count : ℕ × ScheduleFault) → words ≡ [] → front_or words count ≡ count
-unfolding front_or
-told_none words count e = ap (λ l. front_or l count) e
 
 -- where no `#` stands, no number stands behind it
 pub none_for : (o : Option ℕ) (text : List ℕ) → text ≡ [] → option_and_then (λ d. option_map (λ k. 7 * (k - 1) + (d - 1)) (field_number (plain_form 1 5) text)) o ≡ None

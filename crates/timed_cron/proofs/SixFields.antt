@@ -18,7 +18,7 @@ use Rattle.chrono_cron.proofs.TextWords.{piece_of, words_of}
 use Rattle.timed_cron.specs.Private.{HasFourWords, IsUnreadFirst, IsWordAt, bytes_of}
 use Rattle.timed_cron.specs.TimedErrors.{error_with_seconds, four_fault}
 use Rattle.timed_cron.specs.TimedTexts.{IsAtSecondZero, IsNicknameText, IsSixFieldText}
-use Rattle.timed_cron.specs.QuartzTexts.{timed_error_in}
+use Rattle.timed_cron.specs.DialectTexts.{timed_error_in}
 use Rattle.timed_cron.specs.declared.timed_error.TimedError.{TimedError}
 use Rattle.timed_cron.specs.declared.timed_error.TimedError.TheVariants.{Fields as InFields}
 use Rattle.timed_cron.specs.declared.timed_schedule.TimedSchedule.{TimedSchedule}

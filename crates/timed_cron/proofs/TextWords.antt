@@ -5,8 +5,11 @@ use Rattle.std.proofs.lemmas.List.{drop-drop, drop-take, drop_all, get_or-drop, 
 use Rattle.std.proofs.lemmas.List.Sums.{position_or_len_is}
 use Rattle.chrono_text.specs.Lists.{is_blank}
 use Rattle.chrono_cron.specs.PlacedWords.{placed_words}
+use Rattle.chrono_cron.specs.ScheduleErrors.{front_fault, front_or, told_or}
+use Rattle.chrono_cron.specs.declared.text.schedule_error.ScheduleFault.{ScheduleFault}
 use Rattle.chrono_cron.proofs.TextWords.{blank_at, nothing_left, word_here}
-use Rattle.timed_cron.specs.Private.{AreBlank, HasFourWords, IsWordAt, bytes_of}
+use Rattle.timed_cron.specs.Private.{AreBlank, HasFourWords, IsWordAt, IsWordOf, bytes_of}
+use Rattle.timed_cron.specs.declared.words.Ends.{Ends}
 
 -- ---- blanks in front
 
@@ -75,6 +78,10 @@ cut_at text from place end n before within is =
 pub cut_end : (text : List ℕ) (n : ℕ) → placed_words n (drop n (take n text)) ≡ []
 cut_end text n = ap (placed_words n) (drop_all n (take n text) (omega (arith, length-take n text))) ∙ nothing_left n
 
+-- a word lies in the text
+pub within : (text : List ℕ) (from : ℕ) (e : Ends) → IsWordAt text from e.place e.end → IsWordOf text e
+within text from e is = (omega (arith, is.some), is.within)
+
 -- ---- words in a row
 
 -- one word more in front
@@ -112,3 +119,13 @@ four_at text from p q r s first second third fourth a b c d within blanks =
 -- words of another number are not four
 pub no_four : (words others : List (ℕ × List ℕ)) → words ≡ others → (length others ≡ 4 → ⊥) → (c d e f : ℕ × List ℕ) → words ≡ c ∷ d ∷ e ∷ f ∷ [] → ⊥
 no_four words others same other c d e f four = other (ap length (sym same ∙ four))
+
+-- ---- what stands in front of words, by the first of them
+
+pub told_first : (word : ℕ × List ℕ) (words more : List (ℕ × List ℕ)) (count : ℕ × ScheduleFault) → words ≡ word ∷ more → front_or words count ≡ told_or word.0 (front_fault word.1) count
+unfolding front_or
+told_first word words more count e = ap (λ l. front_or l count) e
+
+pub told_none : (words : List (ℕ × List ℕ)) (count : ℕ × ScheduleFault) → words ≡ [] → front_or words count ≡ count
+unfolding front_or
+told_none words count e = ap (λ l. front_or l count) e

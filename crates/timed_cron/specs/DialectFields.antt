@@ -1,6 +1,7 @@
--- Fields of numbers as Quartz has them: what each item lists, and what is wrong with one that cannot be read.
+-- Fields of numbers as Quartz and robfig/cron have them: what each item lists, and what is wrong with one that cannot be read.
 -- What is said of Quartz is its "Cron Triggers Tutorial" and the documentation of its class CronExpression, in our words.
-use Rattle.std.specs.Prelude.{◌≡◌, ℕ, zero, suc, ◌+◌, ◌-◌, nat_le, Bool, true, ◌||◌, if◌then◌else◌, List, [], ◌∷◌, length, take, Option, Some, None, Result, Ok, Err, is_some, codes, refl}
+-- What is said of robfig/cron is the documentation of its version 3 and its file parser.go.
+use Rattle.std.specs.Prelude.{◌≡◌, ℕ, zero, suc, ◌+◌, ◌-◌, nat_le, Bool, true, false, ◌==◌, ◌&&◌, ◌||◌, if◌then◌else◌, List, [], ◌∷◌, length, take, Option, Some, None, Result, Ok, Err, is_some, codes, refl}
 use Rattle.std.specs.Option.{option_map, option_and_then, option_or}
 use Rattle.std.specs.Str.{byte}
 use Rattle.chrono_text.specs.Lists.{pieces, stands_in}
@@ -9,14 +10,14 @@ use Rattle.chrono_sets.specs.FiniteSets.{FiniteSet, no_numbers, numbers, with_nu
 use Rattle.chrono_sets.specs.Steps.{is_by_steps}
 use Rattle.chrono_datetime.specs.Month.{number_from_month}
 use Rattle.chrono_datetime.specs.Names.{month_of_letters, weekday_of_letters}
-use Rattle.chrono_datetime.specs.Weekday.{number_from_sunday}
+use Rattle.chrono_datetime.specs.Weekday.{days_from_sunday, number_from_sunday}
 use Rattle.chrono_cron.specs.FieldTexts.{before_byte, behind_byte, is_star, step_of}
 use Rattle.chrono_cron.specs.ScheduleErrors.{step_fault, unspelled_fault}
 use Rattle.chrono_cron.specs.declared.text.schedule_error.ScheduleFault.{ScheduleFault}
 use Rattle.chrono_cron.specs.declared.text.schedule_error.ScheduleFault.TheVariants.{LongName, OutOfRange, RangeTurnedRound}
 use Rattle.timed_cron.specs.declared.field_form.FieldForm.{FieldForm}
 use Rattle.timed_cron.specs.declared.field_form.FieldNames.{FieldNames}
-use Rattle.timed_cron.specs.declared.field_form.FieldNames.TheVariants.{Nothing, Months, Weekdays}
+use Rattle.timed_cron.specs.declared.field_form.FieldNames.TheVariants.{Nothing, Months, Weekdays, WeekdaysFromZero}
 use Rattle.timed_cron.specs.declared.field_form.Span.{Span}
 
 -- ---- what is read, or what is wrong behind how many bytes
@@ -38,11 +39,13 @@ ok_or (Some a) fault = Ok a
 
 -- ---- numbers
 
--- the number of a name. "The names of months and days of the week are not case sensitive": months count from 1, and weekdays from 1 for Sunday
+-- the number of a name. "The names of months and days of the week are not case sensitive": months count from 1, and weekdays from 1 for Sunday.
+-- In robfig/cron they count from 0, where "Month and Day-of-week field values are case insensitive" too
 unfoldable pub named_number : FieldNames → List ℕ → Option ℕ
 named_number Nothing text = None
 named_number Months text = option_map number_from_month (month_of_letters text)
 named_number Weekdays text = option_map number_from_sunday (weekday_of_letters 3 text)
+named_number WeekdaysFromZero text = option_map days_from_sunday (weekday_of_letters 3 text)
 
 -- the number that digits write or that has the name
 unfoldable pub number_written : FieldForm → List ℕ → Option ℕ
@@ -68,7 +71,17 @@ step_read text = ok_or (step_of text) (step_fault text)
 
 -- ---- ranges and steps
 
--- a range may go over the end of the field, such as `22-2`, the hours from 22 to 2. Years do not come round
+-- the text is `?`
+abbrev pub is_mark : List ℕ → Bool
+is_mark [] = false
+is_mark (x ∷ []) = x == byte "?"
+is_mark (x ∷ y ∷ rest) = false
+
+-- the text stands for all numbers of the field: "`*` (all values)". In robfig/cron `?` "may be used instead of `*`"
+abbrev pub is_all : FieldForm → List ℕ → Bool
+is_all form text = is_star text || (form.marks && is_mark text)
+
+-- a range of Quartz may go over the end of the field, such as `22-2`, the hours from 22 to 2. Years do not come round, nor do ranges of robfig/cron
 abbrev pub in_order : FieldForm → ℕ → ℕ → ℕ → Result (ℕ × ℕ) (ℕ × ScheduleFault)
 in_order form place first last = if form.wraps || nat_le first last then Ok (first, last) else Err (place, RangeTurnedRound)
 
@@ -78,17 +91,17 @@ range_read form front back =
     read_then (field_number_read form front) (λ first.
     read_then (fault_behind (length front + 1) (field_number_read form back)) (λ last. in_order form (length front + 1) first last))
 
--- the first and the last number of an item: "`*` (all values)", "`-` is used to specify ranges", or a number alone
+-- the first and the last number of an item: all, "`-` is used to specify ranges", or a number alone
 unfoldable pub ends_read : FieldForm → List ℕ → Result (ℕ × ℕ) (ℕ × ScheduleFault)
 ends_read form text =
-    if is_star text then Ok (form.low, form.high)
+    if is_all form text then Ok (form.low, form.high)
     else if stands_in (byte "-") text then range_read form (before_byte (byte "-") text) (behind_byte (byte "-") text)
     else read_then (field_number_read form text) (λ n. Ok (n, n))
 
 -- the same in front of a `/`, where a number alone begins a range to the end of the field: `5/15` in the minutes are 5, 20, 35 and 50
 unfoldable pub stepped_ends_read : FieldForm → List ℕ → Result (ℕ × ℕ) (ℕ × ScheduleFault)
 stepped_ends_read form text =
-    if is_star text || stands_in (byte "-") text then ends_read form text
+    if is_all form text || stands_in (byte "-") text then ends_read form text
     else read_then (field_number_read form text) (λ n. Ok (n, form.high))
 
 -- a first and a last number, by steps
@@ -138,19 +151,19 @@ abbrev pub numbers_read : FieldForm → List ℕ → Result FiniteSet (ℕ × Sc
 numbers_read form text = items_read with_span form no_numbers 0 (pieces (byte ",") text)
 
 -- known values: every 15th minute from 5 on, hours that go over midnight, and a month by its name
-numbers_read-stepped : numbers_read (record { names = Nothing; digits = 2; low = 0; high = 59; base = 0; wraps = true }) (codes "5/15") ≡ Ok (numbers (5 ∷ 20 ∷ 35 ∷ 50 ∷ []))
+numbers_read-stepped : numbers_read (record { names = Nothing; digits = 2; low = 0; high = 59; base = 0; wraps = true; marks = false }) (codes "5/15") ≡ Ok (numbers (5 ∷ 20 ∷ 35 ∷ 50 ∷ []))
 unfolding items_read span_read stepped_ends_read ends_read range_read field_number_read form_number_fault field_number number_written named_number step_read span_lists with_span step_of digits_of natural_of month_of_letters weekday_of_letters
 numbers_read-stepped = refl
 
-numbers_read-over_midnight : numbers_read (record { names = Nothing; digits = 2; low = 0; high = 23; base = 0; wraps = true }) (codes "22-2/2") ≡ Ok (numbers (22 ∷ 0 ∷ 2 ∷ []))
+numbers_read-over_midnight : numbers_read (record { names = Nothing; digits = 2; low = 0; high = 23; base = 0; wraps = true; marks = false }) (codes "22-2/2") ≡ Ok (numbers (22 ∷ 0 ∷ 2 ∷ []))
 unfolding items_read span_read stepped_ends_read ends_read range_read field_number_read form_number_fault field_number number_written named_number step_read span_lists with_span step_of digits_of natural_of month_of_letters weekday_of_letters
 numbers_read-over_midnight = refl
 
-numbers_read-months : numbers_read (record { names = Months; digits = 2; low = 1; high = 12; base = 0; wraps = true }) (codes "nov-Feb,6") ≡ Ok (numbers (11 ∷ 12 ∷ 1 ∷ 2 ∷ 6 ∷ []))
+numbers_read-months : numbers_read (record { names = Months; digits = 2; low = 1; high = 12; base = 0; wraps = true; marks = false }) (codes "nov-Feb,6") ≡ Ok (numbers (11 ∷ 12 ∷ 1 ∷ 2 ∷ 6 ∷ []))
 unfolding items_read span_read stepped_ends_read ends_read range_read field_number_read form_number_fault field_number number_written named_number step_read span_lists with_span step_of digits_of natural_of month_of_letters weekday_of_letters
 numbers_read-months = refl
 
 -- what is wrong behind four bytes
-numbers_read-wrong : numbers_read (record { names = Nothing; digits = 2; low = 0; high = 59; base = 0; wraps = true }) (codes "5,7-60") ≡ Err (4, OutOfRange)
+numbers_read-wrong : numbers_read (record { names = Nothing; digits = 2; low = 0; high = 59; base = 0; wraps = true; marks = false }) (codes "5,7-60") ≡ Err (4, OutOfRange)
 unfolding items_read span_read stepped_ends_read ends_read range_read field_number_read form_number_fault field_number number_written named_number step_read span_lists with_span step_of digits_of natural_of month_of_letters weekday_of_letters
 numbers_read-wrong = refl

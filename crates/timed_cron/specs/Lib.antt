@@ -1,8 +1,10 @@
 pub mod DialectFields
+pub mod DialectTexts
 pub mod DueSeconds
 pub mod KnownSeconds
 pub mod Private
 pub mod QuartzTexts
+pub mod RobfigTexts
 pub mod TimedDueLists
 pub mod TimedErrors
 pub mod TimedTexts

@@ -1,5 +1,5 @@
 -- Words of functions that are not public.
-use Rattle.std.specs.Prelude.{◌≡◌, ℕ, ◌-◌, ◌<◌, ◌≤◌, true, false, ◌&&◌, List, [], ◌∷◌, length, take, drop, slice_index, Option, None, Some, IfSome}
+use Rattle.std.specs.Prelude.{◌≡◌, ◌≢◌, ℕ, ◌-◌, ◌<◌, ◌≤◌, true, false, ◌&&◌, List, [], ◌∷◌, length, take, drop, slice_index, Option, None, Some, IfSome}
 use Rattle.chrono_text.specs.Lists.{is_blank}
 use Rattle.chrono_datetime.specs.Days.{year_of}
 use Rattle.chrono_datetime.specs.Moment.{Moment, IsBefore, IsMoment}
@@ -8,12 +8,15 @@ use Rattle.chrono_sets.specs.FiniteSets.{has}
 use Rattle.chrono_cron.specs.Due.{is_due}
 use Rattle.chrono_cron.specs.FieldTexts.{field_lists}
 use Rattle.chrono_cron.specs.PlacedWords.{placed_words}
+use Rattle.chrono_cron.specs.ScheduleErrors.{count_fault}
 use Rattle.chrono_cron.specs.declared.text.number_names.Names.TheVariants.{Numbers}
+use Rattle.chrono_cron.specs.declared.text.schedule_error.ScheduleFault.{ScheduleFault}
 use Rattle.timed_cron.specs.DueSeconds.{is_due_at_second}
 use Rattle.timed_cron.specs.Years.{has_year}
 use Rattle.timed_cron.specs.declared.field_form.FieldForm.{FieldForm}
 use Rattle.timed_cron.specs.declared.field_form.Span.{Span}
 use Rattle.timed_cron.specs.declared.quartz_reader.Words.{Words}
+use Rattle.timed_cron.specs.declared.robfig_reader.FiveWords.{FiveWords}
 use Rattle.timed_cron.specs.declared.timed_schedule.TimedSchedule.{TimedSchedule}
 use Rattle.timed_cron.specs.declared.words.Ends.{Ends}
 use Rattle.timed_cron.specs.declared.year_set.YearSet.{YearSet}
@@ -125,6 +128,25 @@ pub record AreQuartzWords (text : List ℕ) (w : Words) : Type 0 where
   pub month : IsWordOf text w.month
   pub weekday : IsWordOf text w.weekday
   pub year : IfSome w.year (IsWordOf text)
+
+-- the text has these five words, and no others
+pub record AreFiveWords (text : List ℕ) (w : FiveWords) : Type 0 where
+  pub words : placed_words 0 text ≡ word_of text w.minute ∷ word_of text w.hour ∷ word_of text w.day ∷ word_of text w.month ∷ word_of text w.weekday ∷ []
+  pub minute : IsWordOf text w.minute
+  pub hour : IsWordOf text w.hour
+  pub day : IsWordOf text w.day
+  pub month : IsWordOf text w.month
+  pub weekday : IsWordOf text w.weekday
+
+-- the text has other words than five, and this is wrong with their number
+pub record IsOtherCount (text : List ℕ) (count : ℕ × ScheduleFault) : Type 0 where
+  pub told : count ≡ count_fault (length text) (placed_words 0 text)
+  pub others : (a b c d e : ℕ × List ℕ) → placed_words 0 text ≢ a ∷ b ∷ c ∷ d ∷ e ∷ []
+
+-- the text has one word, with these two ends
+pub record IsOnlyWord (text : List ℕ) (word : Ends) : Type 0 where
+  pub words : placed_words 0 text ≡ word_of text word ∷ []
+  pub within : IsWordOf text word
 
 -- the text has five words, of which the first is no field of minutes
 pub record IsUnreadFirst (text : List ℕ) : Type 0 where

@@ -1,5 +1,5 @@
 -- The texts of Quartz's cron triggers. What is said of Quartz is its "Cron Triggers Tutorial" and the documentation of its class CronExpression.
-use Rattle.std.specs.Prelude.{◌≡◌, ℕ, ◌+◌, ◌-◌, ◌*◌, ◌==◌, Bool, true, false, if◌then◌else◌, List, [], ◌∷◌, length, drop, Option, Some, None, Result, Ok, Err, is_some, codes, refl}
+use Rattle.std.specs.Prelude.{◌≡◌, ℕ, ◌+◌, ◌-◌, ◌*◌, Bool, true, false, if◌then◌else◌, List, [], ◌∷◌, length, drop, Option, Some, None, Result, Ok, Err, is_some, codes, refl}
 use Rattle.std.specs.Option.{option_map, option_and_then}
 use Rattle.std.specs.Str.{byte, str_eq_ignore_ascii_case}
 use Rattle.chrono_text.specs.Lists.{begins_alike, pieces, stands_in}
@@ -14,9 +14,9 @@ use Rattle.chrono_cron.specs.ScheduleTexts.{before_letter, is_last_workday_text}
 use Rattle.chrono_cron.specs.declared.named_days.MonthDays.{MonthDays}
 use Rattle.chrono_cron.specs.declared.text.schedule_error.ScheduleFault.{ScheduleFault}
 use Rattle.chrono_cron.specs.declared.text.schedule_error.ScheduleFault.TheVariants.{Empty, OutOfRange, Reboot, TimeZone, TooFewFields, TooManyFields}
-use Rattle.chrono_cron.specs.declared.text.schedule_error.ScheduleField.{ScheduleField}
 use Rattle.chrono_cron.specs.declared.text.schedule_error.ScheduleField.TheVariants.{Minute, Hour, Day, Month, Weekday}
-use Rattle.timed_cron.specs.DialectFields.{read_then, ends_read, items_read, named_number, form_number_fault, field_number, field_number_read, number_written, numbers_read, range_read, span_by, span_lists, span_read, step_read, stepped_ends_read, with_span}
+use Rattle.timed_cron.specs.DialectFields.{read_then, ends_read, is_mark, items_read, named_number, form_number_fault, field_number, field_number_read, number_written, numbers_read, range_read, span_by, span_lists, span_read, step_read, stepped_ends_read, with_span}
+use Rattle.timed_cron.specs.DialectTexts.{in_field, unless_in_front}
 use Rattle.timed_cron.specs.declared.field_form.FieldForm.{FieldForm}
 use Rattle.timed_cron.specs.declared.field_form.FieldNames.TheVariants.{Nothing, Months, Weekdays}
 use Rattle.timed_cron.specs.declared.quartz_days.DaySets.{DaySets}
@@ -28,17 +28,17 @@ use Rattle.timed_cron.specs.declared.year_set.YearSet.{YearSet}
 -- ---- the numbers of the fields: seconds and minutes 0-59, hours 0-23, days of the month 1-31, months 1-12 or JAN-DEC, days of the week 1-7 or
 -- SUN-SAT, years 1970-2099
 abbrev pub plain_form : ℕ → ℕ → FieldForm
-plain_form low high = record { names = Nothing; digits = 2; low = low; high = high; base = 0; wraps = true }
+plain_form low high = record { names = Nothing; digits = 2; low = low; high = high; base = 0; wraps = true; marks = false }
 
 abbrev pub months_form : FieldForm
-months_form = record { names = Months; digits = 2; low = 1; high = 12; base = 0; wraps = true }
+months_form = record { names = Months; digits = 2; low = 1; high = 12; base = 0; wraps = true; marks = false }
 
 -- 1 is Sunday, which has the place 0
 abbrev pub weekdays_form : FieldForm
-weekdays_form = record { names = Weekdays; digits = 2; low = 1; high = 7; base = 1; wraps = true }
+weekdays_form = record { names = Weekdays; digits = 2; low = 1; high = 7; base = 1; wraps = true; marks = false }
 
 abbrev pub years_form : FieldForm
-years_form = record { names = Nothing; digits = 4; low = 1_970; high = 2_099; base = 1_970; wraps = false }
+years_form = record { names = Nothing; digits = 4; low = 1_970; high = 2_099; base = 1_970; wraps = false; marks = false }
 
 -- ---- days that are named. Each stands alone in its field: "it is important not to specify lists, or ranges of values"
 
@@ -99,11 +99,6 @@ listed_unless (Some fault) numbers = Err fault
 listed_unless None numbers = read_then numbers (λ set. Ok (listed_days set))
 
 -- "`?` (no specific value)": the field leaves out no day
-abbrev pub is_mark : List ℕ → Bool
-is_mark [] = false
-is_mark (x ∷ []) = x == byte "?"
-is_mark (x ∷ y ∷ rest) = false
-
 abbrev pub every_quartz_day : FieldForm → DaySets
 every_quartz_day form = listed_days (with_span no_numbers form (span_by (form.low, form.high) 1))
 
@@ -132,10 +127,6 @@ weekdays_read text = if is_mark text then Ok (every_quartz_day weekdays_form) el
 abbrev pub in_seconds : {A : Type 0} → ℕ → Result A (ℕ × ScheduleFault) → Result A TimedError
 in_seconds place (Ok a) = Ok a
 in_seconds place (Err e) = Err (InSeconds (schedule_error_at None (place + e.0, e.1)))
-
-abbrev pub in_field : {A : Type 0} → ScheduleField → ℕ → Result A (ℕ × ScheduleFault) → Result A TimedError
-in_field field place (Ok a) = Ok a
-in_field field place (Err e) = Err (InFields (schedule_error_at (Some field) (place + e.0, e.1)))
 
 abbrev pub in_years : {A : Type 0} → ℕ → Result A (ℕ × ScheduleFault) → Result A TimedError
 in_years place (Ok a) = Ok a
@@ -199,11 +190,6 @@ unfoldable pub fields_read : ℕ × List ℕ → ℕ × List ℕ → ℕ × List
 fields_read a b c d e f g =
     read_then (clock_read a b c) (λ t. read_then (calendar_read d e f) (λ days. read_then (years_read g) (λ years. Ok (schedule_of t days years))))
 
--- what stands in front in place of a field is told before all others
-abbrev pub unless_in_front : Option ScheduleFault → ℕ → Result TimedSchedule TimedError → Result TimedSchedule TimedError
-unless_in_front (Some fault) place fields = Err (InFields (schedule_error_at None (place, fault)))
-unless_in_front None place fields = fields
-
 -- what is wrong with the number of words that are neither six nor seven
 abbrev pub quartz_count_fault : ℕ → List (ℕ × List ℕ) → ℕ × ScheduleFault
 quartz_count_fault end [] = (end, Empty)
@@ -220,11 +206,6 @@ words_read end others = Err (InFields (schedule_error_at None (front_or others (
 -- the schedule of a text of Quartz, or what is wrong with the text: the first of its fields that cannot be read, the place, and the reason
 unfoldable pub quartz_read : List ℕ → Result TimedSchedule TimedError
 quartz_read text = words_read (length text) (placed_words 0 text)
-
--- what is wrong with a text that cannot be read
-abbrev pub timed_error_in : Result TimedSchedule TimedError → TimedError
-timed_error_in (Ok s) = InFields (schedule_error_at None (0, Empty))
-timed_error_in (Err e) = e
 
 -- known values: 1 is Sunday, and so is SUN; L alone is Saturday; the last Friday and the third
 weekdays_read-sunday : weekdays_read (codes "1") ≡ Ok (listed_days (numbers (0 ∷ [])))

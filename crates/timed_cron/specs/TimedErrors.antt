@@ -12,9 +12,11 @@ use Rattle.chrono_cron.specs.declared.text.number_names.Names.TheVariants.{Numbe
 use Rattle.chrono_cron.specs.declared.text.schedule_error.ScheduleFault.{ScheduleFault}
 use Rattle.chrono_cron.specs.declared.text.schedule_error.ScheduleFault.TheVariants.{Interval, OutOfRange, Reboot, TimeZone, TooFewFields, TooManyFields, UnknownNickname}
 use Rattle.chrono_cron.specs.declared.text.schedule_error.ScheduleField.TheVariants.{Minute}
-use Rattle.timed_cron.specs.QuartzTexts.{timed_error_in, quartz_read}
+use Rattle.timed_cron.specs.DialectTexts.{timed_error_in}
+use Rattle.timed_cron.specs.QuartzTexts.{quartz_read}
+use Rattle.timed_cron.specs.RobfigTexts.{robfig_read}
 use Rattle.timed_cron.specs.declared.dialect.Dialect.{Dialect}
-use Rattle.timed_cron.specs.declared.dialect.Dialect.TheVariants.{Crontab, Seconds, Quartz}
+use Rattle.timed_cron.specs.declared.dialect.Dialect.TheVariants.{Crontab, Seconds, Quartz, Robfig}
 use Rattle.timed_cron.specs.declared.timed_error.TimedError.{TimedError}
 use Rattle.timed_cron.specs.declared.timed_error.TimedError.TheVariants.{Seconds as InSeconds, Fields as InFields, QuestionMarks, Years as InYears}
 
@@ -56,6 +58,7 @@ unfoldable pub timed_error : Dialect → List ℕ → TimedError
 timed_error Crontab text = InFields (schedule_error text)
 timed_error Seconds text = error_with_seconds text (placed_words 0 text)
 timed_error Quartz text = timed_error_in (quartz_read text)
+timed_error Robfig text = timed_error_in (robfig_read text)
 
 -- the line of an error
 unfoldable pub timed_error_text : TimedError → List ℕ

@@ -5,8 +5,9 @@ use Rattle.chrono_cron.specs.FieldTexts.{field_lists}
 use Rattle.chrono_cron.specs.ScheduleTexts.{AreListed, IsScheduleText, text_words}
 use Rattle.chrono_cron.specs.declared.text.number_names.Names.TheVariants.{Numbers}
 use Rattle.timed_cron.specs.QuartzTexts.{quartz_read}
+use Rattle.timed_cron.specs.RobfigTexts.{robfig_read}
 use Rattle.timed_cron.specs.declared.dialect.Dialect.{Dialect}
-use Rattle.timed_cron.specs.declared.dialect.Dialect.TheVariants.{Crontab, Seconds, Quartz}
+use Rattle.timed_cron.specs.declared.dialect.Dialect.TheVariants.{Crontab, Seconds, Quartz, Robfig}
 use Rattle.timed_cron.specs.declared.timed_schedule.TimedSchedule.{TimedSchedule}
 
 -- a text of the schedule as crontab(5) has it, which is due at second 0 alone, in each year
@@ -36,3 +37,4 @@ abbrev pub IsTimedText : Dialect → List ℕ → TimedSchedule → Type 0
 IsTimedText Crontab text s = IsAtSecondZero text s
 IsTimedText Seconds text s = IsSixFieldText text s ⊎ IsNicknameText text s
 IsTimedText Quartz text s = quartz_read text ≡ Ok s
+IsTimedText Robfig text s = robfig_read text ≡ Ok s

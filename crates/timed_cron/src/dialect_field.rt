@@ -1,10 +1,10 @@
-//! The reading of a field of numbers as Quartz has it, and what is wrong with one that cannot be read.
+//! The reading of a field of numbers as Quartz and robfig/cron have it, and what is wrong with one that cannot be read.
 ghost use Rattle.std.specs.Prelude.{◌≡◌, ◌+◌, ◌<◌, ◌≤◌, ◌==◌, ◌^◌, length, take, IfOk, IfErr, IfSome, IfNone, is_some, true, false};
 ghost use Rattle.std.specs.Str.{byte};
 ghost use Rattle.chrono_text.specs.Lists.{pieces, stands_in};
 ghost use Rattle.chrono_cron.specs.FieldTexts.{before_byte, behind_byte, is_star};
 ghost use Rattle.chrono_cron.specs.ScheduleErrors.{step_fault, unspelled_fault};
-ghost use Rattle.timed_cron.specs.DialectFields.{fault_behind, ends_read, in_order, items_read, named_number, form_number_fault, field_number, field_number_read, number_written, range_read, span_read, step_read, stepped_ends_read};
+ghost use Rattle.timed_cron.specs.DialectFields.{fault_behind, ends_read, in_order, is_all, is_mark, items_read, named_number, form_number_fault, field_number, field_number_read, number_written, range_read, span_read, step_read, stepped_ends_read};
 ghost use Rattle.timed_cron.specs.Private.{AreEndsOf, IsForm, IsSpanOf};
 
 use crate::field_form::{FieldForm, Span};
@@ -79,7 +79,7 @@ fn read_ends(text: &[u8], form: FieldForm) -> Result<(u32, u32), FieldFault>
     ensures ends { IfOk result (λ ends. AreEndsOf form ends) }
     ensures within { IfErr result (λ e. e.0 ≤ length text.now) }
 {
-    if is_star(text) {
+    if is_all(text, form) {
         return Ok((form.low, form.high));
     }
     if let Some((front, back)) = cut_at(text, b'-') {
@@ -91,13 +91,13 @@ fn read_ends(text: &[u8], form: FieldForm) -> Result<(u32, u32), FieldFault>
 
 // The first and the last number in front of a step.
 #[tactic(auto, unfolding(crate::specs::DialectFields::stepped_ends_read))]
-fn read_stepped_ends(text: &[u8], form: FieldForm) -> Result<(u32, u32), FieldFault>
+pub(crate) fn read_stepped_ends(text: &[u8], form: FieldForm) -> Result<(u32, u32), FieldFault>
     requires { IsForm form }
     ensures read { result ≡ stepped_ends_read form text.now }
     ensures ends { IfOk result (λ ends. AreEndsOf form ends) }
     ensures within { IfErr result (λ e. e.0 ≤ length text.now) }
 {
-    if is_star(text) || cut_at(text, b'-').is_some() {
+    if is_all(text, form) || cut_at(text, b'-').is_some() {
         return read_ends(text, form);
     }
     let number = read_number(text, form)?;
@@ -187,7 +187,7 @@ fn begins_with_name(text: &[u8], form: FieldForm) -> bool
 
 // The step that a text writes.
 #[tactic(auto, unfolding(crate::specs::DialectFields::step_read, chrono_cron::specs::FieldTexts::step_of))]
-fn read_step(text: &[u8]) -> Result<u32, FieldFault>
+pub(crate) fn read_step(text: &[u8]) -> Result<u32, FieldFault>
     ensures read { result ≡ step_read text.now }
     ensures some { IfOk result (λ n. 0 < n) }
     ensures within { IfErr result (λ e. e.0 ≡ 0) }
@@ -222,8 +222,22 @@ fn unspelled_fault(text: &[u8]) -> ScheduleFault
     }
 }
 
+// Whether the text stands for all numbers of the field.
+fn is_all(text: &[u8], form: FieldForm) -> bool
+    ensures { result ≡ is_all form text.now }
+{
+    is_star(text) || (form.marks && is_mark(text))
+}
+
+// Whether the text is `?`.
+pub(crate) fn is_mark(text: &[u8]) -> bool
+    ensures { result ≡ is_mark text.now }
+{
+    text.len() == 1 && text[0] == b'?'
+}
+
 // Whether the text is `*`.
-fn is_star(text: &[u8]) -> bool
+pub(crate) fn is_star(text: &[u8]) -> bool
     ensures { result ≡ is_star text.now }
 {
     text.len() == 1 && text[0] == b'*'

@@ -15,6 +15,8 @@ pub(crate) enum FieldNames {
     Months,
     // The weekdays, from 1 for Sunday.
     Weekdays,
+    // The weekdays, from 0 for Sunday.
+    WeekdaysFromZero,
 }
 
 impl FieldNames {
@@ -27,6 +29,9 @@ impl FieldNames {
             FieldNames::Nothing => None,
             FieldNames::Months => Some(Month::from_letters(name)?.number_from_month()),
             FieldNames::Weekdays => Some(Weekday::from_letters(name, 3)?.number_from_sunday()),
+            FieldNames::WeekdaysFromZero => {
+                Some(Weekday::from_letters(name, 3)?.num_days_from_sunday())
+            }
         }
     }
 }
@@ -43,6 +48,8 @@ pub(crate) struct FieldForm {
     pub(crate) base: u32,
     // A range may go over the end.
     pub(crate) wraps: bool,
+    // `?` stands for all numbers, as `*` does.
+    pub(crate) marks: bool,
 }
 
 impl FieldForm {

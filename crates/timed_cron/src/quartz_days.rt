@@ -2,11 +2,11 @@
 ghost use Rattle.std.specs.Prelude.{◌≡◌, ◌<◌, ◌≤◌, ◌+◌, length, IfErr, IfSome, IfNone, Some, None};
 ghost use Rattle.chrono_cron.specs.ScheduleTexts.{before_letter, is_last_workday_text};
 ghost use Rattle.timed_cron.specs.DialectFields.{numbers_read};
-ghost use Rattle.timed_cron.specs.QuartzTexts.{day_fault, days_from_end, days_read, every_quartz_day, is_mark, last_weekday, quartz_letter_fault, listed_days, listed_unless, named_days, nearest_workday, quartz_nth_weekday, quartz_weekday_fault, weekdays_read};
+ghost use Rattle.timed_cron.specs.QuartzTexts.{day_fault, days_from_end, days_read, every_quartz_day, last_weekday, quartz_letter_fault, listed_days, listed_unless, named_days, nearest_workday, quartz_nth_weekday, quartz_weekday_fault, weekdays_read};
 ghost use Rattle.timed_cron.specs.Private.{IsForm};
 
 use crate::dialect_field::{
-    FieldFault, cut_at, number_fault, number_in, number_written, read_items,
+    FieldFault, cut_at, is_mark, number_fault, number_in, number_written, read_items,
 };
 use crate::field_form::{FieldForm, Span};
 use crate::quartz_form::{days, plain, weekdays};
@@ -130,13 +130,6 @@ fn named_days(named: MonthDays) -> DaySets
         numbers: NumberSet::none(),
         named,
     }
-}
-
-// Whether the text is `?`.
-pub(crate) fn is_mark(text: &[u8]) -> bool
-    ensures { result ≡ is_mark text.now }
-{
-    text.len() == 1 && text[0] == b'?'
 }
 
 // `L` as 0, and `L-3` as 3: how many days of the month follow the day.

@@ -19,6 +19,7 @@ pub(crate) fn plain(low: u32, high: u32) -> FieldForm
         high,
         base: 0,
         wraps: true,
+        marks: false,
     }
 }
 
@@ -42,6 +43,7 @@ pub(crate) fn months() -> FieldForm
         high: 12,
         base: 0,
         wraps: true,
+        marks: false,
     }
 }
 
@@ -57,6 +59,7 @@ pub(crate) fn weekdays() -> FieldForm
         high: 7,
         base: 1,
         wraps: true,
+        marks: false,
     }
 }
 
@@ -72,5 +75,6 @@ pub(crate) fn years() -> FieldForm
         high: 2_099,
         base: 1_970,
         wraps: false,
+        marks: false,
     }
 }

@@ -1,21 +1,22 @@
 //! The reading of whole texts of Quartz.
-ghost use Rattle.std.specs.Prelude.{◌≡◌, ◌+◌, ◌<◌, ◌≤◌, ◌^◌, length, IfOk, IfErr, IfSome, Ok, Err, Some, None};
+ghost use Rattle.std.specs.Prelude.{◌≡◌, ◌≤◌, length, IfOk, IfErr, IfSome, Err, None};
 ghost use Rattle.chrono_cron.specs.PlacedWords.{placed_words};
-ghost use Rattle.chrono_cron.specs.ScheduleErrors.{front_or, one_word_fault, schedule_error_at};
-ghost use Rattle.timed_cron.specs.Private.{AreQuartzWords, IsWordOf, IsWordAt, bytes_of, word_of, year_word_of};
+ghost use Rattle.chrono_cron.specs.ScheduleErrors.{front_or, schedule_error_at};
+ghost use Rattle.timed_cron.specs.Private.{AreQuartzWords, IsWordOf, word_of, year_word_of};
 ghost use Rattle.timed_cron.specs.QuartzTexts.{calendar_read, clock_read, fields_read, named_by_both, quartz_read, schedule_of, words_read, years_read};
 ghost use Rattle.timed_cron.specs.TimedErrors.{error_byte};
 ghost use Rattle.timed_cron.specs.declared.timed_error.TimedError.TheVariants.{Fields as InFields};
 
-use crate::dialect_field::{FieldFault, read_items};
-use crate::quartz_days::{DaySets, is_mark, read_days, read_weekdays};
+use crate::dialect_field::{FieldFault, is_mark, read_items};
+use crate::field_reader::{error_at, field_error, read_field};
+use crate::quartz_days::{DaySets, read_days, read_weekdays};
 use crate::quartz_form::{months, plain, years};
 use crate::timed_error::TimedError;
-use crate::timed_reader::{front_fault, number_error};
 use crate::timed_schedule::TimedSchedule;
-use crate::words::{Ends, next_word};
+use crate::word_errors::{count_error, front_fault, one_word_fault, text_error};
+use crate::words::{Ends, next_word, word};
 use crate::year_set::YearSet;
-use chrono_cron::{FieldSets, MonthDays, Schedule, ScheduleError, ScheduleFault, ScheduleField};
+use chrono_cron::{FieldSets, MonthDays, Schedule, ScheduleFault, ScheduleField};
 use chrono_sets::{NumberSet, PlaceSet};
 
 // The words of six fields, and that of the years.
@@ -49,11 +50,7 @@ fn read_words(text: &[u8], words: Words) -> Result<TimedSchedule, TimedError>
     ensures byte { IfErr result (λ e. error_byte e ≤ length text.now) }
 {
     if let Some(fault) = front_fault(word(text, words.second)) {
-        return Err(TimedError::Fields(ScheduleError {
-            field: None,
-            byte: words.second.place,
-            fault,
-        }));
+        return Err(text_error(words.second.place, fault));
     }
     read_fields(text, words)
 }
@@ -127,14 +124,9 @@ fn read_clock(
         Ok(seconds) => seconds,
         Err(fault) => return Err(TimedError::Seconds(error_at(second, None, fault))),
     };
-    let minutes = match read_items(word(text, minute), plain(0, 59), NumberSet::none()) {
-        Ok(minutes) => minutes,
-        Err(fault) => return Err(field_error(minute, ScheduleField::Minute, fault)),
-    };
-    match read_items(word(text, hour), plain(0, 23), NumberSet::none()) {
-        Ok(hours) => Ok((seconds, minutes, hours)),
-        Err(fault) => Err(field_error(hour, ScheduleField::Hour, fault)),
-    }
+    let minutes = read_field(text, minute, plain(0, 59), ScheduleField::Minute)?;
+    let hours = read_field(text, hour, plain(0, 23), ScheduleField::Hour)?;
+    Ok((seconds, minutes, hours))
 }
 
 // The days of the month, the months and the days of the week.
@@ -155,10 +147,7 @@ fn read_calendar(
         Ok(days) => days,
         Err(fault) => return Err(field_error(day, ScheduleField::Day, fault)),
     };
-    let listed = match read_items(word(text, month), months(), NumberSet::none()) {
-        Ok(listed) => listed,
-        Err(fault) => return Err(field_error(month, ScheduleField::Month, fault)),
-    };
+    let listed = read_field(text, month, months(), ScheduleField::Month)?;
     let weekdays = match read_weekdays(word(text, weekday)) {
         Ok(weekdays) => weekdays,
         Err(fault) => return Err(field_error(weekday, ScheduleField::Weekday, fault)),
@@ -183,35 +172,6 @@ fn read_years(text: &[u8], year: Option<Ends>) -> Result<Option<YearSet>, TimedE
         Ok(places) => Ok(Some(YearSet { places })),
         Err(fault) => Err(TimedError::Years(error_at(year, None, fault))),
     }
-}
-
-// The error of one of the five fields.
-fn field_error(word: Ends, field: ScheduleField, fault: FieldFault) -> TimedError
-    requires { word.place + fault.0 < 2 ^ 64 }
-    ensures { result ≡ InFields (schedule_error_at (Some field) (word.place + fault.0, fault.1)) }
-{
-    TimedError::Fields(error_at(word, Some(field), fault))
-}
-
-// The error of a field, by the place of its word.
-fn error_at(word: Ends, field: Option<ScheduleField>, fault: FieldFault) -> ScheduleError
-    requires { word.place + fault.0 < 2 ^ 64 }
-    ensures { result ≡ schedule_error_at field (word.place + fault.0, fault.1) }
-{
-    ScheduleError {
-        field,
-        byte: word.place + fault.0,
-        fault: fault.1,
-    }
-}
-
-// The bytes of a word.
-fn word(text: &[u8], ends: Ends) -> &[u8]
-    requires { IsWordOf text.now ends }
-    ensures bytes { result.now ≡ bytes_of text.now ends.place ends.end }
-    ensures length { ends.place + length result.now ≤ length text.now }
-{
-    &text[ends.place..ends.end]
 }
 
 // The words of a text, if they are six or seven. Otherwise what is wrong with their number, and where.
@@ -255,33 +215,4 @@ fn quartz_words(text: &[u8]) -> Result<Words, FieldFault>
         weekday,
         year,
     })
-}
-
-// What is wrong with a text of one word.
-fn one_word_fault(text: &[u8], word: Ends) -> FieldFault
-    requires { IsWordAt text.now 0 word.place word.end }
-    ensures value { result ≡ one_word_fault (length text.now) (word_of text.now word) }
-    ensures within { result.0 ≤ length text.now }
-{
-    if text[word.place] == b'@' {
-        (word.place, ScheduleFault::UnknownNickname)
-    } else {
-        (text.len(), ScheduleFault::TooFewFields)
-    }
-}
-
-// The error of a text with this number of words.
-fn count_error(text: &[u8], count: FieldFault) -> TimedError
-    requires { count.0 ≤ length text.now }
-    ensures error { result ≡ InFields (schedule_error_at None (front_or (placed_words 0 text.now) count)) }
-    ensures byte { error_byte result ≤ length text.now }
-{
-    match next_word(text, 0) {
-        Some(first) => number_error(text, first, count),
-        None => TimedError::Fields(ScheduleError {
-            field: None,
-            byte: count.0,
-            fault: count.1,
-        }),
-    }
 }

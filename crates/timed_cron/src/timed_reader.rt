@@ -2,7 +2,7 @@
 ghost use Rattle.std.specs.Prelude.{◌≡◌, ◌↔◌, ◌+◌, ◌<◌, ◌≤◌, ◌^◌, length, drop, Ok, IfOk, IfErr, IsErr, None};
 ghost use Rattle.chrono_cron.specs.FieldTexts.{field_lists};
 ghost use Rattle.chrono_cron.specs.PlacedWords.{first_word, placed_words};
-ghost use Rattle.chrono_cron.specs.ScheduleErrors.{error_behind, field_fault, front_fault, schedule_error, schedule_error_at, told_or};
+ghost use Rattle.chrono_cron.specs.ScheduleErrors.{error_behind, field_fault, front_fault, schedule_error, schedule_error_at};
 ghost use Rattle.chrono_cron.specs.declared.text.number_names.Names.TheVariants.{Numbers};
 ghost use Rattle.chrono_cron.specs.declared.text.schedule_error.ScheduleField.TheVariants.{Minute};
 ghost use Rattle.timed_cron.specs.Private.{HasFourWords, IsUnreadFirst, IsWordAt, bytes_of};
@@ -13,12 +13,13 @@ ghost use Rattle.timed_cron.specs.declared.timed_error.TimedError.TheVariants.{F
 
 use crate::dialect::Dialect;
 use crate::quartz_reader::read_quartz;
+use crate::robfig_reader::read_robfig;
 use crate::timed_error::TimedError;
 use crate::timed_schedule::TimedSchedule;
+use crate::word_errors::{front_fault, number_error, text_error};
 use crate::words::{Ends, four_words, next_word};
-use chrono_cron::{Names, ScheduleError, ScheduleFault, read_field, read_schedule};
+use chrono_cron::{Names, ScheduleError, read_field, read_schedule};
 use chrono_sets::NumberSet;
-use chrono_text::{begins_but_for_case, same_but_for_case};
 
 /// Reads a schedule in a dialect, such as `*/15 30 4 * * *` with seconds in front. Returns the [`TimedSchedule`].
 ///
@@ -35,7 +36,7 @@ use chrono_text::{begins_but_for_case, same_but_for_case};
 /// ```
 ///
 /// The field of seconds is read as [`read_field`] reads the numbers 0 to 59, without names. The others are read as [`read_schedule`] does.
-/// Where a dialect has nicknames, one such as `@daily` may stand alone. It is due at second 0. [`Dialect`] says how Quartz differs.
+/// Where a dialect has nicknames, one such as `@daily` may stand alone. It is due at second 0. [`Dialect`] says how Quartz and robfig/cron differ.
 pub fn read_timed_schedule(dialect: Dialect, text: &[u8]) -> Result<TimedSchedule, TimedError>
     ensures read { IfOk result (λ s. IsTimedText dialect text.now s) }
     // Whatever schedule the text is one of is the answer: no text is refused, and none has two meanings.
@@ -48,6 +49,7 @@ pub fn read_timed_schedule(dialect: Dialect, text: &[u8]) -> Result<TimedSchedul
         Dialect::Crontab => read_at_second_zero(text),
         Dialect::Seconds => read_with_seconds(text),
         Dialect::Quartz => read_quartz(text),
+        Dialect::Robfig => read_robfig(text),
     }
 }
 
@@ -116,11 +118,7 @@ fn read_six_fields(
 {
     let Some(seconds) = read_field(&text[second.place..second.end], Names::Numbers, 0, 59) else {
         if let Some(fault) = front_fault(&text[second.place..second.end]) {
-            return Err(TimedError::Fields(ScheduleError {
-                field: None,
-                byte: second.place,
-                fault,
-            }));
+            return Err(text_error(second.place, fault));
         }
         return Err(TimedError::Seconds(seconds_error(&text[..month_end])));
     };
@@ -164,39 +162,4 @@ fn error_behind(error: ScheduleError, by: usize) -> ScheduleError
         byte: by + error.byte,
         fault: error.fault,
     }
-}
-
-// The error of a text whose first word this is, and that has another number of words than six.
-pub(crate) fn number_error(text: &[u8], first: Ends, count: (usize, ScheduleFault)) -> TimedError
-    requires first { IsWordAt text.now 0 first.place first.end }
-    requires count { count.0 ≤ length text.now }
-    ensures error { result ≡ InFields (schedule_error_at None (told_or first.place (front_fault (bytes_of text.now first.place first.end)) count)) }
-    ensures byte { error_byte result ≤ length text.now }
-{
-    let (byte, fault) = match front_fault(&text[first.place..first.end]) {
-        Some(fault) => (first.place, fault),
-        None => count,
-    };
-    TimedError::Fields(ScheduleError {
-        field: None,
-        byte,
-        fault,
-    })
-}
-
-// What a first word is in place of a field: an interval, the start of a machine or a time zone.
-#[tactic(auto, unfolding(chrono_cron::specs::ScheduleErrors::front_fault))]
-pub(crate) fn front_fault(word: &[u8]) -> Option<ScheduleFault>
-    ensures { result ≡ front_fault word.now }
-{
-    if same_but_for_case(word, b"@every") {
-        return Some(ScheduleFault::Interval);
-    }
-    if same_but_for_case(word, b"@reboot") {
-        return Some(ScheduleFault::Reboot);
-    }
-    if begins_but_for_case(word, b"TZ=") || begins_but_for_case(word, b"CRON_TZ=") {
-        return Some(ScheduleFault::TimeZone);
-    }
-    None
 }

@@ -1,8 +1,8 @@
 //! The words of a text: where each begins and ends.
-ghost use Rattle.std.specs.Prelude.{◌≡◌, ◌≤◌, ◌<◌, length, drop, IfSome, IfNone, IfOk, IfErr, ℕ, List, ◌≢◌, ◌∷◌, [], slice_index, true, false};
+ghost use Rattle.std.specs.Prelude.{◌≡◌, ◌≤◌, ◌<◌, ◌+◌, length, drop, IfSome, IfNone, IfOk, IfErr, ℕ, List, ◌≢◌, ◌∷◌, [], slice_index, true, false};
 ghost use Rattle.chrono_text.specs.Lists.{is_blank};
 ghost use Rattle.chrono_cron.specs.PlacedWords.{placed_words};
-ghost use Rattle.timed_cron.specs.Private.{AreBlank, AreOfWord, HasFourWords, IsWordAt};
+ghost use Rattle.timed_cron.specs.Private.{AreBlank, AreOfWord, HasFourWords, IsWordAt, IsWordOf, bytes_of};
 ghost use Rattle.timed_cron.specs.TimedErrors.{four_fault};
 
 use chrono_cron::ScheduleFault;
@@ -26,6 +26,15 @@ pub(crate) fn next_word(text: &[u8], from: usize) -> Option<Ends>
         return None;
     }
     Some(Ends { place, end })
+}
+
+// The bytes of a word.
+pub(crate) fn word(text: &[u8], ends: Ends) -> &[u8]
+    requires { IsWordOf text.now ends }
+    ensures bytes { result.now ≡ bytes_of text.now ends.place ends.end }
+    ensures length { ends.place + length result.now ≤ length text.now }
+{
+    &text[ends.place..ends.end]
 }
 
 // Where the blanks end that stand at a place of a text.

@@ -5,13 +5,13 @@ import { optionsOf } from "./numbers.js";
 import { dateTimeOf, momentOf, PlainDateTime } from "./plain_date_time.js";
 
 /** The dialects, in the order of their numbers. */
-const DIALECTS = ["crontab", "seconds", "quartz"];
+const DIALECTS = ["crontab", "seconds", "quartz", "robfig"];
 
 /**
  * A cron schedule with seconds, of a dialect.
  *
  * `crontab` has the five fields of a Schedule, and `seconds` has one for seconds in front. `quartz` has weekdays from 1 for Sunday, `?` for
- * one field of days, and years behind.
+ * one field of days, and years behind. `robfig` has the five fields of Go's robfig/cron.
  */
 export class TimedSchedule {
   #text;
@@ -24,7 +24,7 @@ export class TimedSchedule {
     this.#text = `${text}`;
     this.#dialect = DIALECTS.indexOf(dialect);
     if (this.#dialect < 0) {
-      throw new RangeError(`${dialect}: the dialect is crontab, seconds or quartz`);
+      throw new RangeError(`${dialect}: the dialect is crontab, seconds, quartz or robfig`);
     }
     this.#bytes = readTimedSchedule(this.#text, this.#dialect);
   }

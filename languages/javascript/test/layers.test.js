@@ -741,6 +741,7 @@ test("timed_schedule_check", () => {
     ["0 0 24 * * *", "seconds", "hour, byte 4: a number that is out of range", 4, 6],
     ["0 0 0 1 * MON", "quartz", "weekday, byte 10: not just one field of days is ?", 10, 13],
     ["0 0 0 1 * ? 2100", "quartz", "year, byte 12: a number that is out of range", 12, 16],
+    ["0 0 ? * 7", "robfig", "weekday, byte 8: a number that is out of range", 8, 9],
   ]) {
     assert.deepEqual(saidOf(() => new TimedSchedule(text, { dialect })), wanted);
   }
@@ -759,6 +760,9 @@ test("timed_schedule_next", () => {
   assert.deepEqual(texts(found), ["2024-02-09T04:30:30", "2024-02-09T04:30:45", "2024-02-10T04:30:00"]);
   const weekdays = new TimedSchedule("0 30 4 ? * MON-FRI 2024-2026", { dialect: "quartz" });
   assert.equal(weekdays.nextAfter("2026-12-31T04:30"), undefined);
+  for (const [dialect, next] of [["robfig", "2024-02-21T04:30:00"], ["crontab", "2024-03-01T04:30:00"]]) {
+    assert.equal(`${new TimedSchedule("30 4 */20 * FRI", { dialect }).nextAfter("2024-02-16T04:30")}`, next);
+  }
 });
 
 test("timed_schedule_prev", () => {

@@ -8,7 +8,7 @@ from . import _calendar
 from ._calendar import DateTime
 from ._texts import refuse
 
-_DIALECTS = ("crontab", "seconds", "quartz")
+_DIALECTS = ("crontab", "seconds", "quartz", "robfig")
 _FRONTS = {6: "second, ", 7: "year, "}
 
 
@@ -24,7 +24,8 @@ class TimedSchedule:
     2026-12-31T04:30:00
 
     'crontab' has the five fields of a Schedule, and 'seconds' has one for seconds in front. 'quartz' has weekdays from 1 for Sunday, `?`
-    for one field of days, and years behind. Date-times have no time zone. A text that is no schedule raises TextError.
+    for one field of days, and years behind. 'robfig' has the five fields of Go's robfig/cron. Date-times have no time zone. A text that is no
+    schedule raises TextError.
     """
 
     __slots__ = ("text", "dialect", "_parts")
@@ -36,7 +37,7 @@ class TimedSchedule:
         if not isinstance(text, str):
             raise TypeError(f"a str is wanted, not {type(text).__name__}")
         if dialect not in _DIALECTS:
-            raise ValueError(f"the dialect is 'crontab', 'seconds' or 'quartz', not {dialect!r}")
+            raise ValueError(f"the dialect is 'crontab', 'seconds', 'quartz' or 'robfig', not {dialect!r}")
         parts = text.encode(), _DIALECTS.index(dialect)
         for name, value in {"text": text, "dialect": dialect, "_parts": parts}.items():
             object.__setattr__(self, name, value)

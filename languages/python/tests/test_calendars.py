@@ -123,6 +123,8 @@ class TimedSchedules(unittest.TestCase):
         self.assertEqual(weekdays.next_after(DateTime(2026, 1, 2, 4, 30)), DateTime(2026, 1, 5, 4, 30))
         self.assertIsNone(weekdays.next_after(DateTime(2026, 12, 31, 4, 30)))
         self.assertEqual(TimedSchedule("@daily", dialect="crontab").next_after(DateTime(2024, 2, 29)), DateTime(2024, 3, 1))
+        for dialect, day in [("robfig", DateTime(2024, 2, 21, 4, 30)), ("crontab", DateTime(2024, 3, 1, 4, 30))]:
+            self.assertEqual(TimedSchedule("30 4 */20 * FRI", dialect).next_after(DateTime(2024, 2, 16, 4, 30)), day)
         with self.assertRaises(ValueError):
             TimedSchedule("@daily", "posix")
 
@@ -132,6 +134,7 @@ class TimedSchedules(unittest.TestCase):
             ("0 0 24 * * *", "seconds", "hour, byte 4: a number that is out of range", 4, 6),
             ("0 0 0 1 * MON", "quartz", "weekday, byte 10: not just one field of days is ?", 10, 13),
             ("0 0 0 1 * ? 2100", "quartz", "year, byte 12: a number that is out of range", 12, 16),
+            ("0 0 ? * 7", "robfig", "weekday, byte 8: a number that is out of range", 8, 9),
         ]:
             with self.assertRaises(TextError) as raised:
                 TimedSchedule(text, dialect)

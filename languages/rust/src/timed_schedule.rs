@@ -21,6 +21,8 @@ pub enum Dialect {
     Seconds,
     /// The fields of Quartz: weekdays from 1 for Sunday, `?` for one field of days, and years behind.
     Quartz,
+    /// The five fields of Go's robfig/cron: weekdays from 0 for Sunday to 6, and `?` for all numbers.
+    Robfig,
 }
 
 /// A cron schedule with seconds, of a dialect. It needs the feature `alloc`.

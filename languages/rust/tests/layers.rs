@@ -1182,6 +1182,11 @@ fn timed_schedule_check() {
             Dialect::Quartz,
             "year, byte 12: a number that is out of range",
         ),
+        (
+            "0 0 ? * 7",
+            Dialect::Robfig,
+            "weekday, byte 8: a number that is out of range",
+        ),
     ] {
         let wrong = TimedSchedule::new(text, dialect).unwrap_err();
         assert_eq!(wrong.to_string(), said);
@@ -1218,6 +1223,16 @@ fn timed_schedule_next() {
     );
     let weekdays = TimedSchedule::new("0 30 4 ? * MON-FRI 2024-2026", Dialect::Quartz).unwrap();
     assert_eq!(weekdays.next_after(moment("2026-12-31T04:30:00")), None);
+    for (dialect, next) in [
+        (Dialect::Robfig, "2024-02-21T04:30:00"),
+        (Dialect::Crontab, "2024-03-01T04:30:00"),
+    ] {
+        let days = TimedSchedule::new("30 4 */20 * FRI", dialect).unwrap();
+        assert_eq!(
+            days.next_after(moment("2024-02-16T04:30:00")),
+            Some(moment(next))
+        );
+    }
 }
 
 #[test]

@@ -5,8 +5,8 @@ use Rattle.chrono_cron.specs.ScheduleErrors.{front_or, schedule_error_at}
 use Rattle.timed_cron.specs.Private.{AreQuartzWords}
 use Rattle.timed_cron.specs.declared.quartz_reader.Words.{Words}
 use Rattle.timed_cron.specs.declared.timed_error.TimedError.TheVariants.{Fields as InFields}
-use Rattle.timed_cron.proofs.QuartzWords.{told, within}
-use Rattle.timed_cron.proofs.TextWords.{front, none_at, word_at}
+use Rattle.timed_cron.proofs.QuartzWords.{told}
+use Rattle.timed_cron.proofs.TextWords.{front, none_at, within, word_at}
 use Rattle.timed_cron.proofs.quartz_reader.quartz_words.Goals as goal
 
 pub returns-in_default-clause-count : goal.returns-in_default-clause-count

@@ -1,5 +1,6 @@
 use Rattle.std.proofs.Common.{◌∙◌}
 use Rattle.timed_cron.specs.QuartzTexts.{quartz_read}
+use Rattle.timed_cron.specs.RobfigTexts.{robfig_read}
 use Rattle.timed_cron.specs.TimedErrors.{timed_error}
 use Rattle.timed_cron.specs.TimedTexts.{IsAtSecondZero, IsTimedText}
 use Rattle.timed_cron.specs.declared.dialect.Dialect.TheVariants.{Seconds}
@@ -42,3 +43,16 @@ returns-in-Quartz-clause-found c = rw (c.in-Quartz.is, c.read_quartz.ensures.rea
 pub returns-in-Quartz-clause-error : goal.returns-in-Quartz-clause-error
 unfolding timed_error
 returns-in-Quartz-clause-error c = rw (c.in-Quartz.is, c.read_quartz.ensures.read) (error_told (quartz_read c.args.text.now))
+
+pub returns-in-Robfig-clause-read : goal.returns-in-Robfig-clause-read
+returns-in-Robfig-clause-read c = rw (c.in-Robfig.is, c.read_robfig.ensures.read) (ok_of (robfig_read c.args.text.now))
+
+pub returns-in-Robfig-clause-every : goal.returns-in-Robfig-clause-every
+returns-in-Robfig-clause-every c = rw c.in-Robfig.is (λ s is. c.read_robfig.ensures.read ∙ is)
+
+pub returns-in-Robfig-clause-found : goal.returns-in-Robfig-clause-found
+returns-in-Robfig-clause-found c = rw (c.in-Robfig.is, c.read_robfig.ensures.read) (err_of (robfig_read c.args.text.now))
+
+pub returns-in-Robfig-clause-error : goal.returns-in-Robfig-clause-error
+unfolding timed_error
+returns-in-Robfig-clause-error c = rw (c.in-Robfig.is, c.read_robfig.ensures.read) (error_told (robfig_read c.args.text.now))

@@ -1,9 +1,8 @@
 use Rattle.std.proofs.Common.{None, ap, sym, ◌∙◌, arith}
 use Rattle.chrono_cron.specs.ScheduleErrors.{schedule_error_at}
 use Rattle.timed_cron.specs.declared.timed_error.TimedError.TheVariants.{Fields as InFields}
-use Rattle.timed_cron.proofs.QuartzWords.{told_first, told_none}
-use Rattle.timed_cron.proofs.TextWords.{none_at, word_at}
-use Rattle.timed_cron.proofs.quartz_reader.count_error.Goals as goal
+use Rattle.timed_cron.proofs.TextWords.{none_at, told_first, told_none, word_at}
+use Rattle.timed_cron.proofs.word_errors.count_error.Goals as goal
 
 pub returns-in-Some-clause-error : goal.returns-in-Some-clause-error
 returns-in-Some-clause-error c =
@@ -13,4 +12,5 @@ returns-in-Some-clause-error c =
 
 pub returns-in-None-clause-error : goal.returns-in-None-clause-error
 returns-in-None-clause-error c =
-    ap (λ fault. InFields (schedule_error_at None fault)) (sym (told_none _ c.args.count (none_at c.args.text.now 0 (omega arith) c.in-None.ensures.none)))
+    c.text_error.ensures
+    ∙ ap (λ fault. InFields (schedule_error_at None fault)) (sym (told_none _ c.args.count (none_at c.args.text.now 0 (omega arith) c.in-None.ensures.none)))
