@@ -11,8 +11,9 @@ each day whether it is open and how many open days lie before it; all other call
 held to single steps. numpy answers 100,000 queries of `busday_offset`, with each of its rolls, and of `busday_count`. Day counts are held to the texts of ISDA 2006,
 4.16(b), (e), (f) and (g), in calendar fields of `datetime`, the days of leap years one by one. Lists of holidays that are none are refused
 with what is wrong first. Easter is held to the method of Meeus, Jones and Butcher over 200,000 years, and from 326 to 4099 to dateutil
-where it is installed; each holiday of the given calendars up to 2049 to a reading of its own here, and so are the holidays of random rules in random years,
-listed with room for them or too little, lists without weekends, and two random calendars joined.
+where it is installed; each holiday of the given calendars up to 2049, and of Japan's up to 2101, to a reading of its own here, with the equinoxes by
+Meeus's tables. So are the holidays of random rules in random years, listed with room for them or too little, lists without weekends, and two random
+calendars joined.
 
 It needs crates/rows_business/out/rows_business, which `rt run` and `rt ci` leave there.
 """
@@ -24,6 +25,7 @@ import os
 import random
 import sys
 
+from equinoxes import equinox_of_japan
 from row_programs import TOP, failed_rows, program_of
 
 sys.path.insert(0, os.path.join(TOP, "tools"))
@@ -373,16 +375,47 @@ def france(year):
     return by_dates(year, [(1, 1), (5, 1), (5, 8), (7, 14), (8, 15), (11, 1), (11, 11), (12, 25)], (1, 39, 50))
 
 
+# The equinoxes of the years for which the formula of Japan's Hydrographic Department is made.
+EQUINOXES_OF_JAPAN = {(year, month): equinox_of_japan(year, month) for year in range(1980, 2100) for month in (3, 9)}
+
+# The holidays that were moved for the Olympic Games, and those of the year of the accession.
+JAPANESE_DAYS = {2019: [(5, 1), (10, 22)], 2020: [(7, 23), (7, 24), (8, 10)], 2021: [(7, 22), (7, 23), (8, 8)]}
+
+
+def named_in_japan(year):
+    """The national holidays of Japan by article 2 of their act and by the acts for single years."""
+    dates = [(1, 1), (2, 11), (4, 29), (5, 3), (5, 4), (5, 5), (11, 3), (11, 23), *JAPANESE_DAYS.get(year, ())]
+    dates += [(12, 23)] * (year < 2019) + [(2, 23)] * (year > 2019) + [(8, 11)] * (year >= 2016 and year not in (2020, 2021))
+    counted = [(1, 1), (9, 2)] + [(7, 2), (10, 1)] * (year not in (2020, 2021))
+    found = {Date(year, *it) for it in dates} | {weekdays_of_month(year, month, 0)[place] for month, place in counted}
+    return found | {EQUINOXES_OF_JAPAN[year, month] for month in (3, 9) if (year, month) in EQUINOXES_OF_JAPAN}
+
+
+def kept_in_japan(date, named):
+    """A holiday on a Sunday is kept on the next day that is none (article 3(2))."""
+    if date.weekday() == 6:
+        while date in named:
+            date += datetime.timedelta(1)
+    return date
+
+
+def japan(year):
+    """The national holidays as they are kept, the days between two of them (article 3(3)), and the days on which banks are closed besides."""
+    named, day = named_in_japan(year), datetime.timedelta(1)
+    between = {it + day for it in named if it + 2 * day in named} - named
+    return [*(kept_in_japan(it, named) for it in sorted(named)), *sorted(between), Date(year, 1, 2), Date(year, 1, 3), Date(year, 12, 31)]
+
+
 # The given calendars by their names, each with its holidays of a year and its first year.
 GIVEN = {"us_federal": (federal_from_1971, 1971), "target": (target, 1999), "england": (england, 1978), "fedwire": (fedwire, 1971),
-         "nyse": (nyse, 1998), "germany": (germany, 1995), "france": (france, 1982)}
+         "nyse": (nyse, 1998), "germany": (germany, 1995), "france": (france, 1982), "japan": (japan, 2007)}
 
 
 def by_rules():
     """Rows of each holiday of the given calendars, with how many rules name it, and of how many rules name a day of a year."""
     for name, (of, first) in GIVEN.items():
         yield from (f"{name}_days 1 {year} = 0" for year in (-262143, 1, first - 2, first - 1))
-        for year in range(first, 2050):
+        for year in range(first, 2102 if name == "japan" else 2050):
             for it in of(year):
                 yield f"{name} {it.toordinal()} {year} = {of(year).count(it)}"
             yield f"{name}_days 1 {year} = {len(of(year))}"
@@ -400,12 +433,15 @@ def by_dateutil():
 
 # ---- lists of holidays
 
-MOVES = {"stays": (0, 0), "sunday_to_monday": (0, 1), "to_monday": (2, 1), "to_nearer": (-1, 1), "two_days_on": (2, 2)}
+MOVES = {"stays": (0, 0), "sunday_to_monday": (0, 1), "to_monday": (2, 1), "to_nearer": (-1, 1), "two_days_on": (2, 2), "sunday_plus_3": (0, 3)}
+
+# The month of an equinox by its word.
+EQUINOXES = {"vernal_equinox": 3, "autumnal_equinox": 9}
 
 
 def random_rule(chance):
     """A rule as the words of a row: its kind, three numbers, where it goes from a weekend, and its years."""
-    kind = chance.choice(("fixed", "fixed", "nth", "last", "easter"))
+    kind = chance.choice(("fixed", "fixed", "nth", "last", "easter", "vernal_equinox", "autumnal_equinox"))
     first = chance.randrange(-60, 60) if kind == "easter" else chance.randrange(0, 7)
     second = chance.choice((chance.randrange(1, 32), 29, 31, 1)) if kind == "fixed" else chance.randrange(7)
     years = sorted(chance.randrange(1990, 2040) for _ in range(2))
@@ -417,6 +453,8 @@ def named(rule, year):
     kind, first, second, month = rule[:4]
     if kind == "easter":
         return Date.fromordinal(easter(year) + first)
+    if kind in EQUINOXES:
+        return EQUINOXES_OF_JAPAN.get((year, EQUINOXES[kind]))
     if kind == "fixed":
         return Date(year, month + 1, second) if 1 <= second <= months.monthrange(year, month + 1)[1] else None
     days = weekdays_of_month(year, month + 1, second)

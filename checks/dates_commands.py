@@ -167,8 +167,8 @@ def day_word(chance, date):
 
 # ---- closed days
 
-HOLIDAYS = {"us-federal": business.federal_from_1971, "target": business.target, "england": business.england}
-HOLIDAYS = {name: [day for year in range(1999, 2060) for day in of(year)] for name, of in HOLIDAYS.items()}
+HOLIDAYS = {"us-federal": "us_federal", "target": "target", "england": "england", "japan": "japan"}
+HOLIDAYS = {name: [day for year in range(max(1999, business.GIVEN[key][1]), 2060) for day in business.GIVEN[key][0](year)] for name, key in HOLIDAYS.items()}
 WEEKENDS = ("sat,sun", "fri,sat", "thu,fri", "sun", "fri", "sat", "none")
 
 
@@ -1066,7 +1066,7 @@ EXPECTED = {
     "unit": "d, w, m, mo, y, b, ymd, h, min, s, act/act, act/360, act/365, 30/360 or 30e/360",
     "convention": ", ".join(ROLLS[1:]) + " or unadjusted",
     "--weekend": "none, or at most two weekdays as fri,sat",
-    "--calendar": "us-federal, target, england, fedwire, nyse, germany or france",
+    "--calendar": "us-federal, target, england, fedwire, nyse, germany, france or japan",
     "--first": "a weekday as mon",
     "--holidays": "the name of a file",
     "file": "the name of a file",

@@ -1,5 +1,5 @@
 #!/usr/bin/env python3
-"""Compares the seven given calendars with QuantLib 1.29, and those of Germany and France with python3-holidays 0.10.1.
+"""Compares the eight given calendars with QuantLib 1.29, and those of Germany, France and Japan with python3-holidays 0.10.1.
 
     checks/given_calendars.py      (the gate does not start it)
 
@@ -20,6 +20,8 @@ from debian import PYTHON  # noqa: E402
 Date = datetime.date
 LAST_YEAR = 2040
 LAENDER = ("BW", "BY", "BE", "BB", "HB", "HH", "HE", "MV", "NI", "NW", "RP", "SL", "SN", "ST", "SH", "TH")
+MOVED_FOR_THE_GAMES = (Date(2021, 7, 22), Date(2021, 7, 23), Date(2021, 8, 9))
+LEFT_FOR_THE_GAMES = (Date(2021, 7, 19), Date(2021, 8, 11), Date(2021, 10, 11))
 BEFORE_ITS_LAW = (Date(1983, 1, 17), Date(1984, 1, 16), Date(1985, 1, 21))
 
 
@@ -48,6 +50,14 @@ DECIDED = [
     ("france", "theirs", lambda it: on(5, 10)(it) or on(5, 21)(it), "10 and 21 May, the days of one year"),
 ]
 
+# Those from python3-holidays.
+DECIDED_BY_HOLIDAYS = [
+    ("japan", "ours", lambda it: (it.month, it.day) in ((12, 31), (1, 2), (1, 3)), "banks are closed, on days that are no national holidays"),
+    ("japan", "ours", lambda it: it in MOVED_FOR_THE_GAMES, "holidays of 2021 that were moved for the Olympic Games (Act No. 68 of 2020)"),
+    ("japan", "theirs", lambda it: it in LEFT_FOR_THE_GAMES, "the days from which they were moved"),
+    ("japan", "ours", on(2, 24), "the Emperor's Birthday on a Sunday is kept on Monday (article 3(2)); python3-holidays has this in 2020 alone"),
+]
+
 
 def workdays(dates, first):
     """The dates from Monday to Friday from a year on."""
@@ -69,6 +79,7 @@ def of_quantlib():
         "us_federal": states(states.Settlement), "target": quantlib.TARGET(), "england": kingdom(kingdom.Settlement),
         "fedwire": states(states.FederalReserve), "nyse": states(states.NYSE),
         "germany": quantlib.Germany(quantlib.Germany.Settlement), "france": quantlib.France(quantlib.France.Settlement),
+        "japan": quantlib.Japan(),
     }
     for name, calendar in calendars.items():
         first = GIVEN[name][1]
@@ -77,14 +88,15 @@ def of_quantlib():
 
 
 def of_holidays():
-    """The holidays of Germany, which are those of each Land, and of France by python3-holidays."""
+    """The holidays of Germany, which are those of each Land, of France and of Japan by python3-holidays."""
     import holidays
 
     first = GIVEN["germany"][1]
     years = range(first, LAST_YEAR + 1)
     yield "germany", workdays(set.intersection(*(set(holidays.Germany(prov=it, years=years)) for it in LAENDER)), first)
-    first = GIVEN["france"][1]
-    yield "france", workdays(holidays.France(years=range(first, LAST_YEAR + 1)), first)
+    for name, country in (("france", holidays.France), ("japan", holidays.Japan)):
+        first = GIVEN[name][1]
+        yield name, workdays(country(years=range(first, LAST_YEAR + 1)), first)
 
 
 def undecided(name, differences, decided):
@@ -119,7 +131,7 @@ def main():
         os.execv(PYTHON, [PYTHON, *sys.argv])
     passed = failed = 0
     for module, package, calendars, decided in (
-        ("QuantLib", "quantlib-python", of_quantlib, DECIDED), ("holidays", "python3-holidays", of_holidays, []),
+        ("QuantLib", "quantlib-python", of_quantlib, DECIDED), ("holidays", "python3-holidays", of_holidays, DECIDED_BY_HOLIDAYS),
     ):
         if importlib.util.find_spec(module) is None:
             print(f"not run: the calendars of {module}, since there is no {package}")

@@ -254,7 +254,7 @@ int32_t calendar_holidays_fault_text(const calendar_fault *fault, uint8_t *text,
 
 /* Calendars whose holidays are known: the federal ones of the United States, those of the euro's payment system TARGET, and the bank
  * holidays of England and Wales. Then the days on which Fedwire and the New York Stock Exchange are closed, the holidays that all states
- * of Germany have, and those of France. */
+ * of Germany have, those of France, and the days on which banks in Japan are closed. */
 enum {
     CALENDAR_US_FEDERAL = 0,
     CALENDAR_TARGET,
@@ -262,14 +262,16 @@ enum {
     CALENDAR_FEDWIRE,
     CALENDAR_NYSE,
     CALENDAR_GERMANY,
-    CALENDAR_FRANCE
+    CALENDAR_FRANCE,
+    CALENDAR_JAPAN
 };
 
 /* Writes the holidays of a known calendar for some years, but for those on the weekend, in order, and returns how many there are. The
  * other elements stay as they were. If they are more than room or CALENDAR_MOST_HOLIDAYS, or there is no such calendar or year,
  * writes nothing and returns CALENDAR_NONE. New Year's Day can be kept in the year before, so ask for one year more.
  * A calendar has none before its rules begin: 1971 for the United States and Fedwire, 1978 for England and Wales, 1982 for France.
- * Those of Germany begin in 1995, those of the exchange in 1998, and those of TARGET in 1999. */
+ * Those of Germany begin in 1995, those of the exchange in 1998, and those of TARGET in 1999. Those of Japan begin in 2007, and have the
+ * computed days of the equinoxes up to 2099. */
 int32_t calendar_holidays_of(uint32_t which, int32_t first_year, int32_t last_year, uint8_t weekend, int32_t *out, size_t room);
 
 /* Returns Easter Sunday of a year, as the Gregorian churches have it. Returns CALENDAR_NONE if the calendar has no such year. */

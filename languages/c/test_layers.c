@@ -384,7 +384,7 @@ static void holidays(void)
     IS(calendar_holidays_of(CALENDAR_ENGLAND_AND_WALES, -262143, 1977, WEEKEND, out, 20), 0);
     IS(calendar_holidays_of(CALENDAR_ENGLAND_AND_WALES, 1978, 1978, WEEKEND, out, 20), 8);
     IS(calendar_holidays_of(CALENDAR_TARGET, 1999, 2300, WEEKEND, many, CALENDAR_MOST_HOLIDAYS + 1), CALENDAR_NONE);
-    IS(calendar_holidays_of(7, 2024, 2024, WEEKEND, out, 20), CALENDAR_NONE);
+    IS(calendar_holidays_of(8, 2024, 2024, WEEKEND, out, 20), CALENDAR_NONE);
     /* Christmas Day of 2021 was a Saturday: Fedwire was open on Friday, and the exchange closed */
     IS(calendar_holidays_of(CALENDAR_FEDWIRE, 2021, 2021, WEEKEND, out, 20), 9);
     IS(out[8], 738119);
@@ -395,6 +395,10 @@ static void holidays(void)
     IS(out[6], 736633);
     IS(calendar_holidays_of(CALENDAR_FRANCE, 2024, 2024, WEEKEND, out, 20), 10);
     IS(out[4], 739015);
+    /* 6 May and 22 September 2026 in Japan: a holiday on a Sunday is kept later, and a day lies between two holidays */
+    IS(calendar_holidays_of(CALENDAR_JAPAN, 2026, 2026, WEEKEND, out, 20), 19);
+    IS(out[9], 739742);
+    IS(out[13], 739881);
     IS(calendar_holidays_of(CALENDAR_TARGET, INT32_MAX, 2024, WEEKEND, out, 20), CALENDAR_NONE);
     IS(calendar_holidays_of(CALENDAR_TARGET, 2024, INT32_MIN, WEEKEND, out, 20), CALENDAR_NONE);
     IS(calendar_holidays_of(CALENDAR_TARGET, INT32_MIN, 2024, WEEKEND, out, 20), CALENDAR_NONE);

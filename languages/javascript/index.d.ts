@@ -463,10 +463,10 @@ export class BusinessCalendar {
   constructor(options?: { weekend?: number[]; holidays?: Iterable<DateLike> });
   /**
    * The calendar with the known holidays of some years; New Year's Day can be kept in the year before. There are none before the rules
-   * begin: in 1971 (usFederal, fedwire), 1978 (englandAndWales), 1982 (france), 1995 (germany), 1998 (nyse) and 1999 (target).
+   * begin: in 1971 (usFederal, fedwire), 1978 (englandAndWales), 1982 (france), 1995 (germany), 1998 (nyse), 1999 (target) and 2007 (japan).
    */
   static of(
-    name: "usFederal" | "target" | "englandAndWales" | "fedwire" | "nyse" | "germany" | "france",
+    name: "usFederal" | "target" | "englandAndWales" | "fedwire" | "nyse" | "germany" | "france" | "japan",
     firstYear: number,
     lastYear: number,
     options?: { weekend?: number[] },

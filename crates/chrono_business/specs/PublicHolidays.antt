@@ -2,8 +2,8 @@
 use Rattle.std.specs.Prelude.{List, [], ◌∷◌, ℤ, pos, neg_ℤ}
 use Rattle.chrono_datetime.specs.declared.Month.TheVariants.{April, August, December, February, January, July, June, May, November, October, September}
 use Rattle.chrono_datetime.specs.declared.Weekday.TheVariants.{Mon, Thu}
-use Rattle.chrono_business.specs.declared.holiday_rule.HolidayDay.TheVariants.{Fixed, NthWeekday, LastWeekday, EasterPlus}
-use Rattle.chrono_business.specs.declared.holiday_rule.Moved.TheVariants.{Stays, SundayToMonday, ToMonday, ToNearer, TwoDaysOn}
+use Rattle.chrono_business.specs.declared.holiday_rule.HolidayDay.TheVariants.{Fixed, NthWeekday, LastWeekday, EasterPlus, VernalEquinox, AutumnalEquinox}
+use Rattle.chrono_business.specs.declared.holiday_rule.Moved.TheVariants.{Stays, SundayToMonday, ToMonday, ToNearer, TwoDaysOn, SundayPlus}
 use Rattle.chrono_business.specs.declared.holiday_rule.HolidayRule.{HolidayRule}
 use Rattle.chrono_business.specs.HolidayRules.{rule_of}
 
@@ -150,4 +150,58 @@ france_rules =
     ∷ rule_of (Fixed November 1) Stays (pos 1_982) still
     ∷ rule_of (Fixed November 11) Stays (pos 1_982) still
     ∷ rule_of (Fixed December 25) Stays (pos 1_982) still
+    ∷ []
+
+-- the days on which banks in Japan are closed, from 2007 on: the national holidays in their order of the year, with New
+-- Year's Day and the two days after it, and 31 December. Then days of 2019, and the Tuesdays between two holidays of
+-- September. A holiday on a Sunday goes to the next day that is none
+unfoldable pub japan_rules : List HolidayRule
+japan_rules =
+    rule_of (Fixed January 1) SundayToMonday (pos 2_007) still
+    ∷ rule_of (Fixed January 2) Stays (pos 2_007) still
+    ∷ rule_of (Fixed January 3) Stays (pos 2_007) still
+    ∷ rule_of (NthWeekday 2 Mon January) Stays (pos 2_007) still
+    ∷ rule_of (Fixed February 11) SundayToMonday (pos 2_007) still
+    ∷ rule_of (Fixed February 23) SundayToMonday (pos 2_020) still
+    ∷ rule_of VernalEquinox SundayToMonday (pos 2_007) (pos 2_099)
+    ∷ rule_of (Fixed April 29) SundayToMonday (pos 2_007) still
+    ∷ rule_of (Fixed May 3) (SundayPlus 3) (pos 2_007) still
+    ∷ rule_of (Fixed May 4) (SundayPlus 2) (pos 2_007) still
+    ∷ rule_of (Fixed May 5) SundayToMonday (pos 2_007) still
+    ∷ rule_of (NthWeekday 3 Mon July) Stays (pos 2_007) (pos 2_019)
+    ∷ rule_of (Fixed July 23) Stays (pos 2_020) (pos 2_020)
+    ∷ rule_of (Fixed July 22) Stays (pos 2_021) (pos 2_021)
+    ∷ rule_of (NthWeekday 3 Mon July) Stays (pos 2_022) still
+    ∷ rule_of (Fixed August 11) SundayToMonday (pos 2_016) (pos 2_019)
+    ∷ rule_of (Fixed August 10) Stays (pos 2_020) (pos 2_020)
+    ∷ rule_of (Fixed August 8) SundayToMonday (pos 2_021) (pos 2_021)
+    ∷ rule_of (Fixed August 11) SundayToMonday (pos 2_022) still
+    ∷ rule_of (NthWeekday 3 Mon September) Stays (pos 2_007) still
+    ∷ rule_of AutumnalEquinox SundayToMonday (pos 2_007) (pos 2_099)
+    ∷ rule_of (NthWeekday 2 Mon October) Stays (pos 2_007) (pos 2_019)
+    ∷ rule_of (Fixed July 24) Stays (pos 2_020) (pos 2_020)
+    ∷ rule_of (Fixed July 23) Stays (pos 2_021) (pos 2_021)
+    ∷ rule_of (NthWeekday 2 Mon October) Stays (pos 2_022) still
+    ∷ rule_of (Fixed November 3) SundayToMonday (pos 2_007) still
+    ∷ rule_of (Fixed November 23) SundayToMonday (pos 2_007) still
+    ∷ rule_of (Fixed December 23) SundayToMonday (pos 2_007) (pos 2_018)
+    ∷ rule_of (Fixed December 31) Stays (pos 2_007) still
+    ∷ rule_of (Fixed April 30) Stays (pos 2_019) (pos 2_019)
+    ∷ rule_of (Fixed May 1) Stays (pos 2_019) (pos 2_019)
+    ∷ rule_of (Fixed May 2) Stays (pos 2_019) (pos 2_019)
+    ∷ rule_of (Fixed October 22) Stays (pos 2_019) (pos 2_019)
+    ∷ rule_of (Fixed September 22) Stays (pos 2_009) (pos 2_009)
+    ∷ rule_of (Fixed September 22) Stays (pos 2_015) (pos 2_015)
+    ∷ rule_of (Fixed September 22) Stays (pos 2_026) (pos 2_026)
+    ∷ rule_of (Fixed September 21) Stays (pos 2_032) (pos 2_032)
+    ∷ rule_of (Fixed September 22) Stays (pos 2_037) (pos 2_037)
+    ∷ rule_of (Fixed September 22) Stays (pos 2_043) (pos 2_043)
+    ∷ rule_of (Fixed September 21) Stays (pos 2_049) (pos 2_049)
+    ∷ rule_of (Fixed September 22) Stays (pos 2_054) (pos 2_054)
+    ∷ rule_of (Fixed September 21) Stays (pos 2_060) (pos 2_060)
+    ∷ rule_of (Fixed September 22) Stays (pos 2_071) (pos 2_071)
+    ∷ rule_of (Fixed September 21) Stays (pos 2_077) (pos 2_077)
+    ∷ rule_of (Fixed September 21) Stays (pos 2_088) (pos 2_088)
+    ∷ rule_of (Fixed September 21) Stays (pos 2_094) (pos 2_094)
+    ∷ rule_of (Fixed September 22) Stays (pos 2_099) (pos 2_099)
     ∷ []

@@ -2,15 +2,20 @@
 //!
 //! `HolidayDay` is the day that is named in a year, and `Moved` says where it goes from a weekend.
 //! `HolidayRule` has both, with the years in which the rule holds.
-ghost use Rattle.std.specs.Prelude.{◌≡◌, ◌==◌, if◌then◌else◌, pos, ◌+ℤ◌, IfSome};
+ghost use Rattle.std.specs.Prelude.{◌≡◌, ◌≤◌, ◌==◌, if◌then◌else◌, pos, ◌+ℤ◌, IfSome};
 ghost use Rattle.std.specs.Option.{option_and_then};
 ghost use Rattle.chrono_datetime.specs.Weekday.{days_from_monday};
 ghost use Rattle.chrono_datetime.specs.Days.{IsDate, date_of_day};
 ghost use Rattle.chrono_datetime.specs.Weeks.{date_of_last_weekday};
-ghost use Rattle.chrono_business.specs.HolidayRules.{holiday_named, date_of_easter_plus, date_of_rule, from_saturday, from_sunday, moved_by};
+ghost use Rattle.chrono_business.specs.HolidayRules.{holiday_named, date_of_easter_plus, date_of_equinox, date_of_rule, day_of_equinox, from_saturday, from_sunday, moved_by};
 
 use crate::computus::easter;
 use chrono_datetime::{Datelike, Month, NaiveDate, Weekday};
+
+// The first and the last year for which the formula of the equinoxes is made.
+const FIRST_EQUINOX: i32 = 1980;
+
+const LAST_EQUINOX: i32 = 2099;
 
 /// A day that every year has, or some years.
 #[derive(Clone, Copy, PartialEq, Eq, Hash, Debug)]
@@ -23,6 +28,12 @@ pub enum HolidayDay {
     LastWeekday(Weekday, Month),
     /// The day that is this number of days after Easter Sunday. A negative number is before it.
     EasterPlus(i32),
+    /// The day of the equinox in March, by Japan's time.
+    ///
+    /// The years from 1980 to 2099 have it: the formula of Japan's Hydrographic Department is made for them.
+    VernalEquinox,
+    /// The day of the equinox in September, by Japan's time. The years from 1980 to 2099 have it.
+    AutumnalEquinox,
 }
 
 /// Where a holiday goes that falls on a Saturday or a Sunday. On any other day it stays.
@@ -40,6 +51,10 @@ pub enum Moved {
     ///
     /// This serves two holidays that follow one another, such as Christmas Day and Boxing Day.
     TwoDaysOn,
+    /// A holiday on Sunday goes this number of days later. On Saturday it stays.
+    ///
+    /// This serves a holiday that others follow, such as 3 May in Japan, which goes from Sunday to 6 May.
+    SundayPlus(u8),
 }
 
 /// A rule of holidays: a day, where it goes from a weekend, and the years in which the rule holds.
@@ -80,6 +95,8 @@ impl HolidayDay {
                 last_weekday(year, month.number_from_month(), weekday)
             }
             HolidayDay::EasterPlus(days) => easter_plus(year, days),
+            HolidayDay::VernalEquinox => equinox(year, 3, 20_843_100),
+            HolidayDay::AutumnalEquinox => equinox(year, 9, 23_248_800),
         }
     }
 }
@@ -117,7 +134,7 @@ impl Moved {
         ensures { result ≡ from_saturday self }
     {
         match self {
-            Moved::Stays | Moved::SundayToMonday => 0,
+            Moved::Stays | Moved::SundayToMonday | Moved::SundayPlus(_) => 0,
             Moved::ToMonday | Moved::TwoDaysOn => 2,
             Moved::ToNearer => -1,
         }
@@ -131,6 +148,7 @@ impl Moved {
             Moved::Stays => 0,
             Moved::SundayToMonday | Moved::ToMonday | Moved::ToNearer => 1,
             Moved::TwoDaysOn => 2,
+            Moved::SundayPlus(days) => i64::from(days),
         }
     }
 }
@@ -178,4 +196,27 @@ fn easter_plus(year: i32, days: i32) -> Option<NaiveDate>
     ensures { result ≡ date_of_easter_plus year days }
 {
     easter(year)?.moved_by_days(i64::from(days))
+}
+
+// The date of an equinox in Japan, which in 1980 comes at `first` in this month, in millionths of a day.
+fn equinox(year: i32, month: u32, first: u32) -> Option<NaiveDate>
+    requires from { 20_000_000 ≤ first }
+    requires to { first ≤ 24_000_000 }
+    ensures { result ≡ date_of_equinox year month first }
+{
+    if year < FIRST_EQUINOX || LAST_EQUINOX < year {
+        return None;
+    }
+    let years = (year - FIRST_EQUINOX) as u32;
+    NaiveDate::from_ymd_opt(year, month, day_of_equinox(first, years))
+}
+
+// The day of the month of an equinox so many years after 1980.
+fn day_of_equinox(first: u32, years: u32) -> u32
+    requires from { 20_000_000 ≤ first }
+    requires to { first ≤ 24_000_000 }
+    requires few { years ≤ 119 }
+    ensures { result ≡ day_of_equinox first years }
+{
+    (first + 242_194 * years) / 1_000_000 - years / 4
 }

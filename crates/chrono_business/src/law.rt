@@ -1,7 +1,7 @@
 //! Laws of open days, and known values of open days, rolls, day counts and holidays.
 //!
 //! Each is the contract of a function that does nothing. After a call of it the prover knows its clauses.
-ghost use Rattle.std.specs.Prelude.{◌≡◌, ◌≢◌, ◌↔◌, ◌+◌, ◌<◌, ◌≤◌, ℕ, ℤ, true, false, pos, neg_ℤ, ◌+ℤ◌, ◌-ℤ◌, ◌*ℤ◌, ◌≤ℤ◌, ◌<ℤ◌, List, [], ◌∷◌, map, take, drop, slice_index_or, Some, None};
+ghost use Rattle.std.specs.Prelude.{◌≡◌, ◌≢◌, ◌↔◌, ◌+◌, ◌<◌, ◌≤◌, ℕ, ℤ, true, false, pos, neg_ℤ, ◌+ℤ◌, ◌-ℤ◌, ◌*ℤ◌, ◌≤ℤ◌, ◌<ℤ◌, List, [], ◌∷◌, map, filter, take, drop, slice_index_or, int_lt, Some, None};
 ghost use Rattle.chrono_datetime.specs.WeekdaySet.{DaySet, set_of};
 ghost use Rattle.chrono_datetime.specs.Days.{IsDate, month_of, year_of};
 ghost use Rattle.chrono_datetime.specs.MonthMoves.{InSameMonth};
@@ -11,16 +11,16 @@ ghost use Rattle.chrono_datetime.specs.declared.Weekday.{Weekday};
 ghost use Rattle.chrono_datetime.specs.declared.Weekday.TheVariants.{Fri, Mon, Sat, Sun, Thu, Tue, Wed};
 ghost use Rattle.chrono_datetime.specs.declared.Month.TheVariants.{December, February, January, July, June, May, November};
 ghost use Rattle.chrono_business.specs.Easter.{date_of_easter, easter_day};
-ghost use Rattle.chrono_business.specs.HolidayRules.{date_of_rule, moved_by, rule_of};
-ghost use Rattle.chrono_business.specs.declared.holiday_rule.HolidayDay.TheVariants.{EasterPlus, Fixed, LastWeekday, NthWeekday};
+ghost use Rattle.chrono_business.specs.HolidayRules.{date_of_rule, holiday_named, moved_by, rule_of};
+ghost use Rattle.chrono_business.specs.declared.holiday_rule.HolidayDay.TheVariants.{AutumnalEquinox, EasterPlus, Fixed, LastWeekday, NthWeekday, VernalEquinox};
 ghost use Rattle.chrono_business.specs.declared.holiday_rule.HolidayRule.{HolidayRule};
-ghost use Rattle.chrono_business.specs.declared.holiday_rule.Moved.TheVariants.{Stays, SundayToMonday, ToMonday, ToNearer, TwoDaysOn};
+ghost use Rattle.chrono_business.specs.declared.holiday_rule.Moved.TheVariants.{Stays, SundayPlus, SundayToMonday, ToMonday, ToNearer, TwoDaysOn};
 ghost use Rattle.chrono_business.specs.DayCounts.{days_30_360, days_30e_360, days_actual_actual};
 ghost use Rattle.chrono_business.specs.Rolls.{IsLastOpen, IsNextOpen, MonthBeginsClosed, MonthEndsClosed, MonthIsClosed, RollsTo, sunday_and_monday};
 ghost use Rattle.chrono_business.specs.WrongHolidays.{IsWrong};
 ghost use Rattle.chrono_business.specs.OpenDayLists.{open_days_list};
 ghost use Rattle.chrono_business.specs.HolidayLists.{AreHolidaysWith, AreTooMany, IsOfRules};
-ghost use Rattle.chrono_business.specs.PublicHolidays.{england_and_wales_rules, fedwire_rules, france_rules, germany_rules, nyse_rules, target_rules, us_federal_rules};
+ghost use Rattle.chrono_business.specs.PublicHolidays.{england_and_wales_rules, fedwire_rules, france_rules, germany_rules, japan_rules, nyse_rules, target_rules, us_federal_rules};
 ghost use Rattle.chrono_business.specs.declared.holiday_error.HolidayError.TheVariants.{NotRising, OnWeekend};
 ghost use Rattle.chrono_business.specs.declared.holiday_error.HolidayError.{HolidayError};
 ghost use Rattle.chrono_business.specs.declared.roll.Roll.{Roll};
@@ -313,6 +313,29 @@ pub fn known_easters()
     ensures no_year { date_of_easter (pos 262_143) ≡ None }
 {}
 
+/// Known days of equinoxes in Japan.
+///
+/// In March they are 20 March 1980, 21 March 2055, 20 March of 2026, 2088 and 2099, and 19 March 2092.
+/// In September they are 23 September of 1980, 2074 and 2099, and 22 September of 2012 and 2045.
+/// The formula has no year 1979 and no year 2100.
+pub fn known_equinoxes()
+    ensures march_first { holiday_named VernalEquinox (pos 1_980) ≡ Some (pos 722_894) }
+    ensures march_2026 { holiday_named VernalEquinox (pos 2_026) ≡ Some (pos 739_695) }
+    ensures march_2055 { holiday_named VernalEquinox (pos 2_055) ≡ Some (pos 750_288) }
+    ensures march_2088 { holiday_named VernalEquinox (pos 2_088) ≡ Some (pos 762_341) }
+    ensures march_2092 { holiday_named VernalEquinox (pos 2_092) ≡ Some (pos 763_801) }
+    ensures march_last { holiday_named VernalEquinox (pos 2_099) ≡ Some (pos 766_358) }
+    ensures september_first { holiday_named AutumnalEquinox (pos 1_980) ≡ Some (pos 723_081) }
+    ensures september_2012 { holiday_named AutumnalEquinox (pos 2_012) ≡ Some (pos 734_768) }
+    ensures september_2045 { holiday_named AutumnalEquinox (pos 2_045) ≡ Some (pos 746_821) }
+    ensures september_2074 { holiday_named AutumnalEquinox (pos 2_074) ≡ Some (pos 757_414) }
+    ensures september_last { holiday_named AutumnalEquinox (pos 2_099) ≡ Some (pos 766_545) }
+    ensures march_before { holiday_named VernalEquinox (pos 1_979) ≡ None }
+    ensures march_behind { holiday_named VernalEquinox (pos 2_100) ≡ None }
+    ensures september_before { holiday_named AutumnalEquinox (pos 1_979) ≡ None }
+    ensures september_behind { holiday_named AutumnalEquinox (pos 2_100) ≡ None }
+{}
+
 /// Known days by which holidays of a weekend are moved.
 ///
 /// Saturday and Sunday are 30 and 31 March 2024 (days 738,975 and 738,976). Friday and Monday stay (days 738,974 and 738,977).
@@ -327,6 +350,8 @@ pub fn known_moves_from_weekends()
     ensures sunday_to_nearer { moved_by ToNearer (pos 738_976) ≡ pos 1 }
     ensures saturday_two_days { moved_by TwoDaysOn (pos 738_975) ≡ pos 2 }
     ensures sunday_two_days { moved_by TwoDaysOn (pos 738_976) ≡ pos 2 }
+    ensures saturday_unless_plus { moved_by (SundayPlus 3) (pos 738_975) ≡ pos 0 }
+    ensures sunday_plus { moved_by (SundayPlus 3) (pos 738_976) ≡ pos 3 }
     ensures friday { moved_by ToNearer (pos 738_974) ≡ pos 0 }
     ensures monday { moved_by TwoDaysOn (pos 738_977) ≡ pos 0 }
 {}
@@ -414,7 +439,7 @@ pub fn known_holiday_lists()
 /// Known holidays of the given calendars: what each rule names, in its order.
 ///
 /// TARGET, the federal holidays and those of France are of 2024. England and Wales are of 2022, and Germany of 2017.
-/// Fedwire and the New York Stock Exchange are of 2022 up to May, and of 2027 from June on.
+/// Fedwire and the New York Stock Exchange are of 2022 up to May, and of 2027 from June on. Japan is of 2026.
 /// The last Mondays of May and August are left out, but for the rule of Memorial Day.
 pub fn known_given_calendars()
     ensures target { map (λ r. date_of_rule r (pos 2_024)) target_rules ≡
@@ -445,6 +470,8 @@ pub fn known_given_calendars()
         Some (pos 736_330) ∷ Some (pos 736_433) ∷ Some (pos 736_436) ∷ Some (pos 736_450) ∷ Some (pos 736_474) ∷ Some (pos 736_485) ∷ Some (pos 736_605) ∷ Some (pos 736_688) ∷ Some (pos 736_689) ∷ Some (pos 736_633) ∷ [] }
     ensures france { map (λ r. date_of_rule r (pos 2_024)) france_rules ≡
         Some (pos 738_886) ∷ Some (pos 738_977) ∷ Some (pos 739_007) ∷ Some (pos 739_014) ∷ Some (pos 739_015) ∷ Some (pos 739_026) ∷ Some (pos 739_081) ∷ Some (pos 739_113) ∷ Some (pos 739_191) ∷ Some (pos 739_201) ∷ Some (pos 739_245) ∷ [] }
+    ensures japan { map (λ r. date_of_rule r (pos 2_026)) japan_rules ≡
+        Some (pos 739_617) ∷ Some (pos 739_618) ∷ Some (pos 739_619) ∷ Some (pos 739_628) ∷ Some (pos 739_658) ∷ Some (pos 739_670) ∷ Some (pos 739_695) ∷ Some (pos 739_735) ∷ Some (pos 739_742) ∷ Some (pos 739_740) ∷ Some (pos 739_741) ∷ None ∷ None ∷ None ∷ Some (pos 739_817) ∷ None ∷ None ∷ None ∷ Some (pos 739_839) ∷ Some (pos 739_880) ∷ Some (pos 739_882) ∷ None ∷ None ∷ None ∷ Some (pos 739_901) ∷ Some (pos 739_923) ∷ Some (pos 739_943) ∷ None ∷ Some (pos 739_981) ∷ None ∷ None ∷ None ∷ None ∷ None ∷ None ∷ Some (pos 739_881) ∷ None ∷ None ∷ None ∷ None ∷ None ∷ None ∷ None ∷ None ∷ None ∷ None ∷ None ∷ [] }
 {}
 
 /// Known holidays of the given calendars: what each rule names in its first year, or in its last one.
@@ -491,6 +518,10 @@ pub fn known_first_and_last_years()
         Some (pos 736_633) ∷ [] }
     ensures france_first { map (λ r. date_of_rule r r.first_year) france_rules ≡
         Some (pos 723_546) ∷ Some (pos 723_647) ∷ Some (pos 723_666) ∷ Some (pos 723_673) ∷ Some (pos 723_685) ∷ Some (pos 723_696) ∷ Some (pos 723_740) ∷ Some (pos 723_772) ∷ Some (pos 723_850) ∷ Some (pos 723_860) ∷ Some (pos 723_904) ∷ [] }
+    ensures japan_first { map (λ r. date_of_rule r r.first_year) japan_rules ≡
+        Some (pos 732_677) ∷ Some (pos 732_678) ∷ Some (pos 732_679) ∷ Some (pos 732_684) ∷ Some (pos 732_719) ∷ Some (pos 737_479) ∷ Some (pos 732_756) ∷ Some (pos 732_796) ∷ Some (pos 732_799) ∷ Some (pos 732_800) ∷ Some (pos 732_801) ∷ Some (pos 732_873) ∷ Some (pos 737_629) ∷ Some (pos 737_993) ∷ Some (pos 738_354) ∷ Some (pos 736_187) ∷ Some (pos 737_647) ∷ Some (pos 738_011) ∷ Some (pos 738_378) ∷ Some (pos 732_936) ∷ Some (pos 732_943) ∷ Some (pos 732_957) ∷ Some (pos 737_630) ∷ Some (pos 737_994) ∷ Some (pos 738_438) ∷ Some (pos 732_983) ∷ Some (pos 733_003) ∷ Some (pos 733_034) ∷ Some (pos 733_041) ∷ Some (pos 737_179) ∷ Some (pos 737_180) ∷ Some (pos 737_181) ∷ Some (pos 737_354) ∷ Some (pos 733_672) ∷ Some (pos 735_863) ∷ Some (pos 739_881) ∷ Some (pos 742_072) ∷ Some (pos 743_899) ∷ Some (pos 746_090) ∷ Some (pos 748_281) ∷ Some (pos 750_108) ∷ Some (pos 752_299) ∷ Some (pos 756_317) ∷ Some (pos 758_508) ∷ Some (pos 762_526) ∷ Some (pos 764_717) ∷ Some (pos 766_544) ∷ [] }
+    ensures japan_last { map (λ r. date_of_rule r r.last_year) (filter (λ r. int_lt r.last_year (pos 262_142)) japan_rules) ≡
+        Some (pos 766_358) ∷ Some (pos 737_255) ∷ Some (pos 737_629) ∷ Some (pos 737_993) ∷ Some (pos 737_283) ∷ Some (pos 737_647) ∷ Some (pos 738_011) ∷ Some (pos 766_545) ∷ Some (pos 737_346) ∷ Some (pos 737_630) ∷ Some (pos 737_994) ∷ Some (pos 737_052) ∷ Some (pos 737_179) ∷ Some (pos 737_180) ∷ Some (pos 737_181) ∷ Some (pos 737_354) ∷ Some (pos 733_672) ∷ Some (pos 735_863) ∷ Some (pos 739_881) ∷ Some (pos 742_072) ∷ Some (pos 743_899) ∷ Some (pos 746_090) ∷ Some (pos 748_281) ∷ Some (pos 750_108) ∷ Some (pos 752_299) ∷ Some (pos 756_317) ∷ Some (pos 758_508) ∷ Some (pos 762_526) ∷ Some (pos 764_717) ∷ Some (pos 766_544) ∷ [] }
 {}
 
 /// Known last Mondays of May and August in the given calendars, in the first year of each rule and in its last one.

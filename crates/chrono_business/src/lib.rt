@@ -35,5 +35,7 @@ pub use holiday_error::HolidayError;
 pub use holiday_list::{holidays_of, without_weekends};
 pub use holiday_rule::{HolidayDay, HolidayRule, Moved};
 pub use open_days_iterator::OpenDaysIterator;
-pub use public_holidays::{england_and_wales, fedwire, france, germany, nyse, target, us_federal};
+pub use public_holidays::{
+    england_and_wales, fedwire, france, germany, japan, nyse, target, us_federal,
+};
 pub use roll::Roll;

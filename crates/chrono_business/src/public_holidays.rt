@@ -2,10 +2,10 @@
 //!
 //! Each rule has its source next to it. A day that was proclaimed once is a rule of one year.
 ghost use Rattle.std.specs.Prelude.{◌≡◌, pos};
-ghost use Rattle.chrono_business.specs.PublicHolidays.{england_and_wales_rules, fedwire_rules, france_rules, germany_rules, nyse_rules, target_rules, us_federal_rules};
+ghost use Rattle.chrono_business.specs.PublicHolidays.{england_and_wales_rules, fedwire_rules, france_rules, germany_rules, japan_rules, nyse_rules, target_rules, us_federal_rules};
 ghost use Rattle.chrono_business.specs.HolidayRules.{rule_of};
 ghost use Rattle.chrono_business.specs.declared.holiday_rule.HolidayDay.TheVariants.{EasterPlus, Fixed, LastWeekday, NthWeekday};
-ghost use Rattle.chrono_business.specs.declared.holiday_rule.Moved.TheVariants.{Stays};
+ghost use Rattle.chrono_business.specs.declared.holiday_rule.Moved.TheVariants.{Stays, SundayToMonday};
 
 use crate::holiday_rule::{HolidayDay, HolidayRule, Moved};
 use chrono_datetime::{MAX_YEAR, Month, Weekday};
@@ -303,6 +303,99 @@ pub fn france() -> [HolidayRule; 11]
     ]
 }
 
+/// Returns the rules of the days on which banks in Japan are closed, from 2007 on, besides Saturdays and Sundays.
+///
+/// They are the national holidays, 31 December, and 2 and 3 January.
+/// The sources are the Act on National Holidays (No. 178 of 1948, as amended by No. 43 of 2005) and, for the last three
+/// days, the Order for Enforcement of the Banking Act, article 5.
+/// A holiday on a Sunday is kept on the next day that is none (Act on National Holidays, article 3(2)).
+/// A day between two holidays is one too (article 3(3)).
+///
+/// ```
+/// japan()[8].date_in(2026) // Some(2026-05-06)
+/// japan()[20].date_in(2026) // Some(2026-09-23)
+/// ```
+///
+/// So Constitution Memorial Day, on a Sunday, is kept behind the two holidays after it.
+/// The Cabinet announces the days of the equinoxes a year ahead. Those of the rules are computed, up to 2099.
+/// From 2100 on the rules have no equinoxes, and no days between holidays.
+#[tactic(auto, unfolding(crate::specs::PublicHolidays::japan_rules))]
+pub fn japan() -> [HolidayRule; 47]
+    ensures rules { result ≡ japan_rules }
+{
+    [
+        // New Year's Day, and the days after it on which banks are closed (Order for Enforcement of the
+        // Banking Act, article 5).
+        fixed(Month::January, 1, Moved::SundayToMonday, 2007, STILL),
+        fixed(Month::January, 2, Moved::Stays, 2007, STILL),
+        fixed(Month::January, 3, Moved::Stays, 2007, STILL),
+        // Coming of Age Day, the second Monday in January.
+        nth(2, Weekday::Mon, Month::January, 2007, STILL),
+        // National Foundation Day.
+        fixed(Month::February, 11, Moved::SundayToMonday, 2007, STILL),
+        // The Emperor's Birthday, from 2020 on (Act No. 63 of 2017). In 2019 there was none.
+        fixed(Month::February, 23, Moved::SundayToMonday, 2020, STILL),
+        // Vernal Equinox Day.
+        equinox(HolidayDay::VernalEquinox),
+        // Shōwa Day.
+        fixed(Month::April, 29, Moved::SundayToMonday, 2007, STILL),
+        // Constitution Memorial Day, Greenery Day and Children's Day: one on a Sunday is kept on 6 May.
+        fixed(Month::May, 3, Moved::SundayPlus(3), 2007, STILL),
+        fixed(Month::May, 4, Moved::SundayPlus(2), 2007, STILL),
+        fixed(Month::May, 5, Moved::SundayToMonday, 2007, STILL),
+        // Marine Day, the third Monday in July, and in 2020 and 2021 by the opening of the Olympic Games (Acts
+        // No. 55 of 2018 and No. 68 of 2020).
+        nth(3, Weekday::Mon, Month::July, 2007, 2019),
+        fixed(Month::July, 23, Moved::Stays, 2020, 2020),
+        fixed(Month::July, 22, Moved::Stays, 2021, 2021),
+        nth(3, Weekday::Mon, Month::July, 2022, STILL),
+        // Mountain Day, from 2016 on (Act No. 43 of 2014), and in 2020 and 2021 by the end of the Games.
+        fixed(Month::August, 11, Moved::SundayToMonday, 2016, 2019),
+        fixed(Month::August, 10, Moved::Stays, 2020, 2020),
+        fixed(Month::August, 8, Moved::SundayToMonday, 2021, 2021),
+        fixed(Month::August, 11, Moved::SundayToMonday, 2022, STILL),
+        // Respect for the Aged Day, the third Monday in September.
+        nth(3, Weekday::Mon, Month::September, 2007, STILL),
+        // Autumnal Equinox Day.
+        equinox(HolidayDay::AutumnalEquinox),
+        // Sports Day, which was Health and Sports Day up to 2019: the second Monday in October, but for
+        // 2020 and 2021.
+        nth(2, Weekday::Mon, Month::October, 2007, 2019),
+        fixed(Month::July, 24, Moved::Stays, 2020, 2020),
+        fixed(Month::July, 23, Moved::Stays, 2021, 2021),
+        nth(2, Weekday::Mon, Month::October, 2022, STILL),
+        // Culture Day and Labour Thanksgiving Day.
+        fixed(Month::November, 3, Moved::SundayToMonday, 2007, STILL),
+        fixed(Month::November, 23, Moved::SundayToMonday, 2007, STILL),
+        // The Emperor's Birthday, up to 2018.
+        fixed(Month::December, 23, Moved::SundayToMonday, 2007, 2018),
+        // The last day of the year, on which banks are closed.
+        fixed(Month::December, 31, Moved::Stays, 2007, STILL),
+        // The accession of the Emperor in 2019, with the days between holidays around it, and his
+        // enthronement (Act No. 99 of 2018).
+        fixed(Month::April, 30, Moved::Stays, 2019, 2019),
+        fixed(Month::May, 1, Moved::Stays, 2019, 2019),
+        fixed(Month::May, 2, Moved::Stays, 2019, 2019),
+        fixed(Month::October, 22, Moved::Stays, 2019, 2019),
+        // The Tuesday between Respect for the Aged Day and an equinox on a Wednesday, a day between two
+        // holidays (article 3(3)).
+        fixed(Month::September, 22, Moved::Stays, 2009, 2009),
+        fixed(Month::September, 22, Moved::Stays, 2015, 2015),
+        fixed(Month::September, 22, Moved::Stays, 2026, 2026),
+        fixed(Month::September, 21, Moved::Stays, 2032, 2032),
+        fixed(Month::September, 22, Moved::Stays, 2037, 2037),
+        fixed(Month::September, 22, Moved::Stays, 2043, 2043),
+        fixed(Month::September, 21, Moved::Stays, 2049, 2049),
+        fixed(Month::September, 22, Moved::Stays, 2054, 2054),
+        fixed(Month::September, 21, Moved::Stays, 2060, 2060),
+        fixed(Month::September, 22, Moved::Stays, 2071, 2071),
+        fixed(Month::September, 21, Moved::Stays, 2077, 2077),
+        fixed(Month::September, 21, Moved::Stays, 2088, 2088),
+        fixed(Month::September, 21, Moved::Stays, 2094, 2094),
+        fixed(Month::September, 22, Moved::Stays, 2099, 2099),
+    ]
+}
+
 fn fixed(month: Month, day: u32, moved: Moved, first_year: i32, last_year: i32) -> HolidayRule
     ensures { result ≡ rule_of (Fixed month day) moved first_year last_year }
 {
@@ -328,6 +421,13 @@ fn easter(days: i32, first_year: i32) -> HolidayRule
 {
     let day = HolidayDay::EasterPlus(days);
     rule(day, Moved::Stays, first_year, STILL)
+}
+
+// The rule of an equinox in Japan, up to the last year of its formula.
+fn equinox(day: HolidayDay) -> HolidayRule
+    ensures { result ≡ rule_of day SundayToMonday (pos 2_007) (pos 2_099) }
+{
+    rule(day, Moved::SundayToMonday, 2007, 2099)
 }
 
 fn rule(day: HolidayDay, moved: Moved, first_year: i32, last_year: i32) -> HolidayRule

@@ -68,9 +68,9 @@ pub(crate) fn years_of(from: NaiveDate, to: NaiveDate) -> Years {
     }
 }
 
-// At least this many days are open in each year if no file closes any. They are 365, less two weekdays of 53 weeks, less the 99
+// At least this many days are open in each year if no file closes any. They are 365, less two weekdays of 53 weeks, less the 146
 // rules of all calendars.
-const OPEN_DAYS_OF_A_YEAR: u64 = 160;
+const OPEN_DAYS_OF_A_YEAR: u64 = 113;
 
 // No more years lie between two dates.
 const MOST_YEARS: i32 = 600_000;

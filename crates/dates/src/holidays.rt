@@ -2,8 +2,8 @@
 
 use crate::prelude::*;
 use chrono_business::{
-    Calendar, HolidayRule, england_and_wales, fedwire, france, germany, nyse, target, us_federal,
-    without_weekends,
+    Calendar, HolidayRule, england_and_wales, fedwire, france, germany, japan, nyse, target,
+    us_federal, without_weekends,
 };
 use chrono_datetime::WeekdaySet;
 
@@ -87,6 +87,7 @@ impl Asked<'_> {
                 4 => rules.extend_from_slice(&nyse()),
                 5 => rules.extend_from_slice(&germany()),
                 6 => rules.extend_from_slice(&france()),
+                7 => rules.extend_from_slice(&japan()),
                 _ => return self.wrong_choice(word, CALENDARS),
             };
             self.kept(put);

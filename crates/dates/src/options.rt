@@ -35,11 +35,13 @@ pub(crate) const CALENDARS: &[&str] = &[
     "nyse",
     "germany",
     "france",
+    "japan",
 ];
 
 pub(crate) const CALENDAR: Opt = option!(
-    "--calendar", "NAMES"; "holidays by rules: us-federal and fedwire (from 1971),\n\
-        england (1978), france (1982), germany (1995),\nnyse (1998), target (1999); several as target,nyse",
+    "--calendar", "NAMES"; "holidays by rules, several as target,nyse: us-federal\n\
+        and fedwire (from 1971), england (1978), france (1982),\n\
+        germany (1995), nyse (1998), target (1999), japan (2007)",
     values: CALENDARS
 );
 

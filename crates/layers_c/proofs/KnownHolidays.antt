@@ -1,6 +1,6 @@
 -- The rules with a number.
 use Rattle.std.proofs.Common.{◌≡◌, ℕ, List, Some}
-use Rattle.chrono_business.specs.PublicHolidays.{england_and_wales_rules, fedwire_rules, france_rules, germany_rules, nyse_rules, target_rules, us_federal_rules}
+use Rattle.chrono_business.specs.PublicHolidays.{england_and_wales_rules, fedwire_rules, france_rules, germany_rules, japan_rules, nyse_rules, target_rules, us_federal_rules}
 use Rattle.chrono_business.specs.declared.holiday_rule.HolidayRule.{HolidayRule}
 use Rattle.layers_c.specs.Holidays.{rules_numbered}
 use Rattle.std.proofs.lemmas.Option.{same_Some}
@@ -25,3 +25,6 @@ germany which rules is numbered = same_Some germany_rules rules (rw is at number
 
 pub france : (which : ℕ) (rules : List HolidayRule) → which ≡ 6 → rules_numbered which ≡ Some rules → france_rules ≡ rules
 france which rules is numbered = same_Some france_rules rules (rw is at numbered)
+
+pub japan : (which : ℕ) (rules : List HolidayRule) → which ≡ 7 → rules_numbered which ≡ Some rules → japan_rules ≡ rules
+japan which rules is numbered = same_Some japan_rules rules (rw is at numbered)

@@ -7,7 +7,7 @@ use Rattle.chrono_datetime.specs.Days.{IsDate}
 use Rattle.chrono_datetime.specs.WeekdaySet.{DaySet}
 use Rattle.chrono_business.specs.HolidayLists.{AreTooMany, IsOfRules}
 use Rattle.chrono_business.specs.OpenDays.{AreHolidays, is_holiday, is_workday}
-use Rattle.chrono_business.specs.PublicHolidays.{england_and_wales_rules, fedwire_rules, france_rules, germany_rules, nyse_rules, target_rules, us_federal_rules}
+use Rattle.chrono_business.specs.PublicHolidays.{england_and_wales_rules, fedwire_rules, france_rules, germany_rules, japan_rules, nyse_rules, target_rules, us_federal_rules}
 use Rattle.chrono_business.specs.WrongHolidays.{IsWrong}
 use Rattle.chrono_business.specs.declared.holiday_error.HolidayError.TheVariants.{NotRising, OnWeekend}
 use Rattle.chrono_business.specs.declared.holiday_rule.HolidayRule.{HolidayRule}
@@ -17,7 +17,7 @@ use Rattle.layers_c.specs.declared.faults.CalendarFault.{CalendarFault}
 -- the rules of the calendars, numbered from 0
 abbrev pub rules_numbered : ℕ → Option (List HolidayRule)
 rules_numbered n =
-    slice_get (us_federal_rules ∷ target_rules ∷ england_and_wales_rules ∷ fedwire_rules ∷ nyse_rules ∷ germany_rules ∷ france_rules ∷ []) n
+    slice_get (us_federal_rules ∷ target_rules ∷ england_and_wales_rules ∷ fedwire_rules ∷ nyse_rules ∷ germany_rules ∷ france_rules ∷ japan_rules ∷ []) n
 
 -- the holidays of rules for some years, but for those on the weekend
 pub record AreHolidaysOf (rules : List HolidayRule) (first last : ℤ) (weekend : DaySet) (xs : List ℤ) : Type 0 where

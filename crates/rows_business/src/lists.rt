@@ -47,6 +47,8 @@ fn day_of(kind: &str, first: i32, second: u32, third: u32) -> Option<HolidayDay>
         }
         "last" => Some(HolidayDay::LastWeekday(weekday_of(second), month_of(third))),
         "easter" => Some(HolidayDay::EasterPlus(first)),
+        "vernal_equinox" => Some(HolidayDay::VernalEquinox),
+        "autumnal_equinox" => Some(HolidayDay::AutumnalEquinox),
         _ => None,
     }
 }
@@ -58,6 +60,7 @@ fn moved_of(name: &str) -> Option<Moved> {
         "to_monday" => Some(Moved::ToMonday),
         "to_nearer" => Some(Moved::ToNearer),
         "two_days_on" => Some(Moved::TwoDaysOn),
+        "sunday_plus_3" => Some(Moved::SundayPlus(3)),
         _ => None,
     }
 }

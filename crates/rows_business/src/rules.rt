@@ -1,7 +1,8 @@
 //! Easter, and what the rules of given calendars name in a year.
 
 use chrono_business::{
-    HolidayRule, easter, england_and_wales, fedwire, france, germany, nyse, target, us_federal,
+    HolidayRule, easter, england_and_wales, fedwire, france, germany, japan, nyse, target,
+    us_federal,
 };
 use chrono_datetime::{Datelike, NaiveDate};
 
@@ -26,6 +27,7 @@ fn naming_in(name: &str, date: Option<NaiveDate>, year: i32) -> Option<i64> {
         "nyse" => Some(naming(&nyse(), date, year)),
         "germany" => Some(naming(&germany(), date, year)),
         "france" => Some(naming(&france(), date, year)),
+        "japan" => Some(naming(&japan(), date, year)),
         _ => None,
     }
 }

@@ -67,6 +67,7 @@ const KNOWN = {
   nyse: "the New York Stock Exchange",
   germany: "Germany",
   france: "France",
+  japan: "Japan",
 };
 
 /** Saturday and Sunday. */

@@ -11,7 +11,7 @@ export const ROLLS = [
 ];
 
 /** The calendars whose holidays are known, in the order of the library. */
-const KNOWN = ["usFederal", "target", "englandAndWales", "fedwire", "nyse", "germany", "france"];
+const KNOWN = ["usFederal", "target", "englandAndWales", "fedwire", "nyse", "germany", "france", "japan"];
 
 /** The day counts, in the order of the library (ISDA 2006, section 4.16). */
 const DAY_COUNTS = ["actualActualIsda", "actual360", "actual365Fixed", "thirty360", "thirtyE360"];
@@ -68,8 +68,8 @@ export class BusinessCalendar {
 
   /**
    * The calendar with the holidays of some years that a name stands for: `usFederal`, `target` (the euro's payment system),
-   * `englandAndWales`, `fedwire`, `nyse` (the New York Stock Exchange), `germany` (holidays of all its states) or `france`. New Year's Day can
-   * be kept in the year before, so ask for one year more. RangeError for too many holidays.
+   * `englandAndWales`, `fedwire`, `nyse` (the New York Stock Exchange), `germany` (holidays of all its states), `france` or `japan` (its banks;
+   * with equinoxes up to 2099). New Year's Day can be kept in the year before, so ask for one year more. RangeError for too many holidays.
    */
   static of(name, firstYear, lastYear, options) {
     const weekend = listOf(optionsOf(options).weekend ?? USUAL_WEEKEND, "weekend");

@@ -194,6 +194,9 @@ test("holidays_of", () => {
   // (31 October 2017, and Whit Monday of 2024)
   assert.equal(BusinessCalendar.of("germany", 2017, 2017).isOpen("2017-10-31"), false);
   assert.equal(BusinessCalendar.of("france", 2024, 2024).isOpen("2024-05-20"), false);
+  // (in Japan 3 May 2026 is a Sunday, 22 September lies between two holidays, and the equinox of March 2027 is on a Sunday)
+  const japan = BusinessCalendar.of("japan", 2026, 2027);
+  assert.deepEqual(["2026-05-06", "2026-09-22", "2026-12-31", "2027-03-22"].map((it) => japan.isOpen(it)), [false, false, false, false]);
   const sundays = BusinessCalendar.of("target", 2022, 2022, { weekend: [7] });
   assert.deepEqual([sundays.weekend, sundays.isOpen("2022-01-01"), sundays.isOpen("2022-01-08")], [[7], false, true]);
   for (const [name, first, last] of [["target", 300_000, 300_000], ["target", 2 ** 32 + 2024, 2 ** 32 + 2024], ["target", 2_000, 2_400], ["euro", 2024, 2024]]) {

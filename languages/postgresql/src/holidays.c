@@ -7,7 +7,7 @@
 PG_FUNCTION_INFO_V1(proved_given_holidays);
 
 /* The calendars in the order of calendar_layers.h. */
-static const char *const GIVEN[] = {"us_federal", "target", "england_and_wales", "fedwire", "nyse", "germany", "france", NULL};
+static const char *const GIVEN[] = {"us_federal", "target", "england_and_wales", "fedwire", "nyse", "germany", "france", "japan", NULL};
 
 /* Saturday and Sunday. */
 #define WEEKEND 96

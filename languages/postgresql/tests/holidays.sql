@@ -6,6 +6,7 @@ SELECT string_agg(day::text, ' ') FROM given_holidays('nyse', 2021, 2021) day;
 SELECT max(day) FROM given_holidays('fedwire', 2021, 2021) day;
 SELECT string_agg(day::text, ' ') FROM given_holidays('germany', 2017, 2017) day;
 SELECT string_agg(day::text, ' ') FROM given_holidays('france', 2024, 2024) day;
+SELECT string_agg(day::text, ' ') FROM given_holidays('japan', 2026, 2026) day;
 SELECT count(*) FROM given_holidays('target', 2024, 2023);
 SELECT count(*), min(day), max(day) FROM given_holidays('us_federal', 1900, 2100) day;
 SELECT fill_calendar('target', 2024, 2025), fill_calendar('target', 2024, 2024), fill_calendar('us_federal', 2024, 2024);

@@ -18,7 +18,7 @@ _Day: TypeAlias = Date | date
 _Moment: TypeAlias = DateTime | datetime
 _TimeOfDay: TypeAlias = Time | time
 _Shown = TypeVar("_Shown", DateTime, datetime)
-_KnownCalendar: TypeAlias = Literal["us_federal", "target", "england_and_wales", "fedwire", "nyse", "germany", "france"]
+_KnownCalendar: TypeAlias = Literal["us_federal", "target", "england_and_wales", "fedwire", "nyse", "germany", "france", "japan"]
 _Roll: TypeAlias = Literal[
     "unadjusted", "following", "preceding", "modified_following", "modified_preceding", "nearest_isda", "nearest_quantlib"
 ]

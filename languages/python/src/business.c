@@ -34,6 +34,7 @@ static const char *const known_calendars[] = {
     [CALENDAR_NYSE] = "nyse",
     [CALENDAR_GERMANY] = "germany",
     [CALENDAR_FRANCE] = "france",
+    [CALENDAR_JAPAN] = "japan",
 };
 static const char *const rolls[] = {
     [CALENDAR_ROLL_UNADJUSTED] = "unadjusted",
@@ -372,10 +373,12 @@ static PyMethodDef methods[] = {
     {"known", METHOD(business_known), METH_FASTCALL | METH_KEYWORDS | METH_CLASS,
      "known($type, /, name, first_year, last_year, weekend=(6, 7))\n--\n\n"
      "Returns the calendar with the holidays of some years by known rules. They begin in 1971 (us_federal, fedwire), 1978\n"
-     "(england_and_wales), 1982 (france), 1995 (germany), 1998 (nyse) and 1999 (target). Before that only the weekend is closed.\n\n"
+     "(england_and_wales), 1982 (france), 1995 (germany), 1998 (nyse), 1999 (target) and 2007 (japan). Before that only the\n"
+     "weekend is closed.\n\n"
      ">>> BusinessCalendar.known('target', 2024, 2024).add(Date(2024, 3, 28), 2)\nDate(2024, 4, 3)\n\n"
      "name is 'us_federal', 'target' (the euro's payment system), 'england_and_wales', 'fedwire', 'nyse' (the New York Stock\n"
-     "Exchange), 'germany' (holidays of all its states) or 'france'. Raises ValueError for more than 1,000 holidays."},
+     "Exchange), 'germany' (holidays of all its states), 'france' or 'japan' (its banks; with equinoxes up to 2099). Raises\n"
+     "ValueError for more than 1,000 holidays."},
     {"is_open", is_open, METH_O,
      "is_open($self, date, /)\n--\n\nReturns whether a date is open: neither on the weekend nor a holiday."},
     {"add", METHOD(add_open_days), METH_FASTCALL | METH_KEYWORDS,

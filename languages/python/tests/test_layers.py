@@ -510,6 +510,10 @@ class OpenDays(unittest.TestCase):
                                Date(2017, 10, 3), Date(2017, 10, 31), Date(2017, 12, 25), Date(2017, 12, 26)]),
             ("france", 2024, [Date(2024, 1, 1), EASTER_MONDAY, Date(2024, 5, 1), Date(2024, 5, 8), Date(2024, 5, 9), Date(2024, 5, 20),
                               Date(2024, 8, 15), Date(2024, 11, 1), Date(2024, 11, 11), Date(2024, 12, 25)]),
+            # (6 May for a Sunday, and 22 September between two holidays)
+            ("japan", 2026, [Date(2026, month, day) for month, day in (
+                (1, 1), (1, 2), (1, 12), (2, 11), (2, 23), (3, 20), (4, 29), (5, 4), (5, 5), (5, 6), (7, 20), (8, 11), (9, 21), (9, 22),
+                (9, 23), (10, 12), (11, 3), (11, 23), (12, 31))]),
         ]:
             self.assertEqual(list(BusinessCalendar.known(name, year, year).holidays), days)
         # (New Year's Day of 2022 was kept on the last day of 2021)

@@ -238,6 +238,8 @@ pub enum KnownCalendar {
     Germany,
     /// The legal holidays of France.
     France,
+    /// The days on which banks in Japan are closed, with the computed days of the equinoxes up to 2099.
+    Japan,
 }
 
 impl KnownCalendar {
@@ -245,7 +247,7 @@ impl KnownCalendar {
     /// calendar does not have the years. New Year's Day can be kept in the year before, so ask for one year more.
     ///
     /// There are none before the rules begin: in 1971 (`UsFederal`, `Fedwire`), 1978 (`EnglandAndWales`), 1982 (`France`), 1995
-    /// (`Germany`), 1998 (`Nyse`) and 1999 (`Target`).
+    /// (`Germany`), 1998 (`Nyse`), 1999 (`Target`) and 2007 (`Japan`).
     ///
     /// ```
     /// use proved_calendar::{Date, KnownCalendar, WeekdaySet};

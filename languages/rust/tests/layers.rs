@@ -552,10 +552,11 @@ fn holidays_of() {
         let days = calendar.holidays(2021..=2021, weekend(), &mut out).unwrap();
         assert_eq!(days.contains(&christmas_eve), is_closed, "{calendar:?}");
     }
-    // (31 October 2017, and Whit Monday of 2024)
+    // (31 October 2017, Whit Monday of 2024, and 6 May for a Sunday)
     for (calendar, year, day) in [
         (KnownCalendar::Germany, 2017, "2017-10-31"),
         (KnownCalendar::France, 2024, "2024-05-20"),
+        (KnownCalendar::Japan, 2026, "2026-05-06"),
     ] {
         let days = calendar.holidays(year..=year, weekend(), &mut out).unwrap();
         assert!(days.contains(&date(day)), "{calendar:?}");

@@ -4,7 +4,7 @@
 SQLITE_EXTENSION_INIT3
 
 /* The calendars in the order of calendar_layers.h. */
-static const char *const GIVEN[] = {"us_federal", "target", "england_and_wales", "fedwire", "nyse", "germany", "france", NULL};
+static const char *const GIVEN[] = {"us_federal", "target", "england_and_wales", "fedwire", "nyse", "germany", "france", "japan", NULL};
 
 /* Goes to the next holiday that lies in its year, or to the next year's. */
 static void find_next(Cursor *cursor)

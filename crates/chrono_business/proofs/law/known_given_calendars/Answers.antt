@@ -3,7 +3,7 @@ use Rattle.chrono_datetime.specs.Days.{date_of_day, date_of_ymd, days_before_yea
 use Rattle.chrono_datetime.specs.Weeks.{date_of_nth_weekday, days_with_weekday}
 use Rattle.chrono_business.specs.Easter.{date_of_easter, days_to_moon, easter_day, epact}
 use Rattle.chrono_business.specs.HolidayRules.{holiday_named, date_of_rule, from_saturday, from_sunday}
-use Rattle.chrono_business.specs.PublicHolidays.{england_and_wales_rules, fedwire_rules, france_rules, germany_rules, nyse_rules, target_rules, us_federal_rules}
+use Rattle.chrono_business.specs.PublicHolidays.{england_and_wales_rules, fedwire_rules, france_rules, germany_rules, japan_rules, nyse_rules, target_rules, us_federal_rules}
 use Rattle.chrono_business.proofs.law.known_given_calendars.Goals as goal
 
 pub returns-clause-target : goal.returns-clause-target
@@ -53,3 +53,7 @@ returns-clause-germany c = refl
 pub returns-clause-france : goal.returns-clause-france
 unfolding france_rules date_of_rule holiday_named from_saturday from_sunday date_of_easter easter_day epact days_to_moon date_of_nth_weekday days_with_weekday date_of_ymd date_of_day days_before_year days_of_years days_of_months_in
 returns-clause-france c = refl
+
+pub returns-clause-japan : goal.returns-clause-japan
+unfolding japan_rules date_of_rule holiday_named from_saturday from_sunday date_of_nth_weekday days_with_weekday date_of_ymd date_of_day days_before_year days_of_years days_of_months_in
+returns-clause-japan c = refl

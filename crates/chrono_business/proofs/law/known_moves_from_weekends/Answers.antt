@@ -49,3 +49,11 @@ returns-clause-friday c = refl
 pub returns-clause-monday : goal.returns-clause-monday
 unfolding from_saturday from_sunday
 returns-clause-monday c = refl
+
+pub returns-clause-saturday_unless_plus : goal.returns-clause-saturday_unless_plus
+unfolding from_saturday from_sunday
+returns-clause-saturday_unless_plus c = refl
+
+pub returns-clause-sunday_plus : goal.returns-clause-sunday_plus
+unfolding from_saturday from_sunday
+returns-clause-sunday_plus c = refl

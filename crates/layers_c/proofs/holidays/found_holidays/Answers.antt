@@ -2,7 +2,7 @@ use Rattle.std.proofs.Common.{subst, List, IfNone, w32}
 use Rattle.std.proofs.lemmas.Int.{to_z-of_z}
 use Rattle.chrono_business.specs.declared.holiday_rule.HolidayRule.{HolidayRule}
 use Rattle.layers_c.specs.Holidays.{AreTooManyFor}
-use Rattle.layers_c.proofs.KnownHolidays.{england, fedwire, france, germany, stock_exchange, target, united_states}
+use Rattle.layers_c.proofs.KnownHolidays.{england, fedwire, france, germany, japan, stock_exchange, target, united_states}
 use Rattle.layers_c.proofs.holidays.found_holidays.Goals as goal
 
 pub returns-in-0-clause-none : goal.returns-in-0-clause-none
@@ -39,3 +39,8 @@ pub returns-in-6-clause-none : goal.returns-in-6-clause-none
 returns-in-6-clause-none c = λ rules numbered.
     subst (λ (rs : List HolidayRule). IfNone c.holidays_of-in-6.result (AreTooManyFor c.args.most rs c.args.first_year c.args.last_year c.args.weekend)) (france c.args.which rules c.in-6.is numbered)
     (rw (to_z-of_z w32 c.args.first_year c.ranges.first_year, to_z-of_z w32 c.args.last_year c.ranges.last_year, c.france.ensures.rules, c.requires) at c.holidays_of-in-6.ensures.none)
+
+pub returns-in-7-clause-none : goal.returns-in-7-clause-none
+returns-in-7-clause-none c = λ rules numbered.
+    subst (λ (rs : List HolidayRule). IfNone c.holidays_of-in-7.result (AreTooManyFor c.args.most rs c.args.first_year c.args.last_year c.args.weekend)) (japan c.args.which rules c.in-7.is numbered)
+    (rw (to_z-of_z w32 c.args.first_year c.ranges.first_year, to_z-of_z w32 c.args.last_year c.ranges.last_year, c.japan.ensures.rules, c.requires) at c.holidays_of-in-7.ensures.none)
