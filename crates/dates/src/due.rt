@@ -160,7 +160,11 @@ fn second_beside(
     let minute = after_seconds(last, -i64::from(time.second()))?
         .checked_sub_signed(TimeDelta::nanoseconds(i64::from(time.nanosecond())))?;
     let before = minute.checked_sub_signed(TimeDelta::nanoseconds(1))?;
-    if fired_beside(zone, &timed.schedule, before, false) == Some(minute) {
+    let is_due = match fired_beside(zone, &timed.schedule, before, false) {
+        Some(due) => due.timestamp() == minute.timestamp(),
+        None => false,
+    };
+    if is_due {
         if let Some(second) = other_second(timed.seconds, time, goes_back) {
             return after_seconds(minute, i64::from(second));
         }
