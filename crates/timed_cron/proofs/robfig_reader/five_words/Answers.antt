@@ -1,4 +1,4 @@
-use Rattle.std.proofs.Common.{length, sym, arith}
+use Rattle.std.proofs.Common.{sym, arith}
 use Rattle.std.proofs.Math.Path.{subst}
 use Rattle.timed_cron.specs.Private.{IsOtherCount}
 use Rattle.timed_cron.proofs.RobfigWords.{other_count}
