@@ -10,7 +10,7 @@ _dates()
     :--format) COMPREPLY=($(compgen -W $'' -- "$word")) ;;
     :--completion) COMPREPLY=($(compgen -W $'bash\nzsh\nfish\n' -- "$word")) ;;
     add:--weekend) COMPREPLY=($(compgen -W $'mon\ntue\nwed\nthu\nfri\nsat\nsun\nnone\n' -- "$word")) ;;
-    add:--calendar) COMPREPLY=($(compgen -W $'us-federal\ntarget\nengland\nfedwire\nnyse\ngermany\nfrance\n' -- "$word")) ;;
+    add:--calendar) COMPREPLY=($(compgen -W $'us-federal\ntarget\nengland\nfedwire\nnyse\ngermany\nfrance\njapan\n' -- "$word")) ;;
     add:--holidays) COMPREPLY+=($(compgen -f -- "$word")); compopt -o filenames 2>/dev/null ;;
     add:--zone) COMPREPLY=($(compgen -W $'' -- "$word")) ;;
     add:--now) COMPREPLY=($(compgen -W $'' -- "$word")) ;;
@@ -21,7 +21,7 @@ _dates()
     add:--separator) COMPREPLY=($(compgen -W $'comma\ntab\nsemicolon\nspace\n' -- "$word")) ;;
     add:*) COMPREPLY=($(compgen -W $'--weekend\n--calendar\n--holidays\n--zone\n--now\n--unix\n--parse\n--order\n--format\n--long\n--within\n--field\n--separator\n--json\n--help\n' -- "$word")) ;;
     diff:--weekend) COMPREPLY=($(compgen -W $'mon\ntue\nwed\nthu\nfri\nsat\nsun\nnone\n' -- "$word")) ;;
-    diff:--calendar) COMPREPLY=($(compgen -W $'us-federal\ntarget\nengland\nfedwire\nnyse\ngermany\nfrance\n' -- "$word")) ;;
+    diff:--calendar) COMPREPLY=($(compgen -W $'us-federal\ntarget\nengland\nfedwire\nnyse\ngermany\nfrance\njapan\n' -- "$word")) ;;
     diff:--holidays) COMPREPLY+=($(compgen -f -- "$word")); compopt -o filenames 2>/dev/null ;;
     diff:--zone) COMPREPLY=($(compgen -W $'' -- "$word")) ;;
     diff:--now) COMPREPLY=($(compgen -W $'' -- "$word")) ;;
@@ -71,14 +71,14 @@ _dates()
     easter:*) COMPREPLY=($(compgen -W $'--format\n--long\n--json\n--help\n' -- "$word")) ;;
     leap:*) COMPREPLY=($(compgen -W $'--json\n--help\n' -- "$word")) ;;
     open:--weekend) COMPREPLY=($(compgen -W $'mon\ntue\nwed\nthu\nfri\nsat\nsun\nnone\n' -- "$word")) ;;
-    open:--calendar) COMPREPLY=($(compgen -W $'us-federal\ntarget\nengland\nfedwire\nnyse\ngermany\nfrance\n' -- "$word")) ;;
+    open:--calendar) COMPREPLY=($(compgen -W $'us-federal\ntarget\nengland\nfedwire\nnyse\ngermany\nfrance\njapan\n' -- "$word")) ;;
     open:--holidays) COMPREPLY+=($(compgen -f -- "$word")); compopt -o filenames 2>/dev/null ;;
     open:--now) COMPREPLY=($(compgen -W $'' -- "$word")) ;;
     open:--parse) COMPREPLY=($(compgen -W $'' -- "$word")) ;;
     open:--order) COMPREPLY=($(compgen -W $'dmy\nmdy\n' -- "$word")) ;;
     open:*) COMPREPLY=($(compgen -W $'--weekend\n--calendar\n--holidays\n--now\n--parse\n--order\n--json\n--help\n' -- "$word")) ;;
     roll:--weekend) COMPREPLY=($(compgen -W $'mon\ntue\nwed\nthu\nfri\nsat\nsun\nnone\n' -- "$word")) ;;
-    roll:--calendar) COMPREPLY=($(compgen -W $'us-federal\ntarget\nengland\nfedwire\nnyse\ngermany\nfrance\n' -- "$word")) ;;
+    roll:--calendar) COMPREPLY=($(compgen -W $'us-federal\ntarget\nengland\nfedwire\nnyse\ngermany\nfrance\njapan\n' -- "$word")) ;;
     roll:--holidays) COMPREPLY+=($(compgen -f -- "$word")); compopt -o filenames 2>/dev/null ;;
     roll:--now) COMPREPLY=($(compgen -W $'' -- "$word")) ;;
     roll:--parse) COMPREPLY=($(compgen -W $'' -- "$word")) ;;
@@ -146,7 +146,7 @@ _dates()
     cal:--first) COMPREPLY=($(compgen -W $'mon\ntue\nwed\nthu\nfri\nsat\nsun\n' -- "$word")) ;;
     cal:--now) COMPREPLY=($(compgen -W $'' -- "$word")) ;;
     cal:--weekend) COMPREPLY=($(compgen -W $'mon\ntue\nwed\nthu\nfri\nsat\nsun\nnone\n' -- "$word")) ;;
-    cal:--calendar) COMPREPLY=($(compgen -W $'us-federal\ntarget\nengland\nfedwire\nnyse\ngermany\nfrance\n' -- "$word")) ;;
+    cal:--calendar) COMPREPLY=($(compgen -W $'us-federal\ntarget\nengland\nfedwire\nnyse\ngermany\nfrance\njapan\n' -- "$word")) ;;
     cal:--holidays) COMPREPLY+=($(compgen -f -- "$word")); compopt -o filenames 2>/dev/null ;;
     cal:*) COMPREPLY=($(compgen -W $'--first\n--now\n--weekend\n--calendar\n--holidays\n--json\n--help\n' -- "$word")) ;;
     now:--zone) COMPREPLY=($(compgen -W $'' -- "$word")) ;;

@@ -1,6 +1,6 @@
 complete -c dates -n __fish_use_subcommand -a add -d 'move a day or a date-time by each span in turn'
 complete -c dates -n '__fish_seen_subcommand_from add' -l weekend -r -a 'mon tue wed thu fri sat sun none '
-complete -c dates -n '__fish_seen_subcommand_from add' -l calendar -r -a 'us-federal target england fedwire nyse germany france '
+complete -c dates -n '__fish_seen_subcommand_from add' -l calendar -r -a 'us-federal target england fedwire nyse germany france japan '
 complete -c dates -n '__fish_seen_subcommand_from add' -l holidays -r -a ''
 complete -c dates -n '__fish_seen_subcommand_from add' -l zone -r -a ''
 complete -c dates -n '__fish_seen_subcommand_from add' -l now -r -a ''
@@ -16,7 +16,7 @@ complete -c dates -n '__fish_seen_subcommand_from add' -l json
 complete -c dates -n '__fish_seen_subcommand_from add' -l help
 complete -c dates -n __fish_use_subcommand -a diff -d 'print the days or whole units between two days'
 complete -c dates -n '__fish_seen_subcommand_from diff' -l weekend -r -a 'mon tue wed thu fri sat sun none '
-complete -c dates -n '__fish_seen_subcommand_from diff' -l calendar -r -a 'us-federal target england fedwire nyse germany france '
+complete -c dates -n '__fish_seen_subcommand_from diff' -l calendar -r -a 'us-federal target england fedwire nyse germany france japan '
 complete -c dates -n '__fish_seen_subcommand_from diff' -l holidays -r -a ''
 complete -c dates -n '__fish_seen_subcommand_from diff' -l zone -r -a ''
 complete -c dates -n '__fish_seen_subcommand_from diff' -l now -r -a ''
@@ -94,7 +94,7 @@ complete -c dates -n '__fish_seen_subcommand_from leap' -l json
 complete -c dates -n '__fish_seen_subcommand_from leap' -l help
 complete -c dates -n __fish_use_subcommand -a open -d 'print whether a day is open'
 complete -c dates -n '__fish_seen_subcommand_from open' -l weekend -r -a 'mon tue wed thu fri sat sun none '
-complete -c dates -n '__fish_seen_subcommand_from open' -l calendar -r -a 'us-federal target england fedwire nyse germany france '
+complete -c dates -n '__fish_seen_subcommand_from open' -l calendar -r -a 'us-federal target england fedwire nyse germany france japan '
 complete -c dates -n '__fish_seen_subcommand_from open' -l holidays -r -a ''
 complete -c dates -n '__fish_seen_subcommand_from open' -l now -r -a ''
 complete -c dates -n '__fish_seen_subcommand_from open' -l parse -r -a ''
@@ -103,7 +103,7 @@ complete -c dates -n '__fish_seen_subcommand_from open' -l json
 complete -c dates -n '__fish_seen_subcommand_from open' -l help
 complete -c dates -n __fish_use_subcommand -a roll -d 'print where a closed day goes'
 complete -c dates -n '__fish_seen_subcommand_from roll' -l weekend -r -a 'mon tue wed thu fri sat sun none '
-complete -c dates -n '__fish_seen_subcommand_from roll' -l calendar -r -a 'us-federal target england fedwire nyse germany france '
+complete -c dates -n '__fish_seen_subcommand_from roll' -l calendar -r -a 'us-federal target england fedwire nyse germany france japan '
 complete -c dates -n '__fish_seen_subcommand_from roll' -l holidays -r -a ''
 complete -c dates -n '__fish_seen_subcommand_from roll' -l now -r -a ''
 complete -c dates -n '__fish_seen_subcommand_from roll' -l parse -r -a ''
@@ -198,7 +198,7 @@ complete -c dates -n __fish_use_subcommand -a cal -d 'print a month or a year as
 complete -c dates -n '__fish_seen_subcommand_from cal' -l first -r -a 'mon tue wed thu fri sat sun '
 complete -c dates -n '__fish_seen_subcommand_from cal' -l now -r -a ''
 complete -c dates -n '__fish_seen_subcommand_from cal' -l weekend -r -a 'mon tue wed thu fri sat sun none '
-complete -c dates -n '__fish_seen_subcommand_from cal' -l calendar -r -a 'us-federal target england fedwire nyse germany france '
+complete -c dates -n '__fish_seen_subcommand_from cal' -l calendar -r -a 'us-federal target england fedwire nyse germany france japan '
 complete -c dates -n '__fish_seen_subcommand_from cal' -l holidays -r -a ''
 complete -c dates -n '__fish_seen_subcommand_from cal' -l json
 complete -c dates -n '__fish_seen_subcommand_from cal' -l help

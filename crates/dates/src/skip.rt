@@ -174,12 +174,10 @@ fn landed(rule: &Rule, first: NaiveDate, place: u32, skip: Skip) -> Option<Naive
     if let Some(day) = first.with_day(place) {
         return if rule.on_month_day(day) { Some(day) } else { None };
     }
-    if !rule.month_days.contains(place) {
-        return None;
-    }
+    let is_named = place < 32 && rule.month_days.contains(place);
     match skip {
-        Skip::Omit => None,
-        Skip::Backward => Some(first.last_day_of_month()),
-        Skip::Forward => first.last_day_of_month().succ_opt(),
+        Skip::Backward if is_named => Some(first.last_day_of_month()),
+        Skip::Forward if is_named => first.last_day_of_month().succ_opt(),
+        _ => None,
     }
 }
