@@ -35,7 +35,7 @@ pub(crate) fn command() -> &'static CommandRow {
             FREQ=MONTHLY;BYMONTHDAY=15,-1;UNTIL=20240301   15th and last days, to 1 March\n\
             FREQ=MONTHLY;BYDAY=3FR                         third Fridays\n\
             FREQ=MONTHLY;BYDAY=MO,TU,WE,TH,FR;BYSETPOS=-1  months' last workdays, Mon-Fri\n\
-            FREQ=MONTHLY;BYMONTHDAY=31;SKIP=BACKWARD       the 31st, or else the last (RFC 7529)\n\
+            FREQ=MONTHLY;BYMONTHDAY=31;SKIP=BACKWARD       the 31st, or the last day\n\
             From a date-time on it recurs at that time, also by BYHOUR or HOURLY. --zone has\n\
             it go by the zone's clock, and a time that the clock skips goes by the offset\n\
             before. An --exdate that is a day leaves out all of it.",
