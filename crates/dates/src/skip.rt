@@ -82,13 +82,16 @@ impl DaysWanted {
 
     // Prints what is added before an instance, and passes over what is that day; all that is added where no instance follows.
     fn print_added(&mut self, asked: &mut Asked<'_>, due: Option<NaiveDate>) {
-        while let Some(day) = self.added.as_slice().get(self.passed).copied() {
+        for place in self.passed..self.added.len() {
+            let Some(day) = self.added.get(place).copied() else {
+                break;
+            };
             let is_that_day = match due {
                 Some(due) if due < day => break,
                 Some(due) => due == day,
                 None => false,
             };
-            self.passed = self.passed.saturating_add(1);
+            self.passed = place.saturating_add(1);
             if !is_that_day {
                 self.print(asked, day);
             }
