@@ -259,7 +259,7 @@ static void known_holidays(void)
     int32_t first = any() % 8 ? 1960 + (int32_t)(any() % 100) : (int32_t)any() / 4, last = first + (int32_t)(any() % 20) - 1;
     uint8_t weekend = any() % 2 ? 96 : (uint8_t)any();
     calendar_fault fault = {0, 0, 0, 0};
-    int32_t found = calendar_holidays_of((uint32_t)(any() % 8), first, last, weekend, days, room);
+    int32_t found = calendar_holidays_of((uint32_t)(any() % 9), first, last, weekend, days, room);
     HOLDS(found == CALENDAR_NONE || (found >= 0 && (size_t)found <= room && calendar_holidays_check(weekend, days, (size_t)found, &fault)));
     HOLDS(fault.code == 0);
     int32_t year = any() % 2 ? first : (int32_t)any(), easter = calendar_easter(year);
