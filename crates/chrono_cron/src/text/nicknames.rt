@@ -9,8 +9,8 @@ use chrono_text::same_but_for_case;
 /// The nicknames are those of [`read_schedule`](crate::read_schedule), in letters of either case. No blank stands before or behind them.
 ///
 /// ```
-/// *nickname_meaning(b"@Daily") == *b"0 0 * * *" // true
-/// *nickname_meaning(b"@day") == *b"@day" // true
+/// nickname_meaning(b"@Daily") == b"0 0 * * *".as_slice() // true
+/// nickname_meaning(b"@day") == b"@day".as_slice() // true
 /// ```
 #[tactic(auto, unfolding(crate::specs::ScheduleTexts::nickname_meaning))]
 pub fn nickname_meaning(word: &[u8]) -> &[u8]
