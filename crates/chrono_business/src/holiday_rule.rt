@@ -12,9 +12,10 @@ ghost use Rattle.chrono_business.specs.HolidayRules.{holiday_named, date_of_east
 use crate::computus::easter;
 use chrono_datetime::{Datelike, Month, NaiveDate, Weekday};
 
-// The first and the last year for which the formula of the equinoxes is made.
+// The first year for which the formula of the equinoxes is made.
 const FIRST_EQUINOX: i32 = 1980;
 
+// The last one.
 const LAST_EQUINOX: i32 = 2099;
 
 /// A day that every year has, or some years.
@@ -198,7 +199,7 @@ fn easter_plus(year: i32, days: i32) -> Option<NaiveDate>
     easter(year)?.moved_by_days(i64::from(days))
 }
 
-// The date of an equinox in Japan, which in 1980 comes at `first` in this month, in millionths of a day.
+// The date of an equinox in Japan. In 1980 it comes at `first` in this month, in millionths of a day.
 fn equinox(year: i32, month: u32, first: u32) -> Option<NaiveDate>
     requires from { 20_000_000 ≤ first }
     requires to { first ≤ 24_000_000 }

@@ -306,9 +306,9 @@ pub fn france() -> [HolidayRule; 11]
 /// Returns the rules of the days on which banks in Japan are closed, from 2007 on, besides Saturdays and Sundays.
 ///
 /// They are the national holidays, 31 December, and 2 and 3 January.
-/// The sources are the Act on National Holidays (No. 178 of 1948, as amended by No. 43 of 2005) and, for the last three
-/// days, the Order for Enforcement of the Banking Act, article 5.
-/// A holiday on a Sunday is kept on the next day that is none (Act on National Holidays, article 3(2)).
+/// The source of the former is the Act on National Holidays (No. 178 of 1948, as amended by No. 43 of 2005).
+/// That of the last three days is the Order for Enforcement of the Banking Act, article 5.
+/// A holiday on a Sunday is kept on the next day that is none (article 3(2) of the Act).
 /// A day between two holidays is one too (article 3(3)).
 ///
 /// ```
@@ -316,7 +316,7 @@ pub fn france() -> [HolidayRule; 11]
 /// japan()[20].date_in(2026) // Some(2026-09-23)
 /// ```
 ///
-/// So Constitution Memorial Day, on a Sunday, is kept behind the two holidays after it.
+/// So Constitution Memorial Day of 2026, a Sunday, is kept behind the two holidays after it.
 /// The Cabinet announces the days of the equinoxes a year ahead. Those of the rules are computed, up to 2099.
 /// From 2100 on the rules have no equinoxes, and no days between holidays.
 #[tactic(auto, unfolding(crate::specs::PublicHolidays::japan_rules))]
