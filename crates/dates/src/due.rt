@@ -157,8 +157,9 @@ fn second_beside(
     goes_back: bool,
 ) -> Option<DateTime<FixedOffset>> {
     let time = shown_in(zone, Some(last))?.naive_local().time();
-    let minute = after_seconds(last, -i64::from(time.second()))?
-        .checked_sub_signed(TimeDelta::nanoseconds(i64::from(time.nanosecond())))?;
+    let minute = after_seconds(last, -i64::from(time.second()))?.checked_sub_signed(
+        TimeDelta::nanoseconds(i64::from(time.nanosecond())),
+    )?;
     let before = minute.checked_sub_signed(TimeDelta::nanoseconds(1))?;
     let is_due = match fired_beside(zone, &timed.schedule, before, false) {
         Some(due) => due.timestamp() == minute.timestamp(),

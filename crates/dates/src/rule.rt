@@ -135,7 +135,10 @@ impl Asked<'_> {
             Ok(rule) if matches!(skip, Skip::Omit) || goes_with_skip(&rule) => {
                 return Some((rule, skip));
             }
-            Ok(_) => self.wrong(word, "SKIP goes with days of months alone, as BYMONTHDAY=31"),
+            Ok(_) => self.wrong(
+                word,
+                "SKIP goes with days of months alone, as BYMONTHDAY=31",
+            ),
             Err(error) => {
                 self.wrong_by(word, &error, "; expected a rule as FREQ=MONTHLY;BYDAY=-1FR");
             }

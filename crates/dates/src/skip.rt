@@ -134,8 +134,9 @@ pub(crate) fn print_skipping(
 // Whether SKIP has a meaning for a rule: its days are those of months alone.
 pub(crate) fn goes_with_skip(rule: &Rule) -> bool {
     let is_by_months = matches!(rule.frequency, Frequency::Monthly | Frequency::Yearly);
-    let is_by_weeks =
-        !rule.weekdays.is_empty() || !rule.weeks.is_empty() || !rule.weeks_from_end.is_empty();
+    let is_by_weeks = !rule.weekdays.is_empty()
+        || !rule.weeks.is_empty()
+        || !rule.weeks_from_end.is_empty();
     let is_by_year_days = !rule.year_days.is_empty() || !rule.year_days_from_end.is_empty();
     let is_by_places = !rule.positions.is_empty() || !rule.positions_from_end.is_empty();
     is_by_months && !is_by_weeks && !is_by_year_days && !is_by_places
@@ -175,7 +176,11 @@ fn first_period(rule: &Rule, start: NaiveDate) -> NaiveDate {
 // The day at a place of a month, if the rule names it; where SKIP puts it, if the month lacks it.
 fn landed(rule: &Rule, first: NaiveDate, place: u32, skip: Skip) -> Option<NaiveDate> {
     if let Some(day) = first.with_day(place) {
-        return if rule.on_month_day(day) { Some(day) } else { None };
+        return if rule.on_month_day(day) {
+            Some(day)
+        } else {
+            None
+        };
     }
     let is_named = place < 32 && rule.month_days.contains(place);
     match skip {

@@ -15,8 +15,8 @@ use crate::faults::CalendarFault;
 use crate::holiday_words::holiday_line;
 use crate::open_days::{MOST, dates_of};
 use chrono_business::{
-    Calendar, HolidayError, easter, england_and_wales, fedwire, france, germany, holidays_of, japan,
-    nyse, target, us_federal,
+    Calendar, HolidayError, easter, england_and_wales, fedwire, france, germany, holidays_of,
+    japan, nyse, target, us_federal,
 };
 use chrono_datetime::{Datelike, MAX_YEAR, MIN_YEAR, NaiveDate, WeekdaySet};
 use numbers_c::{NONE, date_of, number_or_none, set_of, write_over};
