@@ -142,7 +142,8 @@ _dates()
     rule:--order) COMPREPLY=($(compgen -W $'dmy\nmdy\n' -- "$word")) ;;
     rule:--format) COMPREPLY=($(compgen -W $'' -- "$word")) ;;
     rule:*) COMPREPLY=($(compgen -W $'--start\n--from\n--count\n--exdate\n--rdate\n--zone\n--now\n--parse\n--order\n--format\n--long\n--json\n--help\n' -- "$word")) ;;
-    explain:*) COMPREPLY=($(compgen -W $'--json\n--help\n' -- "$word")) ;;
+    explain:--dialect) COMPREPLY=($(compgen -W $'crontab\ncronie\nseconds\nquartz\nrobfig\n' -- "$word")) ;;
+    explain:*) COMPREPLY=($(compgen -W $'--dialect\n--json\n--help\n' -- "$word")) ;;
     cal:--first) COMPREPLY=($(compgen -W $'mon\ntue\nwed\nthu\nfri\nsat\nsun\n' -- "$word")) ;;
     cal:--now) COMPREPLY=($(compgen -W $'' -- "$word")) ;;
     cal:--weekend) COMPREPLY=($(compgen -W $'mon\ntue\nwed\nthu\nfri\nsat\nsun\nnone\n' -- "$word")) ;;

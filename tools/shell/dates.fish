@@ -192,6 +192,7 @@ complete -c dates -n '__fish_seen_subcommand_from rule' -l long
 complete -c dates -n '__fish_seen_subcommand_from rule' -l json
 complete -c dates -n '__fish_seen_subcommand_from rule' -l help
 complete -c dates -n __fish_use_subcommand -a explain -d 'tell a schedule or a rule in plain English'
+complete -c dates -n '__fish_seen_subcommand_from explain' -l dialect -r -a 'crontab cronie seconds quartz robfig '
 complete -c dates -n '__fish_seen_subcommand_from explain' -l json
 complete -c dates -n '__fish_seen_subcommand_from explain' -l help
 complete -c dates -n __fish_use_subcommand -a cal -d 'print a month or a year as a sheet'
