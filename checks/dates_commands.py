@@ -856,6 +856,9 @@ def of_skipping(chance, _):
     interval, skip = chance.choice((1, 1, 1, 2, 3, 5)), chance.choice(("OMIT", "BACKWARD", "FORWARD"))
     listed = sorted({chance.choice((1, 15, 28, 29, 30, 31, 31, 31)) for _ in range(chance.choice((0, 1, 1, 2)))})
     in_year = sorted({chance.randint(1, 12) for _ in range(chance.choice((0, 0, 1, 3)))})
+    if start.month > 1 and chance.random() < 0.2:
+        # (the month before the start puts a day on it, if it lies in the rule's first period)
+        start, skip, listed, in_year = start.replace(day=1), "FORWARD", [*listed, 31][-2:], sorted({*in_year, start.month - 1})
     parts = ["FREQ=YEARLY" if yearly else "FREQ=MONTHLY", f"SKIP={skip}", *(["RSCALE=GREGORIAN"] if chance.random() < 0.3 else [])]
     parts += [f"{name}={','.join(map(str, values))}" for name, values in (("BYMONTHDAY", listed), ("BYMONTH", in_year)) if values]
     in_year = in_year or ([start.month] if yearly and not listed else range(1, 13))
