@@ -31,8 +31,13 @@ LENGTH, LEAST = 10_000_000, 9_000
 # What is answered where such a line stands between two days, and the status.
 OF_LONG_LINES = [("-", ["2024-02-28 2024-059 2024-W09-3 Wed 738944 19781", "none", "2024-02-29 2024-060 2024-W09-4 Thu 738945 19782"], 1),
                  ("add 1d", ["2024-02-29", "none", "2024-03-01"], 1), ("check", ["2: has 65536 bytes or more"], 1),
-                 ("add 1d --within", ["2024-02-29", "dates: line 2 has 65536 bytes or more"], 2), ("sort", ["dates: line 2 has 65536 bytes or more"], 2),
                  ("open 2024-02-29 --holidays /dev/stdin", ["dates: argument 4, /dev/stdin, line 2: has 65536 bytes or more; expected a day as 2024-02-29"], 2)]
+
+# What is printed, up to ten bytes of a line, where lines are printed again: the long line is whole, and one that is longer than `MORE` is refused.
+MORE = 16_777_216
+OF_WHOLE_LINES = [("add 1d --within < long", ["2024-02-29", "x" * 10, "2024-03-01"], 0), ("sort --reverse long", ["2024-02-29", "2024-02-28", "x" * 10], 1),
+                  ("grep --from 2024-02-29 --not long", ["2024-02-28", "x" * 10], 0), ("grep --on thu longer", [f"dates: line 2 has {MORE} bytes or more"], 2),
+                  ("add 1d --field 1 < longer", ["2024-02-29", f"dates: line 2 has {MORE} bytes or more"], 2)]
 
 # What is asked where no answer can be written.
 UNWRITTEN = ["2024-02-29", "2024-02-29 --json", "add 2024-02-29 1d", "add 2024-02-29T12:00 1h", "diff 2024-02-29 2024-03-07", "diff 10:30 12:15 in h,min", "round 10:07 15min", "diff 2024-01-31 2025-03-01 in ymd",
@@ -166,6 +171,9 @@ def main():
             pass
         with open(os.path.join(place, "long"), "wb") as out:
             out.write(b"2024-02-28\n" + b"x" * LENGTH + b"\n2024-02-29\n")
+        with open(os.path.join(place, "longer"), "wb") as out:
+            out.write(b"2024-02-28\n" + b"x" * MORE + b"\n2024-02-29\n")
+        cases += [[f"set -o pipefail; dates {words} | cut -c -10", lines, status] for words, lines, status in OF_WHOLE_LINES]
         cases += [[f"ulimit -v {LEAST}; exec dates {words} < long", lines, status] for words, lines, status in OF_LONG_LINES]
         cases += [[f"dates {words} > /dev/full", [UNWRITTEN_FAULT], 2] for words in UNWRITTEN]
         for words, completed in COMPLETED:

@@ -168,8 +168,13 @@ def day_word(chance, date):
 # ---- closed days
 
 HOLIDAYS = {"us-federal": "us_federal", "target": "target", "england": "england", "japan": "japan"}
+FIRST_YEARS = {name: business.GIVEN[key][1] for name, key in HOLIDAYS.items()}
 HOLIDAYS = {name: [day for year in range(max(1999, business.GIVEN[key][1]), 2060) for day in business.GIVEN[key][0](year)] for name, key in HOLIDAYS.items()}
 WEEKENDS = ("sat,sun", "fri,sat", "thu,fri", "sun", "fri", "sat", "none")
+
+
+class Unknown(Exception):
+    """A day lies before the first year of a calendar."""
 
 
 class Closed:
@@ -185,27 +190,34 @@ class Closed:
         closed = {it for it in SHORT if it in (weekend or "sat,sun").split(",")}
         holidays = [*files.get(file, ()), *HOLIDAYS.get(calendar, ())]
         self.days = numpy.busdaycalendar([it not in closed for it in SHORT], holidays)
+        self.first = FIRST_YEARS.get(calendar, 0)
+
+    def known(self, date):
+        """The day, whose holidays have to be known."""
+        if date.year < self.first:
+            raise Unknown
+        return date
 
     def on(self, date, count):
         """So many open days on, or back: from a closed day the next open day counts as the first, which is numpy's other way."""
         roll = "backward" if count > 0 else "forward"
-        return numpy.busday_offset(date, count, roll, busdaycal=self.days).astype(Date)
+        return self.known(numpy.busday_offset(self.known(date), count, roll, busdaycal=self.days).astype(Date))
 
     def between(self, start, end):
         low, high = sorted((start, end))
-        count = int(numpy.busday_count(low, high, busdaycal=self.days))
+        count = int(numpy.busday_count(self.known(low), high, busdaycal=self.days))
         return count if start <= end else -count
 
     def is_open(self, date):
-        return bool(numpy.is_busday(date, busdaycal=self.days))
+        return bool(numpy.is_busday(self.known(date), busdaycal=self.days))
 
     def rolled(self, date, name):
         if name == "unadjusted":
-            return date
+            return self.known(date)
         if name == "nearest":
             after, before = self.rolled(date, "following"), self.rolled(date, "preceding")
             return after if after - date <= date - before else before
-        return numpy.busday_offset(date, 0, name.replace("-", ""), busdaycal=self.days).astype(Date)
+        return self.known(numpy.busday_offset(self.known(date), 0, name.replace("-", ""), busdaycal=self.days).astype(Date))
 
 
 # ---- moves
@@ -573,6 +585,19 @@ def of_seq_of_times(chance, _):
     return Asked(words, [], 0, texts or ["none"], [{"moment": it} for it in texts] or [{"moment": None}], int(not texts))
 
 
+def of_open_seq(chance, files):
+    """A sequence by open days, which begins on the first of them: none of its words is spoiled."""
+    start, closed, count = workday_time(chance), Closed(chance, files), chance.choice((1, 1, 2, 5, -1, -3))
+    first, sign = closed.on(start, 0), 1 if count > 0 else -1
+    end = start + Span(sign * chance.randint(-3, 60))
+    most = chance.choice((None, None, 1, 4))
+    days = [closed.on(first, count * times) for times in range(60)]
+    days = [it for it in days if (end - it) * sign >= Span(0)][:most]
+    words = ["seq", day_word(chance, start), day_word(chance, end), f"{count}b", *closed.words, *(["--count", str(most)] if most else [])]
+    lines, objects = dated(days)
+    return Asked(words, [], 0, lines or ["none"], objects or [{"date": None}], int(not days))
+
+
 def of_week(chance, _):
     first = any_day(chance)
     year, week, day = first.isocalendar()
@@ -848,9 +873,9 @@ def of_rule(chance, _):
     return Asked(words, kinds, len(words), lines or ["none"], objects or [{"date": None}], int(not days))
 
 
-def of_skipping(chance, _):
-    """The instances of a rule with SKIP, which are looked for here day by day: none of the words is spoiled."""
-    start, yearly = any_day(chance, 1900, 2200), chance.random() < 0.5
+def skipping_days(chance, first_year, last_year):
+    """A start, the parts of a rule with SKIP, and its days from the start on, which are looked for day by day."""
+    start, yearly = any_day(chance, first_year, last_year), chance.random() < 0.5
     if chance.random() < 0.4:
         start = start.replace(month=chance.choice((1, 3, 5, 7, 8, 10, 12)), day=chance.randint(29, 31))
     interval, skip = chance.choice((1, 1, 1, 2, 3, 5)), chance.choice(("OMIT", "BACKWARD", "FORWARD"))
@@ -861,6 +886,7 @@ def of_skipping(chance, _):
         start, skip, listed, in_year = start.replace(day=1), "FORWARD", [*listed, 31][-2:], sorted({*in_year, start.month - 1})
     parts = ["FREQ=YEARLY" if yearly else "FREQ=MONTHLY", f"SKIP={skip}", *(["RSCALE=GREGORIAN"] if chance.random() < 0.3 else [])]
     parts += [f"{name}={','.join(map(str, values))}" for name, values in (("BYMONTHDAY", listed), ("BYMONTH", in_year)) if values]
+    parts += [f"INTERVAL={interval}"] if interval > 1 else []
     in_year = in_year or ([start.month] if yearly and not listed else range(1, 13))
     listed = listed or [start.day]
 
@@ -875,13 +901,17 @@ def of_skipping(chance, _):
         return is_put or (recurs(date) and date.day in listed)
 
     found = [it for it in (start + Span(days) for days in range(366 * 30)) if is_due(it)][:40]
-    if not found:
-        return of_skipping(chance, _)
+    return (start, parts, found) if found else skipping_days(chance, first_year, last_year)
+
+
+def of_skipping(chance, _):
+    """The instances of a rule with SKIP: none of the words is spoiled."""
+    start, parts, found = skipping_days(chance, 1900, 2200)
     count, until = chance.randint(1, len(found)), chance.choice(found)
     ends = [[f"COUNT={count}"], [f"UNTIL={until:%Y%m%d}"], []]
     place = chance.randrange(3)
     kept = [found[:count], [it for it in found if it <= until], found[:count]][place]
-    parts += ends[place] + ([f"INTERVAL={interval}"] if interval > 1 else [])
+    parts += ends[place]
     chance.shuffle(parts)
     added = [start + Span(chance.randint(-40, 400)) for _ in range(chance.choice((0, 0, 1, 2)))] if ends[place] else []
     left_out = chance.sample(kept + added, 1) if ends[place] and chance.random() < 0.3 else []
@@ -892,6 +922,41 @@ def of_skipping(chance, _):
     options += [] if ends[place] else [["--count", str(count)]]
     chance.shuffle(options)
     return Asked(["rule", ";".join(parts), *(word for it in options for word in it)], [], 0, lines, [{"date": it} for it in lines])
+
+
+def is_shown_once(local, zone):
+    """Whether the clock of a zone shows a local time once."""
+    return local.replace(tzinfo=zone, fold=0).utcoffset() == local.replace(tzinfo=zone, fold=1).utcoffset()
+
+
+def of_timed_skipping(chance, _):
+    """The instances of a rule with SKIP over date-times, by local time or by the clock of a zone: none of the words is spoiled."""
+    start, parts, days = skipping_days(chance, 1980, 2030)
+    name = chance.choice((None, *ZONES))
+    zone = zoneinfo.ZoneInfo(name or "UTC")
+    begin = DateTime.combine(start, datetime.time(*divmod(chance.randrange(0, 1440, 5), 60)))
+    hours = sorted(chance.sample(range(24), chance.choice((0, 0, 1, 2, 3))))
+    planned = [DateTime.combine(day, datetime.time(hour, begin.minute)) for day in days for hour in hours or [begin.hour]]
+    found = sorted({it.replace(tzinfo=zone).astimezone(datetime.timezone.utc) for it in planned if begin <= it})
+    since = begin + Span(minutes=chance.randint(-9_000, 900_000)) if chance.random() < 0.3 else None
+    if not found or not all(is_shown_once(it, zone) for it in (begin, since or begin)):
+        return of_timed_skipping(chance, _)
+    count, until, left_out = chance.randint(1, len(found)), chance.choice(found), chance.choice(found)
+    ends, kept = chance.choice(((f"COUNT={count}", found[:count]), (f"UNTIL={until:%Y%m%dT%H%M%S}{'Z' if name else ''}", [it for it in found if it <= until])))
+    kept = [it for it in kept if it != left_out and (since is None or since.replace(tzinfo=zone) <= it)]
+    shown = [it.astimezone(zone) for it in kept]
+    if not shown or any(it.utcoffset() % Span(minutes=1) for it in shown):
+        return of_timed_skipping(chance, _)
+    parts += [ends, *([f"BYHOUR={','.join(map(str, hours))}"] if hours else [])]
+    chance.shuffle(parts)
+    out = instant_word(chance, left_out.astimezone(zone), False) if name else moment_word(chance, left_out.replace(tzinfo=None))
+    options = [["--start", moment_word(chance, begin)], ["--exdate", out], *([["--zone", name]] if name else []), *([["--from", moment_word(chance, since)]] if since else [])]
+    chance.shuffle(options)
+    words = ["rule", ";".join(parts), *(word for it in options for word in it)]
+    if name:
+        return Asked(words, [], 0, [f"{instant_text(it, False)} {it.tzname()}" for it in shown], [{"moment": instant_text(it, False), "name": it.tzname()} for it in shown])
+    lines = [moment_text(it.replace(tzinfo=None)) for it in shown]
+    return Asked(words, [], 0, lines, [{"moment": it} for it in lines])
 
 
 def of_timed_rule(chance, _):
@@ -978,6 +1043,11 @@ def in_seconds(chance, start, count, back):
     return (f"{','.join(map(str, seconds))} {text}", moments) if len(moments) == count else None
 
 
+def rule_wanted(text):
+    """What is said to be wanted in place of a text that is no rule over days."""
+    return "such a rule needs a time of day in --start" if re.search("BYHOUR|HOURLY", text) else f"expected {EXPECTED['rule']}"
+
+
 def examples():
     """The rows of crates/rows_rules that ask for a rule's instances, as commands: all of them or as many as the row has, one of them, those behind one, and none."""
     made = []
@@ -985,7 +1055,7 @@ def examples():
         rows = [words for words in map(str.split, rows) if words[0].startswith("3.") and words[3] == "="]
     for _, text, start, _, *days in rows:
         if days == ["none"]:
-            error = re.compile(re.escape(f"dates: argument 2, {text}: ") + r"[^;]+" + re.escape("; expected a rule as FREQ=MONTHLY;BYDAY=-1FR"))
+            error = re.compile(re.escape(f"dates: argument 2, {text}: ") + r"[^;]+" + re.escape(f"; {rule_wanted(text)}"))
             made.append(Asked(["rule", text, "--start", names(int(start))[0]], [], 0, [], [], 2, error))
             continue
         ended, days = days[-1:] == ["end"], [int(it) for it in days if it != "end"]
@@ -1063,7 +1133,7 @@ EXPECTED = {
     "start": "a day as 2024-02-29 or a date-time as 2024-02-29T04:30",
     "move": "a span as 3d, -2w, 1mo, 4y, 5b, 36h, 90min, 15s or PT1.5S",
     "step": "a span as 3d, -2w, 1m or 4y, or of date-times as 36h or 90min",
-    "year": "a year as 2024",
+    "year": "a year as 2024, -0044 or +12024",
     "period": "week, month, quarter or year",
     "in": "in and a unit, as 'in w'",
     "unit": "d, w, m, mo, y, b, ymd, h, min, s, act/act, act/360, act/365, 30/360 or 30e/360",
@@ -1115,7 +1185,7 @@ def with_wrong_word(chance, asked):
     if "option" in kind:
         error = shown + "no such option" + NEAR
     elif kind in ("schedule", "rule"):
-        error = shown + r"[^;]+" + re.escape(f"; expected {EXPECTED[kind]}")
+        error = shown + r"[^;]+" + re.escape(f"; {rule_wanted(bad)}" if kind == "rule" else f"; expected {EXPECTED[kind]}")
     else:
         error = shown + re.escape(f"expected {EXPECTED[kind]}") + NEAR * (kind in ("first", "unit", "period", "convention", "--calendar"))
     return refused(asked, asked.words[:place] + [bad] + asked.words[place + 1 :], re.compile(error))
@@ -1184,7 +1254,7 @@ def asks_of_lines(words):
 
 
 SPOILERS = (with_wrong_word, with_wrong_word, with_words_missing, with_a_word_more, with_no_such_day)
-MAKERS = {of_day: 10, of_lines: 4, of_add: 16, of_diff: 16, of_instant: 8, of_zone: 6, of_zoned_add: 6, of_zoned_due: 6, of_seq: 10, of_seq_of_times: 5, of_week: 4, of_end: 12, of_easter: 4, of_leap: 3, of_open: 8, of_roll: 9, of_units: 8, of_times_alone: 8, of_rounded: 4, of_within: 8, of_grep: 8, of_each: 8, of_check: 5, of_due: 9, of_timed_due: 4, of_rule: 9, of_timed_rule: 6, of_skipping: 5, of_cal: 5}
+MAKERS = {of_day: 10, of_lines: 4, of_add: 16, of_diff: 16, of_instant: 8, of_zone: 6, of_zoned_add: 6, of_zoned_due: 6, of_seq: 10, of_seq_of_times: 5, of_open_seq: 4, of_week: 4, of_end: 12, of_easter: 4, of_leap: 3, of_open: 8, of_roll: 9, of_units: 8, of_times_alone: 8, of_rounded: 4, of_within: 8, of_grep: 8, of_each: 8, of_check: 5, of_due: 9, of_timed_due: 4, of_rule: 9, of_timed_rule: 6, of_skipping: 5, of_timed_skipping: 5, of_cal: 5}
 
 
 def commands(chance, files, count):
@@ -1192,8 +1262,11 @@ def commands(chance, files, count):
     made = []
     while len(made) < count:
         maker = chance.choices(list(MAKERS), list(MAKERS.values()))[0]
-        asked = maker(chance, files)
-        if maker in (of_each, of_units, of_times_alone, of_rounded, of_within, of_grep, of_seq_of_times, of_instant, of_zone, of_zoned_add, of_zoned_due, of_timed_due, of_timed_rule, of_skipping):
+        try:
+            asked = maker(chance, files)
+        except Unknown:
+            continue
+        if maker in (of_each, of_units, of_times_alone, of_rounded, of_within, of_grep, of_seq_of_times, of_open_seq, of_instant, of_zone, of_zoned_add, of_zoned_due, of_timed_due, of_timed_rule, of_skipping, of_timed_skipping):
             made.append(asked)
             continue
         if asked.kinds and chance.random() < 0.2:

@@ -31,11 +31,14 @@ _dates()
     diff:*) COMPREPLY=($(compgen -W $'--weekend\n--calendar\n--holidays\n--zone\n--now\n--unix\n--parse\n--order\n--json\n--help\n' -- "$word")) ;;
     seq:--skip) COMPREPLY=($(compgen -W $'' -- "$word")) ;;
     seq:--count) COMPREPLY=($(compgen -W $'' -- "$word")) ;;
+    seq:--weekend) COMPREPLY=($(compgen -W $'mon\ntue\nwed\nthu\nfri\nsat\nsun\nnone\n' -- "$word")) ;;
+    seq:--calendar) COMPREPLY=($(compgen -W $'us-federal\ntarget\nengland\nfedwire\nnyse\ngermany\nfrance\njapan\n' -- "$word")) ;;
+    seq:--holidays) COMPREPLY+=($(compgen -f -- "$word")); compopt -o filenames 2>/dev/null ;;
     seq:--now) COMPREPLY=($(compgen -W $'' -- "$word")) ;;
     seq:--parse) COMPREPLY=($(compgen -W $'' -- "$word")) ;;
     seq:--order) COMPREPLY=($(compgen -W $'dmy\nmdy\n' -- "$word")) ;;
     seq:--format) COMPREPLY=($(compgen -W $'' -- "$word")) ;;
-    seq:*) COMPREPLY=($(compgen -W $'--skip\n--count\n--now\n--parse\n--order\n--format\n--long\n--json\n--help\n' -- "$word")) ;;
+    seq:*) COMPREPLY=($(compgen -W $'--skip\n--count\n--weekend\n--calendar\n--holidays\n--now\n--parse\n--order\n--format\n--long\n--json\n--help\n' -- "$word")) ;;
     week:--now) COMPREPLY=($(compgen -W $'' -- "$word")) ;;
     week:--parse) COMPREPLY=($(compgen -W $'' -- "$word")) ;;
     week:--order) COMPREPLY=($(compgen -W $'dmy\nmdy\n' -- "$word")) ;;

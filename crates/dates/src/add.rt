@@ -1,5 +1,6 @@
 //! Days and date-times, moved by spans, open days and times.
 
+use crate::day::is_alone;
 use crate::prelude::*;
 use dates_answer::moved;
 
@@ -9,14 +10,15 @@ pub(crate) fn command() -> &'static CommandRow {
         &[WEEKEND, CALENDAR, HOLIDAYS, ZONED, NOW, UNIX, PARSE, ORDER, FORMAT, LONG, WITHIN, FIELD, SEPARATOR, JSON, HELP];
         help: "move a day or a date-time by each span in turn",
         more: "A SPAN is a whole number of days, weeks, months or years, as 3d, -2w, 1mo and\n\
-            4y, or of open days, as 5b. Of a day, 1m is 1mo too. Also 1y2mo, +3days, P1Y2M.\n\
+            4y, or of open days, as 5b. Of a day, 1m is 1mo too. Also 1y2mo, P1Y2M, '3 days'.\n\
             A month or a year leads to the same day of its month, or to its last where that\n\
             is shorter.\n\
             A date-time in place of the day is moved by times too: 36h, 90min, 15s, and\n\
             PT1.5S, seconds alone. It may have an offset, as 2024-02-29T04:30+01:00.\n\
             From a closed day the next open day counts as the first: from a Saturday 1b\n\
             leads to Monday, as 0b does, and -1b to Friday.\n\
-            With - in place of the day, or none, it moves each line of standard input.",
+            With - in place of the day, or none, it moves each line of standard input, or\n\
+            today or now where nothing is piped in.",
         example: "$ dates add 2024-01-31 1m\n2024-02-29"
     )
 }
@@ -53,6 +55,9 @@ pub(crate) fn answer(asked: &mut Asked<'_>) {
         holidays: asked.holidays(),
     };
     add.take_moves(asked, if is_moved { 1 } else { 0 }, &start);
+    if !is_moved && is_alone(asked.rt) {
+        start = asked.start_by_clock(add.is_timed);
+    }
     match start {
         Some(start) => add.answer_start(asked, start),
         None => {
@@ -85,6 +90,9 @@ impl<'a> Add<'a> {
     // Takes the moves that a word writes.
     fn take_word(&mut self, asked: &mut Asked<'_>, word: Word<'a>, start: &Option<Start>) {
         let mut place: usize = 0;
+        if word.text.is_empty() {
+            return asked.wrong(word, SPAN_EXPECTED);
+        }
         for _ in word.text.as_bytes() {
             let Some((by, next)) = move_at(word.text.as_bytes(), place) else {
                 return asked.wrong(word, SPAN_EXPECTED);
@@ -97,11 +105,22 @@ impl<'a> Add<'a> {
                 Move::ShortMonths(_) if self.short.is_none() => self.short = Some(word),
                 _ => self.is_dated = true,
             }
-            asked.done(self.put(word, by));
+            asked.done(self.put_next(word, by, place > 0));
             place = next;
             if place >= word.text.len() {
                 break;
             }
+        }
+    }
+
+    // Puts a move of a word behind the others, or together with the move of the word in front of it.
+    fn put_next(&mut self, word: Word<'a>, by: Move, is_behind: bool) -> io::Result<()> {
+        match joined(self.moves.as_slice(), by) {
+            Some(both) if is_behind => {
+                self.moves.pop();
+                put_move(&mut self.moves, both)
+            }
+            _ => self.put(word, by),
         }
     }
 
@@ -131,6 +150,15 @@ impl<'a> Add<'a> {
 }
 
 impl Asked<'_> {
+    // What is moved where nothing is: now by times, and else today.
+    fn start_by_clock(&mut self, is_timed: bool) -> Option<Start> {
+        let shown = self.shown()?;
+        if is_timed {
+            return Some(Start::Stamp(shown));
+        }
+        Some(Start::Day(shown.naive_local().date()))
+    }
+
     // Ends since a word writes months where it was meant for minutes.
     fn wrong_months(&mut self, word: Word<'_>) {
         let mut said = self.blame(word);
@@ -140,6 +168,21 @@ impl Asked<'_> {
 }
 
 const SPAN_EXPECTED: &str = "expected a span as 3d, -2w, 1mo, 4y, 5b, 36h, 90min, 15s or PT1.5S";
+
+// The months of years, which are the last move, and of months together: they lead to a day at once.
+fn joined(moves: &[Move], by: Move) -> Option<Move> {
+    match (moves.last().copied()?, by) {
+        (Move::Calendar(years), Move::Calendar(months) | Move::ShortMonths(months)) => {
+            if !matches!((years.unit, months.unit), (Unit::Years, Unit::Months)) {
+                return None;
+            }
+            let count = years.count.checked_mul(12)?.checked_add(months.count)?;
+            let unit = Unit::Months;
+            Some(Move::Calendar(Span { count, unit }))
+        }
+        _ => None,
+    }
+}
 
 // Puts a move behind others.
 fn put_move<A: Allocator>(moves: &mut Vec<Move, A>, by: Move) -> io::Result<()> {
@@ -196,7 +239,7 @@ fn moved_by(
     let date = start.local().date();
     let reached = match by {
         Move::Time(time) => return asked.later(*start, time).ok_or(PAST),
-        Move::OpenDays(count) => open_days_later(asked, date, count, holidays),
+        Move::OpenDays(count) => Some(open_days_later(asked, date, count, holidays)?),
         Move::Calendar(span) | Move::ShortMonths(span) => moved(date, span),
     };
     match reached {
@@ -205,19 +248,24 @@ fn moved_by(
     }
 }
 
-// The day so many open days from another.
-fn open_days_later(
+// The day so many open days from another, or why there is none.
+pub(crate) fn open_days_later(
     asked: &mut Asked<'_>,
     date: NaiveDate,
     count: i64,
     holidays: &mut Holidays,
-) -> Option<NaiveDate> {
+) -> Result<NaiveDate, &'static str> {
     let years = years_of_open_days(date, count, holidays.listed.len());
-    match holidays.calendar(years) {
+    let reached = match holidays.calendar(years) {
         Ok(calendar) => calendar.add_open_days(date, count),
         Err(error) => {
             asked.fail(error);
             None
         }
+    };
+    match reached {
+        Some(day) if !holidays.knows(day.min(date)) => Err(UNKNOWN),
+        Some(day) => Ok(day),
+        None => Err(PAST),
     }
 }

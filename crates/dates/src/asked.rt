@@ -32,6 +32,8 @@ pub(crate) struct Asked<'a> {
     pub zone: Option<OwnedZone>,
     /// Which parts of a line are days.
     pub within: Within,
+    /// How lines are read.
+    pub records: Records,
     /// The answers to a part of a line, which are not printed yet.
     pub held: Option<Buffer>,
     /// What is printed where there is no answer.
@@ -60,6 +62,10 @@ impl<'a> Asked<'a> {
             reading: Reading::plain(),
             zone: None,
             within: Within::Line,
+            records: Records {
+                most: MOST_BYTES,
+                separator: None,
+            },
             held: None,
             none: Reply::Nothing(Key::Date),
             line: 0,
@@ -146,7 +152,12 @@ impl<'a> Asked<'a> {
         let Some(pattern) = &self.format else {
             return Ok(None);
         };
-        match delayed(pattern, start) {
+        let delayed = if self.words.has(LONG.name) {
+            delayed_long(start)
+        } else {
+            delayed(pattern, start)
+        };
+        match delayed {
             Some(delayed) => Ok(Some(delayed.to_string(self.rt.alloc())?)),
             None => Ok(None),
         }

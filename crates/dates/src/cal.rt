@@ -33,8 +33,11 @@ pub(crate) fn command() -> &'static CommandRow {
 // The month or the year as sheets with closed days marked; `none` where the calendar has no such year.
 pub(crate) fn answer(asked: &mut Asked<'_>) {
     let time = asked.time();
-    let start = asked.weekday(asked.option("--first"));
+    let start = asked.weekday(asked.option("--first"), "expected a weekday as mon");
     let mut holidays = asked.holidays();
+    if !asked.is_over && !holidays.knows(time.first) {
+        return asked.print_nowhere(&Start::Day(time.first), "", UNKNOWN);
+    }
     if !asked.is_over {
         let printed = print_time(asked.rt, asked.form, time, start, &mut holidays);
         asked.done(printed);

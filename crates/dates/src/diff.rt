@@ -1,6 +1,7 @@
 //! How far it is from one day to another.
 
 use crate::apart::are_units;
+use crate::day::is_alone;
 use crate::prelude::*;
 use chrono_business::{
     Fraction, actual_360, actual_365_fixed, actual_actual_isda, thirty_360, thirty_e_360,
@@ -46,13 +47,13 @@ pub(crate) fn command() -> &'static CommandRow {
             act/act, act/360, act/365, 30/360 and 30e/360 are day counts (ISDA 2006, 4.16).\n\
             It goes back where the second day is the earlier.\n\
             The unit ymd writes spans by which add leads from the first day to the second.\n\
-            The unit b counts the first day, where it is open, and not the second; it alone\n\
+            The unit b counts the earlier day, where it is open, and not the later; it alone\n\
             takes the options of open days.\n\
             Of two date-times in place of the days it is the time from one to the other, as\n\
             PT5400S. Both have an offset as +01:00, or none has. Of two times of day as\n\
             10:30 it is that too.\n\
             With - in place of a day, or no second day, each line of standard input is\n\
-            taken for it.",
+            taken for it, or today where nothing is piped in.",
         example: "$ dates diff 2024-02-29 2024-12-24 in w\n42"
     )
 }
@@ -164,18 +165,19 @@ fn place_of_in(words: &Arguments<'_>) -> usize {
     place
 }
 
-// The names in full of the first measures.
-const IN_FULL: &[&str] = &[
-    "days", "weeks", "month", "months", "years", "b", "ymd", "hours", "minutes", "seconds",
-];
-
-// The measure of that name.
+// The measure of that name, which may be in full.
 pub(crate) fn measure_named(name: &str) -> Option<Measure> {
-    let place = place_of(name, IN_FULL);
-    if place < IN_FULL.len() {
-        return MEASURES.get(place).copied();
-    }
-    MEASURES.get(place_of(name, UNITS)).copied()
+    let short = match name {
+        "day" | "days" => "d",
+        "week" | "weeks" => "w",
+        "month" | "months" => "mo",
+        "year" | "years" => "y",
+        "hour" | "hours" => "h",
+        "minute" | "minutes" => "min",
+        "second" | "seconds" => "s",
+        _ => name,
+    };
+    MEASURES.get(place_of(short, UNITS)).copied()
 }
 
 impl Asked<'_> {
@@ -220,6 +222,8 @@ impl Asked<'_> {
                 let mut to = None;
                 if in_at == 2 && second.text != "-" {
                     to = Some(like(self, &from, second));
+                } else if in_at == 1 && from.is_day() && is_alone(self.rt) {
+                    to = Some(Start::Day(self.day_shown()));
                 }
                 return (Some(from), to);
             }
@@ -304,6 +308,9 @@ impl Diff {
             Measure::Whole(unit) => Reply::Number(key_of(unit), distance(first, last, unit)),
             Measure::Parts => Reply::Parts(parts_between(first, last)),
             Measure::Years(basis) => return asked.print_fraction(basis.fraction(first, last)),
+            Measure::OpenDays if !self.holidays.knows(first.min(last)) => {
+                return asked.print_nowhere(&Start::Day(first.min(last)), "", UNKNOWN);
+            }
             Measure::OpenDays => match self.holidays.calendar(years_of(first, last)) {
                 Ok(calendar) => Reply::Number(Key::OpenDays, calendar.open_days(first, last)),
                 Err(error) => return asked.fail(error),

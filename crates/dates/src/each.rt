@@ -40,8 +40,19 @@ impl EachLine for Asks {
 }
 
 impl Asks {
+    // Whether the holidays of a day's year are known, where they are asked for.
+    fn knows(&self, date: NaiveDate) -> bool {
+        match self {
+            Asks::Open(holidays) | Asks::Roll(holidays, _) => holidays.knows(date),
+            _ => true,
+        }
+    }
+
     // Prints what is asked of a day.
     fn answer(&mut self, asked: &mut Asked<'_>, date: NaiveDate) {
+        if !self.knows(date) {
+            return asked.print_nowhere(&Start::Day(date), "", UNKNOWN);
+        }
         let reply = match self {
             Asks::Names => Some(Reply::Names(date)),
             Asks::Weekday => Some(Reply::Weekday(date.weekday())),
@@ -58,6 +69,9 @@ impl Asks {
             },
         };
         match reply {
+            Some(Reply::Date(reached)) if !self.knows(reached) => {
+                asked.print_nowhere(&Start::Day(date), "", UNKNOWN)
+            }
             Some(reply) => asked.print(reply),
             None => asked.print_nowhere(&Start::Day(date), "", PAST),
         }

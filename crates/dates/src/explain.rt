@@ -1,9 +1,9 @@
-//! A schedule or a recurrence rule in plain English.
+//! A schedule in plain English, and lists of numbers as words.
 
 use crate::due::{DIALECT, Plan};
 use crate::prelude::*;
 use chrono_datetime::Month;
-use chrono_rules::{End, Frequency, NumberSet, PlaceSet, Rule};
+use chrono_rules::{NumberSet, PlaceSet};
 use timed_cron::TimedSchedule;
 use zoned_cron::Schedule;
 
@@ -22,10 +22,7 @@ pub(crate) fn answer(asked: &mut Asked<'_>) {
     let word = asked.word(0);
     let mut out = Buffer::new(asked.rt.alloc());
     if word.text.contains("FREQ") || word.text.contains("freq") {
-        if let Some((rule, skip)) = asked.rule_with_skip(word) {
-            put_rule(&mut out, &rule);
-            out.put(skip.words());
-        }
+        asked.put_rule_of(&mut out, word);
     } else {
         match asked.plan(word) {
             Some(Plan::Minutes(schedule)) => put_schedule(&mut out, &schedule),
@@ -38,7 +35,7 @@ pub(crate) fn answer(asked: &mut Asked<'_>) {
 
 /// How the numbers of a list are named.
 #[derive(Clone, Copy)]
-enum Names {
+pub(crate) enum Names {
     /// As 9.
     Number,
     /// As 1st.
@@ -84,7 +81,7 @@ fn put_from_end(out: &mut Buffer, number: u32) {
 }
 
 // The name of a weekday, of which 0 is Monday.
-fn weekday_name(number: u32) -> &'static str {
+pub(crate) fn weekday_name(number: u32) -> &'static str {
     match Weekday::from_u32(number) {
         Some(weekday) => weekday.name(),
         None => "",
@@ -115,7 +112,7 @@ fn put_ordinal(out: &mut Buffer, number: u32) {
 const MOST: u32 = 383;
 
 // Puts the numbers of a list behind a text, three or more in a row by the first and the last of them.
-fn put_list(out: &mut Buffer, list: &PlaceSet, names: Names) {
+pub(crate) fn put_list(out: &mut Buffer, list: &PlaceSet, names: Names) {
     let last = last_named(list);
     let mut front = "";
     let mut row: u32 = 0;
@@ -156,7 +153,7 @@ fn last_named(list: &PlaceSet) -> u32 {
 }
 
 // Puts the numbers of a small list behind a text.
-fn put_set(out: &mut Buffer, set: NumberSet, names: Names) {
+pub(crate) fn put_set(out: &mut Buffer, set: NumberSet, names: Names) {
     put_list(out, &places_of(set), names);
 }
 
@@ -180,10 +177,10 @@ fn put_each(
     front
 }
 
-const AND_THE: &str = " and the ";
+pub(crate) const AND_THE: &str = " and the ";
 
 // The numbers of a small list.
-fn places_of(set: NumberSet) -> PlaceSet {
+pub(crate) fn places_of(set: NumberSet) -> PlaceSet {
     let mut places = PlaceSet::none();
     for number in 0..64 {
         if set.contains(number) {
@@ -194,7 +191,7 @@ fn places_of(set: NumberSet) -> PlaceSet {
 }
 
 // How many numbers a small list has.
-fn count_of(set: NumberSet) -> u32 {
+pub(crate) fn count_of(set: NumberSet) -> u32 {
     let mut count: u32 = 0;
     for number in 0..64 {
         if set.contains(number) {
@@ -246,7 +243,7 @@ fn put_timed(out: &mut Buffer, timed: &TimedSchedule) {
 }
 
 // Puts hours behind a text, or what is said of all.
-fn put_hours(out: &mut Buffer, hours: NumberSet, all: &str) {
+pub(crate) fn put_hours(out: &mut Buffer, hours: NumberSet, all: &str) {
     let step = step_of(hours, 0, 23);
     if hours == NumberSet::range(0, 24) {
         out.put(all);
@@ -255,7 +252,11 @@ fn put_hours(out: &mut Buffer, hours: NumberSet, all: &str) {
         put_ordinal(out, step);
         out.put(" hour");
     } else {
-        out.put(" of the hours ");
+        out.put(if count_of(hours) == 1 {
+            " of hour "
+        } else {
+            " of the hours "
+        });
         put_set(out, hours, Names::Number);
     }
 }
@@ -273,7 +274,7 @@ fn step_of(list: NumberSet, first: u32, last: u32) -> u32 {
 }
 
 // Puts the times of hours and minutes behind a text.
-fn put_clocks(out: &mut Buffer, minutes: NumberSet, hours: NumberSet) {
+pub(crate) fn put_clocks(out: &mut Buffer, minutes: NumberSet, hours: NumberSet) {
     let mut left = count_of(minutes).saturating_mul(count_of(hours));
     for hour in 0..24 {
         for minute in 0..60 {
@@ -375,115 +376,4 @@ fn put_month_days(out: &mut Buffer, schedule: &Schedule) {
     }
 }
 
-const ON_THE: &str = " on the ";
-
-// Puts which days a rule names behind a text. Without any, each of its periods has one by the start.
-fn put_rule(out: &mut Buffer, rule: &Rule) {
-    put_frequency(out, rule);
-    if !rule.months.is_empty() {
-        out.put(" in ");
-        put_set(out, rule.months, Names::Months);
-    }
-    let named_from = out.len();
-    put_small_ends(out, " in the ", rule.weeks, rule.weeks_from_end, " week");
-    let (days, from_end) = (&rule.year_days, &rule.year_days_from_end);
-    put_ends(out, ON_THE, days, from_end, " day of the year");
-    let (days, from_end) = (rule.month_days, rule.month_days_from_end);
-    let noun = if from_end.is_empty() { "" } else { " day" };
-    put_small_ends(out, ON_THE, days, from_end, noun);
-    put_weekdays(out, rule);
-    let is_plain = rule.frequency == Frequency::Daily && rule.interval < 2;
-    if out.len() == named_from && !is_plain {
-        out.put(" from its start on");
-    }
-    let (places, from_end) = (&rule.positions, &rule.positions_from_end);
-    put_ends(out, ", of these the ", places, from_end, "");
-    put_end(out, rule);
-}
-
-// Puts where a rule ends behind a text.
-fn put_end(out: &mut Buffer, rule: &Rule) {
-    match rule.end {
-        End::Never => {}
-        End::Count(1) => out.put(", once"),
-        End::Count(count) => {
-            out.put(", ");
-            out.show(&count);
-            out.put(" times");
-        }
-        End::Until(day) => {
-            out.put(", until ");
-            out.show(&day);
-        }
-    }
-}
-
-// Puts a part of a rule behind a text, if the rule has it: its numbers, and those from the end.
-fn put_ends(out: &mut Buffer, front: &str, list: &PlaceSet, from_end: &PlaceSet, noun: &str) {
-    if list.is_empty() && from_end.is_empty() {
-        return;
-    }
-    out.put(front);
-    put_list(out, list, Names::Ordinal);
-    if !list.is_empty() && !from_end.is_empty() {
-        out.put(AND_THE);
-    }
-    put_list(out, from_end, Names::FromEnd);
-    out.put(noun);
-}
-
-// The same of a part with small numbers.
-fn put_small_ends(out: &mut Buffer, front: &str, set: NumberSet, from_end: NumberSet, noun: &str) {
-    put_ends(out, front, &places_of(set), &places_of(from_end), noun);
-}
-
-// Puts how often periods come behind a text.
-fn put_frequency(out: &mut Buffer, rule: &Rule) {
-    out.put("every ");
-    if rule.interval > 1 {
-        out.show(&rule.interval);
-        out.put(" ");
-    }
-    out.put(match rule.frequency {
-        Frequency::Daily => "day",
-        Frequency::Weekly => "week",
-        Frequency::Monthly => "month",
-        Frequency::Yearly => "year",
-    });
-    if rule.interval > 1 {
-        out.put("s");
-    }
-}
-
-// Puts the weekdays of a rule behind a text: those of every week, and those by their place.
-fn put_weekdays(out: &mut Buffer, rule: &Rule) {
-    let mut front = ON_THE;
-    if !rule.weekdays.every.is_empty() {
-        out.put(" on ");
-        put_set(out, rule.weekdays.every, Names::Weekdays);
-        front = AND_THE;
-    }
-    for day in 0..7u32 {
-        let place = day as usize;
-        let (places, from_end) = (rule.weekdays.front[place], rule.weekdays.back[place]);
-        front = put_places(out, places, day, Names::Ordinal, front);
-        front = put_places(out, from_end, day, Names::FromEnd, front);
-    }
-}
-
-// Puts a weekday by its places behind a text, if it has some; what stands in front of the next.
-fn put_places(
-    out: &mut Buffer,
-    places: NumberSet,
-    day: u32,
-    names: Names,
-    front: &'static str,
-) -> &'static str {
-    if places.is_empty() {
-        return front;
-    }
-    out.put(front);
-    put_set(out, places, names);
-    put!(out, " ", weekday_name(day));
-    AND_THE
-}
+pub(crate) const ON_THE: &str = " on the ";

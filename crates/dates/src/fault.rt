@@ -1,6 +1,7 @@
 //! What is said where something is wrong. The first fault alone is told, and ends the command.
 
 use crate::prelude::*;
+use chrono_reading::leading_digits;
 use command_words::{Nearest, Why, Wrong, put_choices, put_usage};
 use std::env::{self, Env, FillError, VarError};
 use std::str;
@@ -22,6 +23,9 @@ pub(crate) const ONE_OFFSET: &str =
 // What a day is expected as, and what else the first word may be.
 const ORDER_WANTED: &str =
     "expected a day as 2024-02-29; --order dmy, --order mdy or --parse reads others";
+
+const SECONDS_WANTED: &str =
+    "expected a day as 2024-02-29; @1709208000 is an instant by the seconds since 1970";
 
 const COMMAND: &str = "expected a day as 2024-02-29 or a command; dates --help lists them";
 
@@ -152,9 +156,17 @@ impl Asked<'_> {
     // Ends since a word is no day or time: it is not written as one, or there is none such.
     pub(crate) fn unread(&mut self, word: Word<'_>, error: Unreadable, expected: &str) {
         if error.is_other_form() {
-            let is_in_order = has_order(word.text.as_bytes());
-            self.wrong(word, if is_in_order { ORDER_WANTED } else { expected });
-            return;
+            let text = word.text.as_bytes();
+            return self.wrong(
+                word,
+                if text.len() > 8 && leading_digits(text) == text.len() {
+                    SECONDS_WANTED
+                } else if has_order(text) {
+                    ORDER_WANTED
+                } else {
+                    expected
+                },
+            );
         }
         let mut why = Buffer::new(self.rt.alloc());
         put_unread(&mut why, error);

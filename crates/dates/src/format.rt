@@ -11,7 +11,7 @@ const PATTERNS: &str =
     %H:%M:%S, %A and %a name the weekday, %B and %b the month, %j is the day of the\n\
     year, %G-W%V-%u the week date, %s the seconds since 1970. %-d has no padding.\n\
     With - in place of the last argument, or without it, it answers each line of\n\
-    standard input.";
+    standard input. Where nothing is piped in, format answers for now.";
 
 pub(crate) fn format() -> &'static CommandRow {
     row!(
@@ -39,12 +39,8 @@ struct Lines {}
 pub(crate) fn answer(asked: &mut Asked<'_>) {
     asked.take_zone();
     asked.reading.takes_clock = true;
-    match asked.word_or_lines(1) {
-        Some(word) => {
-            asked.none = asked.reading.none_of_text(word.text.as_bytes());
-            let start = asked.start(word);
-            asked.print_start(&start);
-        }
+    match asked.start_or_now(1) {
+        Some(start) => asked.print_start(&start),
         None => {
             asked.take_clocks(asked.writes_clock());
             take_input(asked, &mut Lines {})

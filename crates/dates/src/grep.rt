@@ -110,6 +110,7 @@ pub(crate) fn answer(asked: &mut Asked<'_>) {
         lines.last = last.num_days_from_ce();
     }
     asked.within = Within::Line;
+    asked.records.most = MOST_PRINTED;
     take_file(asked, &mut lines);
     if !lines.is_sorted {
         asked.end_by(if lines.found { ANSWERED } else { NONE });
@@ -124,7 +125,11 @@ impl Asked<'_> {
     fn start_if(&mut self, name: &str) -> Option<Start> {
         let word = self.value(name)?;
         self.reading.takes_clock = true;
-        Some(self.start(word))
+        let text = word.text.as_bytes();
+        match read_start(text) {
+            Ok(start) if self.reading.read(text).is_err() => Some(start),
+            _ => Some(self.start(word)),
+        }
     }
 
     // The first and the last day of the month or the year that a word names.
@@ -148,8 +153,8 @@ impl Asked<'_> {
 
 impl EachLine for Lines {
     fn take_line(&mut self, asked: &mut Asked<'_>, line: &[u8]) {
-        if line.len() >= MOST_BYTES {
-            return asked.refuse_long();
+        if line.len() >= asked.records.most {
+            return asked.refuse_line(TOO_LONG);
         }
         let text = text_in(&asked.reading, self.within, line).unwrap_or(b"");
         let start = asked.reading.read(text).ok();

@@ -19,7 +19,12 @@ pub(crate) struct Holidays {
     days: Vec<NaiveDate>,
     // Those years.
     years: Option<Years>,
+    // The first year of which the rules are known.
+    first: i32,
 }
+
+/// That the holidays of a day are not known.
+pub(crate) const UNKNOWN: &str = "before the first year of --calendar";
 
 impl Holidays {
     // The calendar by the options, with the holidays of these years at least.
@@ -34,6 +39,11 @@ impl Holidays {
             // (not reached: they are in order, each once, and none is on the weekend)
             Err(_) => Err(io::Error::from(ErrorKind::InvalidData)),
         }
+    }
+
+    // Whether the holidays of a day's year are known.
+    pub(crate) fn knows(&self, day: NaiveDate) -> bool {
+        self.first <= day.year()
     }
 
     // Puts the holidays of these years together.
@@ -56,6 +66,16 @@ fn put_in_order(days: &mut Vec<NaiveDate>, weekend: WeekdaySet) {
     days.truncate(count);
 }
 
+// The first year of which the holidays of all calendars that a text names are known.
+fn first_year(names: &str) -> i32 {
+    let mut first = i32::MIN;
+    for name in names.split(',') {
+        let known = FIRST_YEARS.get(place_of_calendar(name)).copied();
+        first = first.max(known.unwrap_or(first));
+    }
+    first
+}
+
 impl Asked<'_> {
     // The holidays by the options of the command.
     pub(crate) fn holidays(&mut self) -> Holidays {
@@ -65,9 +85,11 @@ impl Asked<'_> {
             listed: Vec::new(self.rt.alloc()),
             days: Vec::new(self.rt.alloc()),
             years: None,
+            first: i32::MIN,
         };
         if let Some(word) = self.value("--calendar") {
             self.put_calendars(word, &mut holidays.rules);
+            holidays.first = first_year(word.text);
         }
         if let Some(word) = self.value("--holidays") {
             let put = self.put_listed(word, &mut holidays.listed);
@@ -102,7 +124,8 @@ impl Asked<'_> {
         let mut line = Vec::new(self.rt.alloc());
         let mut reader = BufReader::new(self.rt.alloc(), file)?;
         for number in 1..u64::MAX {
-            match read_line(&mut reader, &mut line) {
+            line.clear();
+            match read_line(&mut reader, &mut line, MOST_BYTES) {
                 Ok(true) => match self.reading.day_of_line(line.as_slice()) {
                     Ok(day) => days.push(day)?,
                     Err(reason) => {

@@ -1,5 +1,6 @@
 //! Date-times in time zones.
 
+use crate::day::is_alone;
 use crate::prelude::*;
 
 const FROM_ZONE: Opt = option!(
@@ -36,6 +37,12 @@ pub(crate) fn answer(asked: &mut Asked<'_>) {
     };
     let mut zones = Zones { shown, read };
     asked.take_clocks(false);
+    if asked.words.operand(1).is_none() && is_alone(asked.rt) {
+        if let Some(stamp) = asked.shown() {
+            zones.answer(asked, Start::Stamp(stamp));
+        }
+        return;
+    }
     match asked.word_or_lines(1) {
         Some(word) => {
             let start = asked.start_as(word, MOMENT_EXPECTED);

@@ -1,5 +1,6 @@
 //! Lines of input, of each of which only so many bytes are kept, and commands that take each of them.
 
+use crate::fields::Marks;
 use crate::prelude::*;
 use std::fs::{self, File};
 use std::io::{BufRead, Read};
@@ -7,22 +8,80 @@ use std::io::{BufRead, Read};
 /// So many bytes of a line are kept; no text of as many names a day or a date-time.
 pub(crate) const MOST_BYTES: usize = 65_536;
 
-// Reads the next line without the `\n` at its end, its first `MOST_BYTES` at most, the others are passed over; whether there is one.
+/// So many are kept where lines are printed again.
+pub(crate) const MOST_PRINTED: usize = 16_777_216;
+
+/// That a line is none of those.
+pub(crate) const TOO_LONG: &str = "has 16777216 bytes or more";
+
+/// How lines are read.
+#[derive(Clone, Copy)]
+pub(crate) struct Records {
+    /// So many bytes of each are kept.
+    pub most: usize,
+    /// What parts fields, if those in quotation marks may have several lines.
+    pub separator: Option<u8>,
+}
+
+// Reads the next line behind others, without the `\n` at its end, its first bytes at most, the others are passed over; whether there is one.
 pub(crate) fn read_line(
     reader: &mut (impl BufRead + Drop),
     line: &mut Vec<u8>,
+    most: usize,
 ) -> io::Result<bool> {
-    line.clear();
-    let count = reader
-        .by_ref()
-        .take(MOST_BYTES as u64)
-        .read_until(b'\n', line)?;
+    let count = reader.by_ref().take(most as u64).read_until(b'\n', line)?;
+    if count == 0 {
+        return Ok(false);
+    }
     if line.as_slice().last() == Some(&b'\n') {
         line.pop();
-    } else if count == MOST_BYTES {
+    } else if count == most {
         reader.skip_until(b'\n')?;
     }
-    Ok(count > 0)
+    Ok(true)
+}
+
+/// What is read of a source.
+#[derive(Clone, Copy)]
+enum Taken {
+    /// So many lines, which are a record.
+    Lines(u64),
+    /// Lines of which the last leaves a field open.
+    Open,
+    /// Nothing, at its end.
+    End,
+}
+
+// Reads the next line in place of another, and behind it those up to the end of a field that it leaves open.
+fn read_record(
+    reader: &mut (impl BufRead + Drop),
+    line: &mut Vec<u8>,
+    records: Records,
+) -> io::Result<Taken> {
+    line.clear();
+    let mut marks = Marks::new();
+    let mut count: u64 = 0;
+    for _ in 0..u64::MAX {
+        let begin = line.len();
+        if begin >= records.most {
+            break;
+        }
+        if !read_line(reader, line, records.most - begin)? {
+            return Ok(if count > 0 { Taken::Open } else { Taken::End });
+        }
+        count = count.saturating_add(1);
+        let goes_on = match records.separator {
+            Some(separator) => {
+                marks.is_open_behind(line.as_slice().get(begin..).unwrap_or(b""), separator)
+            }
+            None => false,
+        };
+        if !goes_on {
+            break;
+        }
+        line.push(b'\n')?;
+    }
+    Ok(Taken::Lines(count))
 }
 
 /// A command that takes each line of a text.
@@ -65,16 +124,24 @@ fn take_lines(
         Ok(reader) => reader,
         Err(error) => return asked.fail(error),
     };
-    for number in 1..u64::MAX {
-        match read_line(&mut reader, &mut line) {
-            Ok(true) => {}
-            Ok(false) => break,
+    let mut number: u64 = 1;
+    for _ in 0..u64::MAX {
+        match read_record(&mut reader, &mut line, asked.records) {
+            Ok(Taken::Lines(count)) => {
+                asked.line = number;
+                number = number.saturating_add(count);
+            }
+            Ok(Taken::Open) => {
+                asked.line = number;
+                asked.refuse_line("has a quotation mark that is not closed");
+                break;
+            }
+            Ok(Taken::End) => break,
             Err(error) => {
                 asked.wrong_by(source, &error, "");
                 break;
             }
         }
-        asked.line = number;
         asked.end_by(ANSWERED);
         asked.take_parts(command, line.as_slice());
         status = status.max(asked.status);
@@ -86,6 +153,15 @@ fn take_lines(
 }
 
 impl Asked<'_> {
+    // Ends since the line that is answered is none that can be.
+    pub(crate) fn refuse_line(&mut self, why: &str) {
+        let mut said = Buffer::new(self.rt.alloc());
+        said.put("dates: line ");
+        said.show(&self.line);
+        put!(said, " ", why);
+        self.refuse(&said);
+    }
+
     // The file that a word names.
     pub(crate) fn open_file(&mut self, word: Word<'_>) -> Option<File> {
         if word.text.is_empty() {

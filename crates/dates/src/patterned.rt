@@ -14,7 +14,22 @@ pub(crate) const ORDER: Opt = option!(
 );
 
 /// `--long`.
-pub(crate) const LONG: Opt = flag!("--long", "print days as Thursday, 29 February 2024");
+pub(crate) const LONG: Opt = flag!(
+    "--long",
+    "print days as Thursday, 29 February 2024, with the\ntime of date-times behind it"
+);
+
+// The pattern of `--long`: of days, of date-times, of instants and of times of day.
+const LONG_DAY: &str = "%A, %-d %B %Y";
+
+fn long_pattern(start: &Start) -> &'static str {
+    match start {
+        Start::Day(_) => LONG_DAY,
+        Start::DateTime(_) => "%A, %-d %B %Y, %H:%M:%S",
+        Start::Stamp(_) => "%A, %-d %B %Y, %H:%M:%S %:z",
+        Start::Clock(_) => "%H:%M:%S",
+    }
+}
 
 /// `--format`.
 pub(crate) const FORMAT: Opt =
@@ -28,10 +43,10 @@ pub(crate) fn pattern_word<'a>(
 ) -> Option<Word<'a>> {
     match option.name.strip_prefix("--") {
         Some(name) if name == command.name => words.operand(0),
-        _ if option.name == FORMAT.name && words.has("--long") => {
-            let text = "%A, %-d %B %Y";
-            Some(Word { place: 0, text })
-        }
+        _ if option.name == FORMAT.name && words.has(LONG.name) => Some(Word {
+            place: 0,
+            text: LONG_DAY,
+        }),
         _ => words.value(command.options, option.name),
     }
 }
@@ -81,6 +96,14 @@ pub(crate) fn read_by(pattern: &Pattern<'_>, text: &[u8]) -> Result<Start, Patte
         return Ok(Start::Day(pattern.parse_date(text)?));
     }
     Ok(Start::Clock(pattern.parse_time(text)?))
+}
+
+// The text of `--long`.
+pub(crate) fn delayed_long(start: &Start) -> Option<DelayedFormat<'static>> {
+    match Pattern::new(long_pattern(start).as_bytes()) {
+        Ok(pattern) => delayed(&pattern, start),
+        Err(_) => None,
+    }
 }
 
 // The text by a pattern, if there is what the pattern asks for.

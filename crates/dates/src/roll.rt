@@ -1,5 +1,6 @@
 //! Where closed days go.
 
+use crate::day::is_alone;
 use crate::each::{Asks, answer_each};
 use crate::prelude::*;
 use chrono_business::Roll;
@@ -31,7 +32,8 @@ pub(crate) fn command() -> &'static CommandRow {
         help: "print where a closed day goes",
         more: "A CONVENTION is following, preceding, modified-following, modified-preceding,\n\
             nearest or unadjusted. An open day stays.\n\
-            With - in place of the day, or none, it answers each line of standard input.",
+            With - in place of the day, or none, it answers each line of standard input, or\n\
+            today where nothing is piped in.",
         example: "$ dates roll 2024-03-30 modified-following\n2024-03-29"
     )
 }
@@ -45,6 +47,7 @@ pub(crate) fn answer(asked: &mut Asked<'_>) {
             asked.day_if(asked.word_or_lines(0));
             return asked.missing_operand(1);
         }
+        None if is_alone(asked.rt) => (Some(asked.day_shown()), asked.roll_of(first)),
         None => (None, asked.roll_of(first)),
     };
     let holidays = asked.holidays();

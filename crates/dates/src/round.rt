@@ -26,15 +26,14 @@ pub(crate) fn answer(asked: &mut Asked<'_>) {
         return answer_part(asked, step);
     }
     if read_move(word.text.as_bytes()).is_some() {
-        asked.wrong(
-            word,
-            "expected a weekday as mon, or a part that divides the day, as 15min",
-        );
+        asked.wrong(word, TO_EXPECTED);
     }
-    let weekday = asked.weekday(word);
+    let weekday = asked.weekday(word, TO_EXPECTED);
     let date = asked.day_if(asked.word_or_lines(0));
     answer_each(asked, date, Asks::Round(weekday));
 }
+
+const TO_EXPECTED: &str = "expected a weekday as mon, or a part that divides the day, as 15min";
 
 // The seconds of a part of the day, below 0 to go back.
 fn part_of_day(text: &[u8]) -> Option<i64> {

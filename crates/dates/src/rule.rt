@@ -3,7 +3,7 @@
 use crate::prelude::*;
 use crate::skip::{DaysWanted, Skip, cut_skip, goes_with_skip, print_skipping};
 use crate::timed_rule::answer_timed;
-use chrono_rules::{Recurrence, Rule, read_rule};
+use chrono_rules::{Recurrence, Rule, RuleError, RuleFault, read_rule};
 
 const START: Opt =
     option!("--start", "TIME"; "from which day or date-time on it recurs", required: true);
@@ -38,7 +38,8 @@ pub(crate) fn command() -> &'static CommandRow {
             FREQ=MONTHLY;BYMONTHDAY=31;SKIP=BACKWARD       the 31st, or the last day\n\
             From a date-time on it recurs at that time, also by BYHOUR or HOURLY. --zone has\n\
             it go by the zone's clock, and a time that the clock skips goes by the offset\n\
-            before. An --exdate that is a day leaves out all of it.",
+            before. An --exdate that is a day leaves out all of it. BYSETPOS goes with one\n\
+            time a day alone.",
         example: "$ dates rule 'FREQ=MONTHLY;BYDAY=-1FR' --start 2024-01-01 --count 2\n\
             2024-01-26\n\
             2024-02-23"
@@ -122,30 +123,52 @@ impl Asked<'_> {
     }
 
     // The rule that a word writes, and where it puts a day that a month does not have.
-    pub(crate) fn rule_with_skip(&mut self, word: Word<'_>) -> Option<(Rule, Skip)> {
-        let mut others = Vec::new(self.rt.alloc());
-        let skip = match cut_skip(word.text.as_bytes(), &mut others) {
-            Ok(skip) => skip,
-            Err(error) => {
-                self.fail(error);
-                return None;
-            }
-        };
-        match read_rule(others.as_slice()) {
-            Ok(rule) if matches!(skip, Skip::Omit) || goes_with_skip(&rule) => {
+    fn rule_with_skip(&mut self, word: Word<'_>) -> Option<(Rule, Skip)> {
+        match read_rule_and_skip(self.rt, word.text.as_bytes()) {
+            Ok(Ok((rule, skip))) if matches!(skip, Skip::Omit) || goes_with_skip(&rule) => {
                 return Some((rule, skip));
             }
-            Ok(_) => self.wrong(
-                word,
-                "SKIP goes with days of months alone, as BYMONTHDAY=31",
-            ),
-            Err(error) => {
-                self.wrong_by(word, &error, "; expected a rule as FREQ=MONTHLY;BYDAY=-1FR");
-            }
+            Ok(Ok(_)) => self.wrong(word, SKIP_ALONE),
+            Ok(Err(error)) => self.wrong_rule(word, error),
+            Err(error) => self.fail(error),
         }
         None
     }
+
+    // Ends since a word is no rule over days.
+    pub(crate) fn wrong_rule(&mut self, word: Word<'_>, error: RuleError) {
+        let expected = match error.fault {
+            RuleFault::OfHours | RuleFault::OfMinutes | RuleFault::OfSeconds => TIME_NEEDED,
+            RuleFault::NotAFrequency if counts_time(word.text) => TIME_NEEDED,
+            _ => "; expected a rule as FREQ=MONTHLY;BYDAY=-1FR",
+        };
+        self.wrong_by(word, &error, expected);
+    }
 }
+
+// What a rule by hours needs.
+const TIME_NEEDED: &str = "; such a rule needs a time of day in --start";
+
+// Whether a rule's text counts hours, minutes or seconds.
+fn counts_time(text: &str) -> bool {
+    text.contains("HOURLY") || text.contains("MINUTELY") || text.contains("SECONDLY")
+}
+
+// The rule over days that a text writes, and what SKIP says.
+pub(crate) fn read_rule_and_skip(
+    rt: &HostRuntime,
+    text: &[u8],
+) -> io::Result<Result<(Rule, Skip), RuleError>> {
+    let mut others = Vec::new(rt.alloc());
+    let skip = cut_skip(text, &mut others)?;
+    match read_rule(others.as_slice()) {
+        Ok(rule) => Ok(Ok((rule, skip))),
+        Err(error) => Ok(Err(error)),
+    }
+}
+
+/// That SKIP does not go with a rule.
+pub(crate) const SKIP_ALONE: &str = "SKIP goes with days of months alone, as BYMONTHDAY=31";
 
 // Puts an item behind others.
 pub(crate) fn put_behind<T: Drop>(items: &mut Vec<T>, item: T) -> io::Result<()> {

@@ -1,5 +1,6 @@
 //! The days, or the date-times, from one to another.
 
+use crate::add::open_days_later;
 use crate::diff::like;
 use crate::prelude::*;
 use chrono_datetime::WeekdaySet;
@@ -12,13 +13,14 @@ const HOW_MANY: Opt = option!("--count", "N"; "how many at most (default: all)")
 pub(crate) fn command() -> &'static CommandRow {
     row!(
         "seq", &[DAY, DAY_OR_LINES, operand!("SPAN"; required: false)],
-        &[SKIP, HOW_MANY, NOW, PARSE, ORDER, FORMAT, LONG, JSON, HELP];
+        &[SKIP, HOW_MANY, WEEKEND, CALENDAR, HOLIDAYS, NOW, PARSE, ORDER, FORMAT, LONG, JSON, HELP];
         help: "print the days or date-times from one to another",
         more: "Each is the first moved by no span, by one, by two and so on, as long as that is\n\
             not past the second. With no SPAN it goes day by day, also back. With no second\n\
             DAY it goes on to the calendar's end, or up to --count.\n\
-            A SPAN is as for add, as 2w, or -1w to go back; of date-times also 36h or\n\
-            90min; none of b. Times of day as 22:30 go on past midnight.",
+            A SPAN is as for add, as 2w, or -1w to go back; of date-times also 36h or 90min.\n\
+            By open days, as 1b, it begins on the first open day. Times of day as 22:30 go\n\
+            on past midnight.",
         example: "$ dates seq 2024-01-31 2024-04-01 1m\n2024-01-31\n2024-02-29\n2024-03-31"
     )
 }
@@ -43,24 +45,36 @@ pub(crate) fn answer(asked: &mut Asked<'_>) {
         None => WeekdaySet::EMPTY,
     };
     let most = asked.amount_if("--count").unwrap_or(u64::MAX);
+    let mut holidays = asked.holidays();
     if !asked.is_over {
-        print_sequence(asked, &from, &to, &step, skip, most);
+        print_sequence(
+            asked,
+            (&from, to.as_ref()),
+            &step,
+            &mut holidays,
+            skip,
+            most,
+        );
     }
 }
 
-// Prints a sequence but for some weekdays, and so many of it at most.
+// Prints a sequence from one to another but for some weekdays, and so many of it at most.
 fn print_sequence(
     asked: &mut Asked<'_>,
-    from: &Start,
-    to: &Option<Start>,
+    (from, to): (&Start, Option<&Start>),
     step: &Move,
+    holidays: &mut Holidays,
     skip: WeekdaySet,
     most: u64,
 ) {
     asked.end_by(NONE);
     let mut left = most;
     for place in 0..u32::MAX {
-        let Some(start) = there(from, to.as_ref(), *step, place) else {
+        let found = match step {
+            Move::OpenDays(count) => open_there(asked, (from, to), *count, holidays, place),
+            _ => there(from, to, *step, place),
+        };
+        let Some(start) = found else {
             break;
         };
         if left == 0 || asked.is_over {
@@ -110,8 +124,7 @@ fn steps_from(step: &Move, is_day: bool) -> bool {
     match step {
         Move::Time(_) => !is_day,
         Move::ShortMonths(_) => is_day,
-        Move::OpenDays(_) => false,
-        Move::Calendar(_) => true,
+        Move::OpenDays(_) | Move::Calendar(_) => true,
     }
 }
 
@@ -201,7 +214,25 @@ fn there(from: &Start, to: Option<&Start>, step: Move, place: u32) -> Option<Sta
         }
         Move::OpenDays(_) => return None,
     };
-    let found = from.at(moment)?;
+    not_past(from.at(moment)?, to, way)
+}
+
+// What stands at a place of a sequence by open days, counted from 0; nothing past its end.
+fn open_there(
+    asked: &mut Asked<'_>,
+    (from, to): (&Start, Option<&Start>),
+    count: i64,
+    holidays: &mut Holidays,
+    place: u32,
+) -> Option<Start> {
+    let first = open_days_later(asked, from.local().date(), 0, holidays).ok()?;
+    let by = count.checked_mul(i64::from(place))?;
+    let found = open_days_later(asked, first, by, holidays).ok()?;
+    not_past(asked.on(*from, found)?, to, count)
+}
+
+// What stands in a sequence, unless it is past the end.
+fn not_past(found: Start, to: Option<&Start>, way: i64) -> Option<Start> {
     let past = to.unwrap_or(&found).until(&found);
     let is_past = if way < 0 {
         past < TimeDelta::zero()

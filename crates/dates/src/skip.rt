@@ -1,7 +1,7 @@
 //! The instances of a rule with SKIP (RFC 7529), which says where a day goes that a month does not have.
 
 use crate::prelude::*;
-use chrono_rules::{End, Frequency, NumberSet, Rule};
+use chrono_rules::{End, Frequency, Instances, NumberSet, Rule};
 use chrono_text::same_but_for_case;
 
 /// SKIP: where a day goes that a month does not have.
@@ -107,28 +107,76 @@ pub(crate) fn print_skipping(
     start: NaiveDate,
     wanted: &mut DaysWanted,
 ) {
-    let rule = filled(rule, start);
-    let mut next = start.num_days_from_ce();
+    let mut days = SkipDays::new(rule, skip, start);
     let mut count = match rule.end {
         End::Count(count) => u64::from(count),
         _ => u64::MAX,
     };
-    for first in months_of(&rule).instances(first_period(&rule, start)) {
-        for place in 1..32 {
-            let day = match landed(&rule, first, place, skip) {
-                Some(day) if day.num_days_from_ce() >= next => day,
-                _ => continue,
-            };
-            if count == 0 || wanted.most == 0 || asked.is_over || !rule.not_after(day) {
-                return wanted.print_added(asked, None);
-            }
-            wanted.print_added(asked, Some(day));
-            wanted.print(asked, day);
-            next = day.num_days_from_ce().saturating_add(1);
-            count = count.saturating_sub(1);
+    for _ in 0..u64::MAX {
+        if count == 0 || wanted.most == 0 || asked.is_over {
+            break;
         }
+        let day = match days.next() {
+            Some(day) if rule.not_after(day) => day,
+            _ => break,
+        };
+        wanted.print_added(asked, Some(day));
+        wanted.print(asked, day);
+        count = count.saturating_sub(1);
     }
     wanted.print_added(asked, None);
+}
+
+/// The days of a rule with SKIP from its start on, in order, each once. Neither COUNT nor UNTIL ends them.
+#[derive(Drop)]
+pub(crate) struct SkipDays {
+    rule: Rule,
+    skip: Skip,
+    // The first days of the rule's months; that of the month which is gone through, and the next place in it.
+    months: Instances,
+    first: Option<NaiveDate>,
+    place: u32,
+    // The number of the first day that may follow.
+    next: i32,
+}
+
+impl SkipDays {
+    // The days of a rule.
+    pub(crate) fn new(rule: &Rule, skip: Skip, start: NaiveDate) -> SkipDays {
+        let rule = filled(rule, start);
+        let mut months = months_of(&rule).instances(first_period(&rule, start));
+        let first = months.next();
+        SkipDays {
+            rule,
+            skip,
+            months,
+            first,
+            place: 1,
+            next: start.num_days_from_ce(),
+        }
+    }
+
+    // The next day.
+    pub(crate) fn next(&mut self) -> Option<NaiveDate> {
+        for _ in 0..u64::MAX {
+            let first = self.first?;
+            let place = self.place;
+            self.place = place.saturating_add(1);
+            if place > 31 {
+                self.first = self.months.next();
+                self.place = 1;
+                continue;
+            }
+            if let Some(day) = landed(&self.rule, first, place, self.skip) {
+                let number = day.num_days_from_ce();
+                if number >= self.next {
+                    self.next = number.saturating_add(1);
+                    return Some(day);
+                }
+            }
+        }
+        None
+    }
 }
 
 // Whether SKIP has a meaning for a rule: its days are those of months alone.

@@ -96,12 +96,14 @@ fn program<'a>(commands: &'a [&'static CommandRow]) -> Program<'a> {
 const MORE: &str = "A DAY is a calendar date, an ordinal date or a week date, as 2024-02-29,\n\
     2024-060 and 2024-W09-4, also without hyphens; or 'Feb 29, 2024', '29 Feb 2024'\n\
     or '#738945'. It is printed by its three dates, its weekday, its number from\n\
-    1 January of year 1, which is 1, and the days since 1970-01-01.\n\
+    1 January of year 1, which is 1, and the days since 1970-01-01. A date-time has\n\
+    T or a blank and a time behind it, as 2024-02-29T04:30, and maybe an offset, as\n\
+    Z or +01:00; @1709208000 is one by the seconds since 1970.\n\
     \n\
     Where DAY is - or left out, most commands answer each line of standard input.\n\
-    dates alone, first, last, open, week and weekday do so if something is piped in,\n\
-    and else answer for today. A line that is no day is answered by none; check says\n\
-    why.\n\
+    dates alone, add, diff, first, format, in, last, open, roll, week and weekday do\n\
+    so if something is piped in, and else answer for today or now. A line that is no\n\
+    day is answered by none; check says why.\n\
     today, tomorrow, yesterday, friday and 'last friday' are days by the clock, and\n\
     now is a time. Without such a word only commands of no day, next, prev, now,\n\
     today and in of a time alone ask what time it is.\n\
@@ -133,6 +135,18 @@ fn command_named(name: &str) -> &'static CommandRow {
         }
     }
     crate::day::command()
+}
+
+// Whether the option of a name has a value behind it.
+fn takes_value(name: &str) -> bool {
+    for command in commands() {
+        for option in command.options {
+            if option.name == name {
+                return !option.value.is_empty();
+            }
+        }
+    }
+    false
 }
 
 // Answers a command by its words, or prints its help.
@@ -169,10 +183,11 @@ const APART: &[[&str; 2]] = &[
 ];
 
 impl<'a> Asked<'a> {
-    // Reads the arguments: the first that is not `--json` may name the command.
+    // Reads the arguments: the first that is no option may name the command.
     fn read_arguments(&mut self, arguments: &'a [String]) -> io::Result<()> {
         let mut words: Vec<Word<'a>> = Vec::new(self.rt.alloc());
         let mut is_named = false;
+        let mut is_value = false;
         let mut place: usize = 0;
         for argument in arguments {
             place = place.saturating_add(1);
@@ -181,7 +196,11 @@ impl<'a> Asked<'a> {
                 "help" if place == 1 => "--help",
                 text => text,
             };
-            if !is_named && text != "--json" && text != "--help" {
+            if !is_named && !is_value && text.starts_with("--") && text != "--" {
+                is_value = takes_value(text);
+            } else if is_value {
+                is_value = false;
+            } else if !is_named {
                 is_named = true;
                 self.command = command_named(text);
                 if !self.command.name.is_empty() {

@@ -365,6 +365,7 @@ fn moment_at(day: &[u8], time: &[u8]) -> Result<Start, ReadError> {
     let date = read_day(day)?;
     let before = byte_place(time, b'+').min(byte_place(time, b'-'));
     let (clock, offset) = time.split_at(before.min(byte_place(time, b'Z')));
+    let offset = without_name(offset);
     let text = in_full(clock, offset);
     let shown = match parse_from_iso8601(text.as_bytes()) {
         Ok(shown) => shown,
@@ -381,6 +382,24 @@ fn moment_at(day: &[u8], time: &[u8]) -> Result<Start, ReadError> {
         Some(date)
     };
     shown_on(date, shown, offset.is_empty()).ok_or(out_of_range())
+}
+
+// An offset without the name of its time, as `+01:00 CET`, which commands print behind it.
+fn without_name(offset: &[u8]) -> &[u8] {
+    match offset.split_at(byte_place(offset, b' ')) {
+        (alone @ [_, ..], [_, name @ ..]) if is_name(name) => alone,
+        _ => offset,
+    }
+}
+
+// Whether a text may be the name of a time, as `CEST` or `-03`.
+fn is_name(name: &[u8]) -> bool {
+    for byte in name {
+        if !byte.is_ascii_alphanumeric() && *byte != b'+' && *byte != b'-' {
+            return false;
+        }
+    }
+    3 <= name.len() && name.len() <= 6
 }
 
 // What a clock shows on a day, with its offset where it has one.
@@ -478,7 +497,7 @@ pub(crate) enum Move {
     Time(Option<TimeDelta>),
 }
 
-// The first move that a text writes, as `3d`, `-2w`, `1y2mo`, `PT1.5S` or `P1Y2M`.
+// The first move that a text writes, as `3d`, `-2w`, `1y2mo`, `1 month`, `PT1.5S` or `P1Y2M`.
 pub(crate) fn read_move(text: &[u8]) -> Option<Move> {
     Some(move_at(text, 0)?.0)
 }
@@ -491,19 +510,22 @@ pub(crate) fn move_at(text: &[u8], place: usize) -> Option<(Move, usize)> {
     let front = front_of(text);
     let begin = place.max(front.len);
     let name_at = begin.saturating_add(leading_digits(text.get(begin..)?));
-    let name = name_of(text.get(name_at..)?);
+    let behind = name_of(text.get(name_at..)?);
     let count = i64::try_from(read_decimal(text.get(begin..name_at)?)?).ok()?;
     let count = if front.is_back {
         count.checked_neg()?
     } else {
         count
     };
-    let next = name_at.saturating_add(name.len());
+    let next = name_at.saturating_add(behind.len());
     if front.is_iso {
         let is_time = count_of(b'T', text.get(..begin)?) > 0;
-        return Some((move_by(count, plain_name(name, is_time))?, next));
+        return Some((move_by(count, plain_name(behind, is_time))?, next));
     }
-    Some((move_by(count, name)?, next))
+    Some((
+        move_by(count, text_of(behind.as_bytes().trim_ascii()))?,
+        next,
+    ))
 }
 
 // What stands in front of the numbers of a span: a sign, and `P` or `PT` where it is written as ISO 8601 writes it.

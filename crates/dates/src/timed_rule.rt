@@ -1,14 +1,17 @@
 //! The instances of a recurrence rule over date-times.
 
 use crate::prelude::*;
-use crate::rule::put_behind;
-use calendar_rules::{TimedRule, TimedRuleError, read_timed_rule};
+use crate::rule::{SKIP_ALONE, put_behind};
+use crate::skip::{Skip, cut_skip, goes_with_skip};
+use crate::skip_times::SkipTimes;
+use calendar_rules::{ClockPart, ClockUnit, TimedRule, TimedRuleError, read_timed_rule};
 use chrono_datetime::Timelike;
+use chrono_rules::RulePart;
 use zoned_rules::{Bound, instant_of};
 
-// Where a rule begins, and by which clock it recurs: that of a zone, or one that is always so far ahead of UTC.
+/// Where a rule begins, and by which clock it recurs: that of a zone, or one that is always so far ahead of UTC.
 #[derive(Drop)]
-struct Begin {
+pub(crate) struct Begin {
     start: Start,
     zone: Option<OwnedZone>,
 }
@@ -35,10 +38,11 @@ pub(crate) fn answer_timed(asked: &mut Asked<'_>) {
     let begin = Begin { start, zone };
     asked.check_shown_first(word, &begin);
     let wanted = asked.wanted(&begin);
-    let (Some(rule), Some(local), Some(wanted)) = (rule, begin.local(), wanted) else {
+    let (Some((rule, skip)), Some(local), Some(wanted)) = (rule, begin.local(), wanted) else {
         return asked.print(asked.none);
     };
-    if !print_instances(asked, &begin, &rule, local, &wanted) {
+    let mut search = begin.search(&rule, skip, local, &wanted);
+    if !print_instances(asked, &begin, &mut search, local, &wanted) {
         asked.print(asked.none);
     }
 }
@@ -77,7 +81,7 @@ impl Begin {
     }
 
     // The first instant at which the clock shows a date-time; of one that it skips, that by the offset before. An instant itself.
-    fn instant(&self, start: Start) -> Option<DateTime<FixedOffset>> {
+    pub(crate) fn instant(&self, start: Start) -> Option<DateTime<FixedOffset>> {
         if let Start::Stamp(stamp) = start {
             return Some(stamp);
         }
@@ -129,9 +133,20 @@ impl Begin {
     }
 
     // The search for instances: from the start on where the rule counts them, and else from the first that is wanted.
-    fn search(&self, rule: &TimedRule, wanted: &Wanted) -> Search {
+    fn search(
+        &self,
+        rule: &TimedRule,
+        skip: Skip,
+        local: NaiveDateTime,
+        wanted: &Wanted,
+    ) -> Search {
+        let skipping = match skip {
+            Skip::Omit => None,
+            _ => Some(SkipTimes::new(rule, skip, local)),
+        };
         let mut search = Search {
             rule: *rule,
+            skipping,
             last: Some(wanted.from),
             count: u64::MAX,
         };
@@ -191,11 +206,10 @@ fn due_in(
 fn print_instances(
     asked: &mut Asked<'_>,
     begin: &Begin,
-    rule: &TimedRule,
+    search: &mut Search,
     local: NaiveDateTime,
     wanted: &Wanted,
 ) -> bool {
-    let mut search = begin.search(rule, wanted);
     let mut left = wanted.most;
     for _ in 0..u64::MAX {
         let Some(due) = search.next(begin, local, wanted) else {
@@ -213,9 +227,11 @@ fn print_instances(
 }
 
 // Where the search for instances stands: behind which instant, and how many the rule still has.
-#[derive(Clone, Copy)]
+#[derive(Drop)]
 struct Search {
     rule: TimedRule,
+    // Those of a rule with SKIP.
+    skipping: Option<SkipTimes>,
     last: Option<DateTime<FixedOffset>>,
     count: u64,
 }
@@ -230,7 +246,7 @@ impl Search {
     ) -> Option<DateTime<FixedOffset>> {
         let last = self.last?;
         let due = if self.count > 0 {
-            begin.due_after(&self.rule, local, last)
+            self.due_after(begin, local, last)
         } else {
             None
         };
@@ -240,6 +256,19 @@ impl Search {
         }
         self.last = next;
         next
+    }
+
+    // The next instance after an instant.
+    fn due_after(
+        &mut self,
+        begin: &Begin,
+        local: NaiveDateTime,
+        last: DateTime<FixedOffset>,
+    ) -> Option<DateTime<FixedOffset>> {
+        match &mut self.skipping {
+            Some(times) => times.due_after(begin, last),
+            None => begin.due_after(&self.rule, local, last),
+        }
     }
 }
 
@@ -379,29 +408,49 @@ impl Asked<'_> {
         Some(Start::Stamp(begin.instant(self.beside(begin, word))?))
     }
 
-    // The rule over date-times that a word writes.
-    fn timed_rule(&mut self, word: Word<'_>, start: &Start) -> Option<TimedRule> {
+    // The rule over date-times that a word writes, and where it puts a day that a month does not have.
+    fn timed_rule(&mut self, word: Word<'_>, start: &Start) -> Option<(TimedRule, Skip)> {
         let is_local = !self.words.has("--zone") && !start.has_offset();
         match read_rule_in(self.rt, word.text.as_bytes(), is_local) {
-            Ok(Ok(rule)) => return Some(rule),
-            Ok(Err(error)) => self.wrong(word, why_no_rule(error)),
+            Ok(Ok((rule, skip))) if goes_together(&rule, skip) => return Some((rule, skip)),
+            Ok(Ok(_)) => self.wrong(word, SKIP_ALONE),
+            Ok(Err(error)) => self.wrong_timed_rule(word, error),
             Err(error) => self.fail(error),
         }
         None
     }
+
+    // Ends since a word is no rule over date-times.
+    pub(crate) fn wrong_timed_rule(&mut self, word: Word<'_>, error: TimedRuleError) {
+        match error {
+            TimedRuleError::Days(error) if error.part != Some(RulePart::Freq) => {
+                self.wrong_by(word, &error, "; expected a rule as FREQ=DAILY;BYHOUR=9,17");
+            }
+            _ => self.wrong(word, why_no_rule(error)),
+        }
+    }
 }
 
-// The rule over date-times that a text writes, also behind `RRULE:` and with `;` at its end. UNTIL of a rule by local time alone is local time too.
-fn read_rule_in(
+// Whether a rule has what SKIP asks for.
+pub(crate) fn goes_together(rule: &TimedRule, skip: Skip) -> bool {
+    let is_by_days = matches!(rule.steps.unit, ClockUnit::Day);
+    matches!(skip, Skip::Omit) || is_by_days && goes_with_skip(&rule.days)
+}
+
+// The rule over date-times that a text writes, also behind `RRULE:` and with `;` at its end, and what SKIP says. UNTIL of a rule by local
+// time alone is local time too.
+pub(crate) fn read_rule_in(
     rt: &HostRuntime,
     text: &[u8],
     is_local: bool,
-) -> io::Result<Result<TimedRule, TimedRuleError>> {
+) -> io::Result<Result<(TimedRule, Skip), TimedRuleError>> {
     let text = text.strip_prefix(b"RRULE:").unwrap_or(text);
     let text = text.strip_suffix(b";").unwrap_or(text);
+    let mut others: Vec<u8> = Vec::new(rt.alloc());
+    let skip = cut_skip(text, &mut others)?;
     let mut full: Vec<u8> = Vec::new(rt.alloc());
     let mut gap: &[u8] = b"";
-    for part in text.split(|byte| *byte == b';') {
+    for part in others.as_slice().split(|byte| *byte == b';') {
         full.extend_from_slice(gap)?;
         full.extend_from_slice(part)?;
         gap = b";";
@@ -411,7 +460,10 @@ fn read_rule_in(
     }
     let mut buffer: Vec<u8> = Vec::new(rt.alloc());
     buffer.resize(full.len().saturating_add(1), 0)?;
-    Ok(read_timed_rule(full.as_slice(), buffer.as_mut_slice()))
+    match read_timed_rule(full.as_slice(), buffer.as_mut_slice()) {
+        Ok(rule) => Ok(Ok((rule, skip))),
+        Err(error) => Ok(Err(error)),
+    }
 }
 
 // What UNTIL lacks of a time in UTC: the end of its day, and the mark of UTC.
@@ -426,10 +478,15 @@ fn end_of_until(part: &[u8]) -> &'static [u8] {
 // Why a text is no rule over date-times.
 fn why_no_rule(error: TimedRuleError) -> &'static str {
     match error {
-        TimedRuleError::Frequency => "expected FREQ once, as FREQ=DAILY",
-        TimedRuleError::Part(_) => "BYHOUR, BYMINUTE or BYSECOND is there twice, or out of range",
-        TimedRuleError::Days(_) => "expected a rule as FREQ=DAILY;BYHOUR=9,17",
-        TimedRuleError::Until => "UNTIL: expected a date-time in UTC as 20241231T230000Z",
-        TimedRuleError::NotTogether => "its parts do not go together",
+        TimedRuleError::Part(ClockPart::ByHour) => "BYHOUR: there twice, or out of range",
+        TimedRuleError::Part(ClockPart::ByMinute) => "BYMINUTE: there twice, or out of range",
+        TimedRuleError::Part(ClockPart::BySecond) => "BYSECOND: there twice, or out of range",
+        TimedRuleError::Frequency | TimedRuleError::Days(_) => {
+            "FREQ: expected once one of SECONDLY, MINUTELY, HOURLY, DAILY, WEEKLY, MONTHLY and YEARLY"
+        }
+        TimedRuleError::Until => "UNTIL: expected a date-time in UTC as 20241231T230000Z, once",
+        TimedRuleError::NotTogether => {
+            "its parts do not go together: HOURLY with days of the year, or BYSETPOS with BYHOUR"
+        }
     }
 }

@@ -187,6 +187,20 @@ impl Asked<'_> {
         self.day_if(self.word_or_lines(place))
     }
 
+    // What the operand at a place names; without it what the clock shows, where nothing is piped in. Nothing stands for the lines of the input.
+    pub(crate) fn start_or_now(&mut self, place: usize) -> Option<Start> {
+        if self.words.operand(place).is_none() && is_alone(self.rt) {
+            return Some(Start::Stamp(self.shown()?));
+        }
+        match self.word_or_lines(place) {
+            Some(word) => {
+                self.none = self.reading.none_of_text(word.text.as_bytes());
+                Some(self.start(word))
+            }
+            None => None,
+        }
+    }
+
     // The day that a word names, if there is one.
     pub(crate) fn day_if(&mut self, word: Option<Word<'_>>) -> Option<NaiveDate> {
         match word {
@@ -225,7 +239,7 @@ impl Asked<'_> {
     pub(crate) fn year(&mut self, word: Word<'_>) -> i32 {
         let year = read_year(word.text.as_bytes());
         if year.is_none() {
-            self.wrong(word, "expected a year as 2024");
+            self.wrong(word, "expected a year as 2024, -0044 or +12024");
         }
         year.unwrap_or(1)
     }
@@ -250,11 +264,11 @@ impl Asked<'_> {
         Some(count)
     }
 
-    // The weekday that a word names.
-    pub(crate) fn weekday(&mut self, word: Word<'_>) -> Weekday {
+    // The weekday that a word names, where that is expected.
+    pub(crate) fn weekday(&mut self, word: Word<'_>, expected: &str) -> Weekday {
         let weekday = weekday_named(word.text);
         if weekday.is_none() {
-            self.wrong(word, "expected a weekday as mon");
+            self.wrong(word, expected);
         }
         weekday.unwrap_or(Weekday::Mon)
     }

@@ -1,5 +1,6 @@
 //! Days within lines: one field, or each word that is a day.
 
+use crate::fields::{Part, field_at, part_of, separator_named, separator_of_records};
 use crate::prelude::*;
 use chrono_reading::leading_digits;
 use std::io::Write;
@@ -16,7 +17,7 @@ pub(crate) const FIELD: Opt =
 
 /// `--separator`.
 pub(crate) const SEPARATOR: Opt = option!(
-    "--separator", "NAME"; "what parts fields (default: comma)",
+    "--separator", "NAME"; "what parts fields: comma, tab, semicolon or space\n(default: comma)",
     values: &["comma", "tab", "semicolon", "space"], default: "comma", any: false
 );
 
@@ -31,13 +32,6 @@ pub(crate) enum Within {
     Field(u64, u8),
 }
 
-/// Where a part of a line begins and ends.
-#[derive(Clone, Copy)]
-struct Part {
-    begin: usize,
-    end: usize,
-}
-
 impl Asked<'_> {
     // Takes which parts of a line are days.
     pub(crate) fn take_within(&mut self) {
@@ -45,7 +39,12 @@ impl Asked<'_> {
             self.within = Within::Words;
         }
         if let Some(number) = self.amount_if(FIELD.name) {
-            self.within = Within::Field(number, separator_named(self.option(SEPARATOR.name).text));
+            let separator = separator_named(self.option(SEPARATOR.name).text);
+            self.within = Within::Field(number, separator);
+            self.records.separator = separator_of_records(separator);
+        }
+        if !matches!(self.within, Within::Line) {
+            self.records.most = MOST_PRINTED;
         }
     }
 
@@ -76,8 +75,8 @@ impl Asked<'_> {
         if matches!(self.within, Within::Line) {
             return command.take_line(self, line);
         }
-        if line.len() >= MOST_BYTES {
-            return self.refuse_long();
+        if line.len() >= self.records.most {
+            return self.refuse_line(TOO_LONG);
         }
         let mut written = Vec::new(self.rt.alloc());
         let put = self.put_parts(command, line, &mut written);
@@ -86,15 +85,6 @@ impl Asked<'_> {
             let printed = io::writer(self.rt).write_all(written.as_slice());
             self.done(printed);
         }
-    }
-
-    // Ends since a line is too long to be printed whole.
-    pub(crate) fn refuse_long(&mut self) {
-        let mut said = Buffer::new(self.rt.alloc());
-        said.put("dates: line ");
-        said.show(&self.line);
-        said.put(" has 65536 bytes or more");
-        self.refuse(&said);
     }
 
     // Leaves a day in a line as it stands.
@@ -211,27 +201,11 @@ fn ends_in_digit(text: &str) -> bool {
     }
 }
 
-// The byte that parts fields.
-fn separator_named(name: &str) -> u8 {
-    match name {
-        "tab" => b'\t',
-        "semicolon" => b';',
-        "space" => b' ',
-        _ => b',',
-    }
-}
-
-// The bytes of a part.
-fn part_of(line: &[u8], part: Part) -> &[u8] {
-    line.get(part.begin..part.end).unwrap_or(b"")
-}
-
-// Whether a text is a day, or has the form of ISO 8601 of one that does not exist.
+// Whether a text is a day, or has the form of ISO 8601 or of the order of one that does not exist.
 fn is_day(reading: &Reading<'_>, text: &[u8]) -> bool {
     match reading.read(text) {
-        Ok(_) => true,
-        Err(Unreadable::Form(error)) => error.cause != ReadCause::NotThisForm,
-        Err(Unreadable::Pattern(_)) => false,
+        Err(Unreadable::Pattern(_)) => reading.pattern.is_none() && is_day_field(reading, text),
+        _ => is_day_field(reading, text),
     }
 }
 
@@ -309,15 +283,26 @@ fn word_end(line: &[u8], begin: usize) -> usize {
 }
 
 impl Reading<'_> {
-    // Whether a word of a line, or several, are a day. Without a pattern or an order they have a hyphen, and several, or a time, a colon.
+    // Whether a word of a line, or several, are a day. Without a pattern or an order they have a hyphen, and the last of several, or a time, a colon.
     fn is_taken(&self, text: &[u8], is_one: bool) -> bool {
         let is_plain = self.pattern.is_none() && matches!(self.order, Order::None);
         if is_one {
             let is_written = text.contains(&b'-') || self.takes_clock && text.contains(&b':');
             return (!is_plain || is_written) && is_day(self, text);
         }
-        (self.pattern.is_some() || text.contains(&b':')) && self.read(text).is_ok()
+        (self.pattern.is_some() || last_word(text).contains(&b':')) && self.read(text).is_ok()
     }
+}
+
+// What stands behind the last blank of a text.
+fn last_word(text: &[u8]) -> &[u8] {
+    let mut begin: usize = 0;
+    for place in 0..text.len() {
+        if text[place] == b' ' {
+            begin = place.saturating_add(1);
+        }
+    }
+    text.get(begin..).unwrap_or(b"")
 }
 
 // A word without the full stop or the colon at its end.
@@ -328,37 +313,5 @@ fn without_mark(line: &[u8], word: Part) -> Part {
             end: word.end.saturating_sub(1),
         },
         _ => word,
-    }
-}
-
-// The field of that number. One in quotation marks is what stands between them.
-fn field_at(whole: &[u8], number: u64, separator: u8) -> Option<Part> {
-    let line = whole.strip_suffix(b"\r").unwrap_or(whole);
-    let mut left = number;
-    let mut begin: usize = 0;
-    let mut is_quoted = false;
-    for end in 0..=line.len() {
-        if end < line.len() && (is_quoted || line[end] != separator) {
-            let is_mark = line[end] == b'"' && (is_quoted || end == begin);
-            is_quoted = is_quoted != is_mark;
-            continue;
-        }
-        left = left.saturating_sub(1);
-        if left == 0 {
-            return Some(unquoted(line, Part { begin, end }));
-        }
-        begin = end.saturating_add(1);
-    }
-    None
-}
-
-// A field without its quotation marks.
-fn unquoted(line: &[u8], field: Part) -> Part {
-    match part_of(line, field) {
-        [b'"', .., b'"'] => Part {
-            begin: field.begin.saturating_add(1),
-            end: field.end.saturating_sub(1),
-        },
-        _ => field,
     }
 }

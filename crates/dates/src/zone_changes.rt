@@ -42,10 +42,21 @@ pub(crate) fn answer(asked: &mut Asked<'_>) {
 fn print_set(asked: &mut Asked<'_>, zone: &OwnedZone, second: i64, year: Option<i32>) {
     let status = asked.status;
     match shown_in(zone, instant_at(second)) {
-        Some(shown) if is_in(shown, year) => asked.print_in(zone, shown),
+        Some(shown) if is_in(shown, year) && is_set(zone, shown) => asked.print_in(zone, shown),
         _ => {}
     }
     asked.end_by(status.min(asked.status));
+}
+
+// Whether a zone's clock is set at an instant, to another offset or another name. Some files have rows at which it is not.
+fn is_set(zone: &OwnedZone, shown: DateTime<FixedOffset>) -> bool {
+    let second = shown.timestamp();
+    let before = second.saturating_sub(1);
+    let Some(was) = shown_in(zone, instant_at(before)) else {
+        return true;
+    };
+    let is_other = was.timezone().local_minus_utc() != shown.timezone().local_minus_utc();
+    is_other || zone.abbreviation(before).unwrap_or("") != zone.abbreviation(second).unwrap_or("")
 }
 
 // Whether a date-time lies in a year, if one is asked for.

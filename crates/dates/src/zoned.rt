@@ -35,7 +35,7 @@ pub(crate) const ZONES: &str = zones!();
 /// The same of a command that answers lines too.
 pub(crate) const IN_ZONES: &str = zones!(
     "\nA time alone, as 12:00, is today's. With - in place of the time, or none, it\n\
-    answers each line of standard input."
+    answers each line of standard input, or now where nothing is piped in."
 );
 
 // The name of the machine's own zone.
