@@ -3,7 +3,7 @@
 
     benches/cron.py
 
-It needs crates/rows_cron/out/rows_cron, which `rt run` leaves there. A row `year` of it finds the next due moment after each of the
+It needs crates/rows_layers/out/rows_layers, which `rt run` leaves there. A row `year` of it finds the next due moment after each of the
 525,600 minutes of 365 days; what a row costs beyond one that only asks whether a moment is due, divided by them, is the time of a
 call, the making of the start and the sum included. A row `walk` of it does the same by trying one day of `iter_days` after another, but for a
 schedule that is never due, for which that goes to the end of the calendar. The best of seven runs counts, by processor time. The schedules that are due
@@ -19,7 +19,8 @@ import time
 
 sys.path.insert(0, os.path.join(os.path.dirname(os.path.dirname(os.path.abspath(__file__))), "checks"))
 from counted import day_of
-from cron import PROGRAM, Schedule
+from cron import Schedule
+from row_programs import NO_PROGRAM, PROGRAM, failed_rows, section
 
 TEXTS = ("* * * * *", "*/15 9-17 * * 1-5", "30 4 1,15 * 5", "0 0 29 2 *", "0 0 29 2 1", "0 0 30 2 *")
 MINUTES = 365 * 1440
@@ -33,7 +34,7 @@ def seconds_of(row):
     best = None
     for _ in range(ROUNDS):
         before = resource.getrusage(resource.RUSAGE_CHILDREN)
-        subprocess.run([PROGRAM], input=row + " = 0\n", text=True, stdout=subprocess.DEVNULL, check=True)
+        subprocess.run([PROGRAM], input=section("cron", [f"{row} = 0"]), text=True, stdout=subprocess.DEVNULL, check=True)
         after = resource.getrusage(resource.RUSAGE_CHILDREN)
         took = after.ru_utime + after.ru_stime - before.ru_utime - before.ru_stime
         best = took if best is None else min(best, took)
@@ -42,9 +43,7 @@ def seconds_of(row):
 
 def are_answered(schedule, calls):
     """Whether the program gives the sum of a year's next moments, by each of these calls, that the reading here counts."""
-    rows = "".join(f"{call} {schedule.words()} {FIRST} 0 0 = {schedule.year(FIRST)}\n" for call in calls)
-    ran = subprocess.run([PROGRAM], input=rows, text=True, stdout=subprocess.PIPE, check=True)
-    return ran.stdout == f"{len(calls)} lines, 0 of them answered otherwise\n"
+    return not failed_rows("cron", [f"{call} {schedule.words()} {FIRST} 0 0 = {schedule.year(FIRST)}" for call in calls])
 
 
 def croniter_nanos(text, schedule):
@@ -68,7 +67,7 @@ def croniter_nanos(text, schedule):
 
 def main():
     if not os.path.exists(PROGRAM):
-        print("not run: everything, since there is no crates/rows_cron/out/rows_cron")
+        print(f"not run: everything, since {NO_PROGRAM}")
         return 0
     try:
         import croniter  # noqa: F401

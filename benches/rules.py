@@ -3,7 +3,7 @@
 
     benches/rules.py
 
-It needs crates/rows_rules/out/rows_rules, which `rt run` and `rt ci` leave there. A row of it says how many calls of `next_after`, each from the day that the last one
+It needs crates/rows_layers/out/rows_layers, which `rt run` and `rt ci` leave there. A row of it says how many calls of `next_after`, each from the day that the last one
 gave, lead to the last instance of 400 years, which a walk over the days has found before: that is the call alone, 100,000 times. In another row all of these instances are looked for by
 `next_after`, read and tested by `is_instance`. dateutil gives the same instances one after another, which are compared first; and its `after` is asked, as `next_after` is, for the
 instance behind each of some days that lie evenly between the first and the last, which is compared too. The best of seven runs counts, by processor time.
@@ -18,7 +18,8 @@ import time
 TOP = os.path.dirname(os.path.dirname(os.path.abspath(__file__)))
 sys.path.insert(0, os.path.join(TOP, "checks"))
 import rules_days
-from rules_days import DAILY, MONTHLY, ROWS, WEEKLY, YEARLY, Date, Rule, at_midnight, made_by_dateutil, of_dateutil, restart_without, walked
+from row_programs import NO_PROGRAM, PROGRAM, section
+from rules_days import DAILY, MONTHLY, WEEKLY, YEARLY, Date, Rule, at_midnight, made_by_dateutil, of_dateutil, restart_without, walked
 
 CALLS = 100_000
 ASKED = 20
@@ -37,12 +38,12 @@ def rules():
     yield Rule(YEARLY, interval=4), Date(2000, 2, 29)
 
 
-def seconds_of(text):
+def seconds_of(rows):
     """The least processor time of the program over these rows, which have to be answered as they say."""
     best = None
     for _ in range(ROUNDS):
         before = resource.getrusage(resource.RUSAGE_CHILDREN)
-        ran = subprocess.run([ROWS], input=text, capture_output=True, text=True, check=True)
+        ran = subprocess.run([PROGRAM], input=section("rules", rows), capture_output=True, text=True, check=True)
         after = resource.getrusage(resource.RUSAGE_CHILDREN)
         if not ran.stdout.endswith(" 0 of them answered otherwise\n"):
             sys.exit(ran.stdout[:300])
@@ -79,13 +80,13 @@ def seconds_of_after(rule, start, days):
 
 
 def main():
-    if not os.path.exists(ROWS):
-        print("not run: everything, since there is no crates/rows_rules/out/rows_rules")
+    if not os.path.exists(PROGRAM):
+        print(f"not run: everything, since {NO_PROGRAM}")
         return
     restart_without(rules_days.rrule)
     if not rules_days.rrule:
         print("not run: dateutil, since it is not installed")
-    alone = seconds_of("")
+    alone = seconds_of([])
     print("| Rule | nanoseconds a call | an instance looked for, read and tested | dateutil | times as fast as that, by the call | as its `after` |\n|---|---|---|---|---|---|")
     for rule, start in rules():
         text = rule.text().replace(";WKST=MO", "").replace(";INTERVAL=1;", ";")
@@ -93,9 +94,9 @@ def main():
         rule.until = end - datetime.timedelta(1)
         days = walked(rule, start, end)
         copies = max(1, CALLS // len(days))
-        rows = (rule.row(start, days, True) + "\n") * copies
+        rows = [rule.row(start, days, True)] * copies
         nanos = (seconds_of(rows) - alone) / copies / len(days) * 1e9
-        rows = f"call {rule.text()} {start.toordinal()} *{len(days)} = {days[-1].toordinal()}\n" * copies
+        rows = [f"call {rule.text()} {start.toordinal()} *{len(days)} = {days[-1].toordinal()}"] * copies
         call = (seconds_of(rows) - alone) / copies / len(days) * 1e9
         other = seconds_of_dateutil(rule, start, days) if rules_days.rrule else None
         after = seconds_of_after(rule, start, days) if rules_days.rrule else None

@@ -4,12 +4,12 @@
     benches/rules_worst.py [--seed N] [--rules N] [--program FILE]
 
 It makes 10,000 random recurrence rules and as many random cron schedules, or as many as --rules says.
-The program crates/rows_rules asks each rule for its next and its previous instance: from the calendar's beginning, from a
-day of today's years, and from the calendar's end. crates/rows_cron asks each schedule in the same places.
+The program crates/rows_layers asks each rule for its next and its previous instance: from the calendar's beginning, from a
+day of today's years, and from the calendar's end. It asks each schedule in the same places.
 At first 64 calls share a process. The calls of the slowest processes then run alone. The slowest of those run seven times, and the best counts.
 The script prints the ten slowest with their processor times: of rules without INTERVAL, of those with one, and of schedules.
 It exits with status 1 if a call takes more than 50 ms, or more than 500 ms for a rule with INTERVAL, which makes the cycle long.
-`rt run` and `rt ci` leave the two programs in their out/ folders.
+`rt run` and `rt ci` leave the program in its out/ folder.
 """
 import argparse
 import os
@@ -19,8 +19,9 @@ import subprocess
 import sys
 
 TOP = os.path.dirname(os.path.dirname(os.path.abspath(__file__)))
-RULES = os.path.join(TOP, "crates", "rows_rules", "out", "rows_rules")
-SCHEDULES = os.path.join(TOP, "crates", "rows_cron", "out", "rows_cron")
+sys.path.insert(0, os.path.join(TOP, "checks"))
+from row_programs import PROGRAM, section
+
 FIRST, TODAY, LAST = -95_746_129, 739_000, 95_745_399
 WEEKDAYS = ("MO", "TU", "WE", "TH", "FR", "SA", "SU")
 LONGEST = 500
@@ -106,24 +107,24 @@ def schedule_rows(draw):
             yield f"{call} {row} {day} 0 0 = 0"
 
 
-def seconds_of(program, rows):
-    """The processor time of the program over the rows."""
+def seconds_of(program, layer, rows):
+    """The processor time of the program over rows of a layer."""
     before = resource.getrusage(resource.RUSAGE_CHILDREN)
-    subprocess.run([program], input="".join(row + "\n" for row in rows), text=True, stdout=subprocess.DEVNULL, check=True)
+    subprocess.run([program], input=section(layer, rows), text=True, stdout=subprocess.DEVNULL, check=True)
     after = resource.getrusage(resource.RUSAGE_CHILDREN)
     return after.ru_utime + after.ru_stime - before.ru_utime - before.ru_stime
 
 
-def slowest(program, groups):
+def slowest(program, layer, groups):
     """The slowest calls with their times. Each group of rows is one process, and the slowest groups are taken apart."""
-    timed = sorted(((seconds_of(program, rows), rows) for rows in groups), reverse=True, key=lambda it: it[0])
+    timed = sorted(((seconds_of(program, layer, rows), rows) for rows in groups), reverse=True, key=lambda it: it[0])
     found = []
     for whole, rows in timed:
         if len(found) >= SHOWN and whole < sorted(found, reverse=True)[SHOWN - 1][0]:
             break
-        found += [(seconds_of(program, [row]), row) for row in rows]
+        found += [(seconds_of(program, layer, [row]), row) for row in rows]
     shown = sorted(found, reverse=True)[:SHOWN]
-    return sorted(((min(seconds_of(program, [row]) for _ in range(RUNS)), row) for _, row in shown), reverse=True)
+    return sorted(((min(seconds_of(program, layer, [row]) for _ in range(RUNS)), row) for _, row in shown), reverse=True)
 
 
 def grouped(rows):
@@ -132,9 +133,9 @@ def grouped(rows):
     return [rows[it:it + AT_ONCE] for it in range(0, len(rows), AT_ONCE)]
 
 
-def shown(name, program, rows, most):
+def shown(name, program, layer, rows, most):
     """Prints the slowest of the calls. Returns whether each takes at most so many seconds."""
-    worst = slowest(program, grouped(rows))
+    worst = slowest(program, layer, grouped(rows))
     print(f"{name}, at most {most * 1000:.0f} ms:")
     for took, row in worst:
         print(f"{took * 1000:9.1f} ms  {row.removesuffix(' = 0')}")
@@ -146,17 +147,16 @@ def main():
     words = argparse.ArgumentParser()
     words.add_argument("--seed", type=int, default=1)
     words.add_argument("--rules", type=int, default=10_000)
-    words.add_argument("--program", default=RULES)
+    words.add_argument("--program", default=PROGRAM)
     given = words.parse_args()
     draw = random.Random(given.seed)
     texts = [rule(draw) for _ in range(given.rules)]
     plain = [row for text in texts if "INTERVAL" not in text for row in rule_rows(text)]
     spaced = [row for text in texts if "INTERVAL" in text for row in rule_rows(text)]
-    results = [shown("rules without INTERVAL", given.program, plain, MOST),
-               shown("rules with INTERVAL", given.program, spaced, MOST_OF_INTERVALS)]
-    if os.path.exists(SCHEDULES):
-        rows = [row for _ in range(given.rules) for row in schedule_rows(draw)]
-        results.append(shown("schedules", SCHEDULES, rows, MOST))
+    schedules = [row for _ in range(given.rules) for row in schedule_rows(draw)]
+    results = [shown("rules without INTERVAL", given.program, "rules", plain, MOST),
+               shown("rules with INTERVAL", given.program, "rules", spaced, MOST_OF_INTERVALS),
+               shown("schedules", given.program, "cron", schedules, MOST)]
     return 0 if all(results) else 1
 
 

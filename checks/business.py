@@ -2,9 +2,9 @@
 """Holds the calls of chrono_business to a walk day by day, and to numpy where it is installed.
 
     checks/business.py [--seed N]      (seed 1, if left out)
-    checks/business.py --write         writes the rows of crates/rows_business/stdin
+    checks/business.py --write         writes its rows in crates/rows_layers/stdin
 
-The program crates/rows_business answers rows; here they are made. Calendars: closed on Saturday and Sunday alone, with the
+The program crates/rows_layers answers rows; here they are made. Calendars: closed on Saturday and Sunday alone, with the
 federal holidays of the United States from 2020 to 2030 (5 U.S.C. 6103, each found by walking its month), on Friday and Saturday, on
 random weekdays with random holidays, never closed and never open. The walk goes over 400 years of each of two calendars, and asks of
 each day whether it is open and how many open days lie before it; all other calls are asked at random dates. `add_open_days` is
@@ -15,7 +15,7 @@ where it is installed; each holiday of the given calendars up to 2049, and of Ja
 Meeus's tables. So are the holidays of random rules in random years, listed with room for them or too little, lists without weekends, and two random
 calendars joined.
 
-It needs crates/rows_business/out/rows_business, which `rt run` and `rt ci` leave there.
+It needs crates/rows_layers/out/rows_layers, which `rt run` and `rt ci` leave there.
 """
 import argparse
 import bisect
@@ -26,13 +26,10 @@ import random
 import sys
 
 from equinoxes import equinox_of_japan
-from row_programs import TOP, failed_rows, program_of
+from row_programs import NO_PROGRAM, PROGRAM, TOP, failed_rows, write_rows
 
 sys.path.insert(0, os.path.join(TOP, "tools"))
 from debian import restart_without  # noqa: E402
-
-ROWS = program_of("rows_business")
-STDIN = os.path.join(TOP, "crates", "rows_business", "stdin")
 
 try:
     import numpy
@@ -570,14 +567,13 @@ def main():
     few += [made[1].row(), *by_rules(), *easters(1900, 2100)]
     few += lists(chance, 40)
     if given.write:
-        with open(STDIN, "w", encoding="utf-8") as it:
-            it.write("\n".join(few) + "\n")
+        write_rows("business", few)
         return 0
-    if not os.path.exists(ROWS):
-        print("there is no crates/rows_business/out/rows_business: `rt run` in crates/rows_business builds it\n0 passed, 1 failed")
+    if not os.path.exists(PROGRAM):
+        print(f"{NO_PROGRAM}: `rt run` in crates/rows_layers builds it\n0 passed, 1 failed")
         return 1
     restart_without(numpy)
-    parts = {"the rows of rows_business": few}
+    parts = {"the rows of rows_layers": few}
     for place, it in enumerate(made[:2]):
         parts[f"400 years day by day, calendar {place + 1}"] = [it.row(), *walked(it)]
     parts["Easter of 200,000 years"] = [made[1].row(), *easters(-100_000, 100_000)]
@@ -594,7 +590,7 @@ def main():
         parts["numpy"] = [row for it in open_ones for row in (it.row(), *by_numpy(chance, it, 1_500))]
     passed = failed = 0
     for name, rows in parts.items():
-        others = failed_rows(ROWS, rows)
+        others = failed_rows("business", rows)
         print(f"{name}: {len(rows)} rows, {others} answered otherwise")
         passed, failed = passed + len(rows) - others, failed + others
     print(f"{passed} passed, {failed} failed")

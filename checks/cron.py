@@ -2,7 +2,7 @@
 """Holds chrono_cron to a second reading of schedules, which tries days and minutes one after another.
 
     checks/cron.py [--rows N] [--seed N]      (20,000 generated rows, and ten times as many texts of fields and of schedules, from seed 1, if left out)
-    checks/cron.py --write                    (crates/rows_cron/stdin made again)
+    checks/cron.py --write                    (its rows in crates/rows_layers/stdin made again)
 
 A schedule is read here from its text of five fields, and a moment is due by the definition: its month, its hour and its minute are
 listed, and so are its day of the month and its weekday, or one of these where neither text begins with `*`. Days that a field names by
@@ -10,7 +10,7 @@ the month's end, its workdays or its weeks (`L`, `L-3`, `LW`, `15W`, `5L`, `5#2`
 found by trying each day from the start's on, and each minute of a day that passes, to the end of the calendar; a schedule of which
 no day passes in 400 years, in which days and weekdays come again, is never due. Calendar dates are those of checks/counted.py.
 
-The rows of crates/rows_cron/stdin are held to it, some answers that are written out, and generated ones: schedules with wide and with narrow fields, starts at
+The rows of schedules in crates/rows_layers/stdin are held to it, some answers that are written out, and generated ones: schedules with wide and with narrow fields, starts at
 both ends of the calendar, in leap seconds, at due moments and beside them; and for twelve schedules the next moment after every minute of
 a year, and all that the iterator gives, held to the minutes of a year that are due by the definition.
 
@@ -28,10 +28,7 @@ import sys
 from datetime import date as Date
 
 from counted import FIRST_DAY, LAST_DAY, day_of, name_of, weekday_of
-from row_programs import TOP, failed_rows, program_of
-
-ROWS = os.path.join(TOP, "crates", "rows_cron", "stdin")
-PROGRAM = program_of("rows_cron")
+from row_programs import NO_PROGRAM, PROGRAM, STDIN, failed_rows, standing_rows, write_rows
 
 FIELDS = ((0, 59), (0, 23), (1, 31), (1, 12), (0, 7))
 CYCLE = 146_097
@@ -804,18 +801,16 @@ def main():
     parser.add_argument("--write", action="store_true")
     arguments = parser.parse_args()
     if arguments.write:
-        with open(ROWS, "w", encoding="ascii") as file:
-            file.write("".join(f"{it}\n" for it in known()))
+        write_rows("cron", known())
         return 0
-    with open(ROWS, encoding="ascii") as file:
-        standing = file.read().splitlines()
+    standing = standing_rows("cron")
     passed, failed = int(standing == known()), int(standing != known())
     if failed:
-        print("the rows of crates/rows_cron/stdin are others than this reading gives")
+        print(f"the rows of schedules in {STDIN} are others than this reading gives")
     read_out = are_read_out() and are_due_out() and are_leap_days()
     passed, failed = passed + int(read_out), failed + int(not read_out)
     if not os.path.exists(PROGRAM):
-        print("not run: the rows by the program, since there is no crates/rows_cron/out/rows_cron")
+        print(f"not run: the rows by the program, since {NO_PROGRAM}")
         print(f"{passed} passed, {failed} failed")
         return failed
     start = (day_of(2023, 11, 15), 0, 0)
@@ -835,7 +830,7 @@ def main():
         ("iterators over 400 years", [row_of("cycle", Schedule(it), start) for it in CYCLES]),
         ("iterators over years", [row_of("dues", Schedule(it), start) for it in YEARS]),
     ):
-        others = failed_rows(PROGRAM, rows)
+        others = failed_rows("cron", rows)
         print(f"{name}: {len(rows)}, {others} of them answered otherwise (seed {arguments.seed})")
         passed, failed = passed + int(not others), failed + int(others > 0)
     print(f"{passed} passed, {failed} failed")

@@ -11,7 +11,7 @@ the command alone, whichever years the lines before it lie in. With `--json` eac
 and status and standard error are the same. A fifth of the commands is spoiled: a word is turned to one that cannot stand there, what has to follow is cut off, a word too many
 is put behind, or a day is one that its month has not. What is said of them has to name that word, its place and what was expected.
 
-Behind them the rules of crates/rows_rules are asked for, the date examples of RFC 5545 among them, with `--start` and with or without `--from` and `--count`; the
+Behind them the rules of crates/rows_layers are asked for, the date examples of RFC 5545 among them, with `--start` and with or without `--from` and `--count`; the
 answers are those that stand there.
 
 It needs crates/dates/out/dates, which `rt run` and `rt ci` leave there, and numpy and dateutil of Debian's Python.
@@ -36,6 +36,7 @@ import cron
 import robfig_schedules
 import rules_days
 import timed_schedules
+from row_programs import standing_rows
 
 TOP = os.path.dirname(os.path.dirname(os.path.abspath(__file__)))
 sys.path.insert(0, os.path.join(TOP, "tools"))
@@ -1049,10 +1050,9 @@ def rule_wanted(text):
 
 
 def examples():
-    """The rows of crates/rows_rules that ask for a rule's instances, as commands: all of them or as many as the row has, one of them, those behind one, and none."""
+    """The rows of crates/rows_layers that ask for a rule's instances, as commands: all of them or as many as the row has, one of them, those behind one, and none."""
     made = []
-    with open(rules_days.EXAMPLES, encoding="ascii") as rows:
-        rows = [words for words in map(str.split, rows) if words[0].startswith("3.") and words[3] == "="]
+    rows = [words for words in map(str.split, standing_rows("rules")) if words[0].startswith("3.") and words[3] == "="]
     for _, text, start, _, *days in rows:
         if days == ["none"]:
             error = re.compile(re.escape(f"dates: argument 2, {text}: ") + r"[^;]+" + re.escape(f"; {rule_wanted(text)}"))

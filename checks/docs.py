@@ -28,6 +28,7 @@ import ends  # noqa: E402
 import memory  # noqa: E402
 import outside  # noqa: E402
 import pasted as commands_pasted  # noqa: E402
+import row_programs  # noqa: E402
 import rules  # noqa: E402
 import statuses  # noqa: E402
 
@@ -391,8 +392,12 @@ def lines_of(tree, crate):
     return len(tree.files[f"crates/{crate}/stdin"].removesuffix("\n").split("\n"))
 
 
+def texts_read(tree):
+    return row_programs.sections(tree.files[row_programs.STDIN])["reading"]
+
+
 def texts_of_none(tree):
-    return sum(it.endswith(" = none") for it in tree.files["crates/rows_reading/stdin"].splitlines())
+    return sum(it.endswith(" = none") for it in texts_read(tree))
 
 
 def commands(tree):
@@ -485,8 +490,8 @@ COUNTS = [
     (r"(\w+) (?:cases|arms) or\s+more", lambda _: rules.MANY),
     (r"`(?P<crate>rows_chrono)` \(([\d,]+) single calls", lines_of),
     (r"`(?P<crate>rows_caltool)`\s+\(([\d,]+)\s+lines", lines_of),
-    (r"`(?P<crate>rows_reading)` \(([\d,]+) texts", lines_of),
-    (r"texts, ([\d,]+) of them of no value", texts_of_none),
+    (r"([\d,]+) texts of `rows_layers`", lambda tree: len(texts_read(tree))),
+    (r"`rows_layers`, ([\d,]+) of them of no value", texts_of_none),
     (r"`caltool` over ([\d,]+) lines", lambda tree: lines_of(tree, "rows_caltool")),
     (r"([\d,]+) rows of `rows_chrono` at the ends", rows_at_ends),
     (r"at the ends of the types of (\d+) calls", lambda _: len(ends.CALLS)),
@@ -561,7 +566,7 @@ PLANTED = [
     (comments, "crates/chrono_units/specs/Years.antt", "-- the days of a year\n", ""),
     (comments, "crates/chrono_naive/src/naive_date.rt", "impl NaiveDate {\n", "impl NaiveDate {\n    /// See [`NaiveDate::day_after`].\n"),
     (comments, "crates/chrono_naive/src/naive_date.rt", "impl NaiveDate {\n", "impl NaiveDate {\n    pub const FIRST: i32 = 1;\n"),
-    (crates, ARCHITECTURE, "rows_cron", "rows_of_cron"),
+    (crates, ARCHITECTURE, "rows_layers", "rows_of_layers"),
     (pasted, README, "| tools/prove caltool", "| tools/proved caltool"),
     (pasted, README, "`2025-02-28`", "`2025-02-27`"),
     (pasted, README, "# 2024-02-29 738945 Thu 2024-W09 60 ", "# 2024-02-29 738946 Thu 2024-W09 60 "),

@@ -3,7 +3,7 @@
 
     checks/rules_days.py [--seed N] [--rules N] [--walks N]      (seed 1, 600 rules and none walked besides, if left out)
 
-The program crates/rows_rules answers rows; here they are made. dateutil's rrule gives the first instances of random rules, of the parts that
+The program crates/rows_layers answers rows; here they are made. dateutil's rrule gives the first instances of random rules, of the parts that
 RFC 5545 allows together, and its rruleset those of the same with dates beside them and exceptions (RDATE, EXDATE). A walk by RFC 5545, 3.3.10, asks of each day of
 400 years whether it is an instance of some rules, and of as many random ones as --walks says. What is written for random rules is beside a second writing, and read again.
 
@@ -18,10 +18,10 @@ Where dateutil reads the RFC otherwise, no such rule is made for it, and the wal
 - BYWEEKNO=52 and 53. Days from 1 January on that lie in the last week of the year before have its number, by ISO 8601, as 3.3.10 asks: 1 January 2011
   is in week 52. dateutil counts that year's weeks by the length of the next one (`lnumweeks`), and has the day in week 53.
 
-The instances of the RFC's examples in crates/rows_rules are walked again too, but where dates stand beside the rule.
+The instances of the RFC's examples in crates/rows_layers are walked again too, but where dates stand beside the rule.
 
 A start that is no instance is none for both: dateutil does not give it either, and COUNT does not count it.
-It needs crates/rows_rules/out/rows_rules, which `rt run` and `rt ci` leave there.
+It needs crates/rows_layers/out/rows_layers, which `rt run` and `rt ci` leave there.
 """
 import argparse
 import calendar
@@ -32,13 +32,11 @@ import random
 import resource
 import sys
 
-from row_programs import TOP, failed_rows, program_of
+from row_programs import NO_PROGRAM, PROGRAM, TOP, failed_rows, standing_rows
 
 sys.path.insert(0, os.path.join(TOP, "tools"))
 from debian import restart_without  # noqa: E402
 
-ROWS = program_of("rows_rules")
-EXAMPLES = os.path.join(TOP, "crates", "rows_rules", "stdin")
 DAILY, WEEKLY, MONTHLY, YEARLY = range(4)
 FREQUENCIES = ("DAILY", "WEEKLY", "MONTHLY", "YEARLY")
 WEEKDAYS = ("MO", "TU", "WE", "TH", "FR", "SA", "SU")
@@ -85,7 +83,7 @@ class Rule:
         return ";".join(f"{name}={value}" for name, value in parts if value)
 
     def row(self, start, days, ended, dates=(), exceptions=()):
-        """A row of rows_rules."""
+        """A row of rows_layers."""
         beside = [f"+{it.toordinal()}" for it in dates] + [f"-{it.toordinal()}" for it in exceptions]
         words = ["rule", self.text(), start.toordinal(), *beside, "=", *(it.toordinal() for it in days), *(["end"] if ended else [])]
         return " ".join(map(str, words))
@@ -221,8 +219,7 @@ def rule_of(text):
 
 def examples():
     """How many of the RFC's examples have the instances of a walk, and how many have not."""
-    with open(EXAMPLES, encoding="ascii") as it:
-        rows = [words for words in map(str.split, it) if words[0].startswith("3.8.5.3/") and words[3] == "="]
+    rows = [words for words in map(str.split, standing_rows("rules")) if words[0].startswith("3.8.5.3/") and words[3] == "="]
     otherwise = []
     for name, text, start, _, *days in rows:
         start, rule, ended = Date.fromordinal(int(start)), rule_of(text), days[-1] == "end"
@@ -237,8 +234,7 @@ def examples():
 
 def searches():
     """How many questions from an end of the calendar are answered as the rows say, and all of them in little time."""
-    with open(EXAMPLES, encoding="ascii") as it:
-        rows = [line.strip() for line in it if line.startswith(("after ", "before ")) and " -95746129 " in line]
+    rows = [it for it in standing_rows("rules") if it.startswith(("after ", "before ")) and " -95746129 " in it]
     before = resource.getrusage(resource.RUSAGE_CHILDREN)
     passed, failed = asked("over the whole calendar", rows)
     after = resource.getrusage(resource.RUSAGE_CHILDREN)
@@ -376,7 +372,7 @@ def texts(rule):
 
 def asked(name, rows):
     """How many rows hold and how many do not; the first that do not are printed."""
-    failed = failed_rows(ROWS, rows)
+    failed = failed_rows("rules", rows)
     print(f"{name}: {len(rows) - failed} of {len(rows)}")
     return len(rows) - failed, failed
 
@@ -387,8 +383,8 @@ def main():
     wanted.add_argument("--rules", type=int, default=600)
     wanted.add_argument("--walks", type=int, default=0)
     options = wanted.parse_args()
-    if not os.path.exists(ROWS):
-        print("not run: everything, since there is no crates/rows_rules/out/rows_rules")
+    if not os.path.exists(PROGRAM):
+        print(f"not run: everything, since {NO_PROGRAM}")
         return 0
     restart_without(rrule)
     chance = random.Random(options.seed)

@@ -1,5 +1,5 @@
 #!/usr/bin/env python3
-"""A second opinion on the rows of rows_reading: each text read here by the grammar of docs/reference/definitions.md and counted.
+"""A second opinion on the rows of texts in rows_layers: each text read here by the grammar of docs/reference/definitions.md and counted.
 
     checks/texts.py
 
@@ -9,15 +9,12 @@ kind of text has rows of a value and rows of none.
 Where there is Debian's chrono it reads the texts too, all but durations and date-times with a space. It has to read the same, but
 where it is laxer by docs/chrono.md: a text of no value may be one of its, by a second grammar that holds what is listed there.
 """
-import os
 import re
 import sys
 
 from counted import LONGEST, NANOS, day_in_year, day_of, day_of_week_date
+from row_programs import standing_rows
 from rows import LACKS, by_chrono, chrono_version, why_no_chrono
-
-TOP = os.path.dirname(os.path.dirname(os.path.abspath(__file__)))
-ROWS = os.path.join(TOP, "crates", "rows_reading", "stdin")
 
 # Four digits, or a sign and the digits of a year past those: of a year below 0, at least four.
 YEAR = r"([0-9]{4}|[+][1-9][0-9]{4,}|-(?!0000)[0-9]{4}|-[1-9][0-9]{4,})"
@@ -120,8 +117,7 @@ def in_full(answer):
 
 def read_rows():
     """The kinds, the texts and what they are read as."""
-    with open(ROWS, encoding="utf-8", newline="") as it:
-        return [re.fullmatch(r"(\w+) (.*?) = (.+)", line).groups() for line in it.read().removesuffix("\n").split("\n")]
+    return [re.fullmatch(r"(\w+) (.*?) = (.+)", line).groups() for line in standing_rows("reading")]
 
 
 def read_otherwise(rows):

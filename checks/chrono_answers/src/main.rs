@@ -1,5 +1,5 @@
 //! What chrono answers to the calls that `crates/rows_chrono/stdin` has rows of, and how it reads the texts of
-//! `crates/rows_reading/stdin`, for `checks/rows.py` and `checks/texts.py`.
+//! `crates/rows_layers/stdin`, for `checks/rows.py` and `checks/texts.py`.
 //!
 //! It reads a call with its arguments, or a kind of text and a text, from each line of standard input, as they stand in a row,
 //! and writes the answer in the words of a row: `-` where version 0.4.23 lacks the call or means something else by it, `!` where

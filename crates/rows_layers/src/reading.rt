@@ -1,40 +1,20 @@
-//! `rows_reading` reads the text of each line of standard input by the call that stands before it, and compares what it
-//! reads with the numbers behind it: texts that another library printed, and texts that are near to these and are those of
-//! no value.
+//! Rows of texts that are read. Another library printed some of them; others are near to these and have no value.
 //!
-//! A line is `call text = numbers`, as `date 2024-02-29 = 738945`: a date is its day number, a time of day its second and its
-//! fraction, a date-time all three, a duration its seconds rounded towards zero and the nanoseconds past them, a weekday 1,
-//! Monday, to 7, a month 1 to 12, and `none` is no value. Each line that is read otherwise is printed with its number, and at
-//! the end their count.
-#![tactic(auto)]
+//! A row is `call text = numbers`, as `date 2024-02-29 = 738945`. The numbers are those of the value, and `none` is no value.
+//! A date is its day number, a time of day its second and its fraction, and a date-time all three. A duration is its seconds
+//! rounded towards zero, and the nanoseconds past them. A weekday is 1, Monday, to 7, and a month 1 to 12.
 
 use chrono_datetime::{Datelike, NaiveDate, NaiveDateTime, NaiveTime, TimeDelta, Timelike};
 use chrono_reading::{
     read_date, read_date_time, read_duration, read_month, read_ordinal_date, read_time,
     read_week_date, read_weekday,
 };
-use rows_lines::{Rows, check_rows};
-use std::io;
 
 // The numbers of a value, 0 for those that it does not have.
 type RowNumbers = (i64, i64, i64);
 
-// The texts of the rows.
-#[derive(Drop)]
-struct Texts;
-
-impl Rows for Texts {
-    fn agrees(&mut self, row: &str) -> io::Result<bool> {
-        Ok(is_read(row))
-    }
-}
-
-fn main(rt: HostRuntime) -> io::Result<()> {
-    check_rows(&rt, &mut Texts, "read")
-}
-
-// Whether the text of the line is read as the numbers behind it.
-fn is_read(line: &str) -> bool {
+/// Whether the text of the line is read as the numbers behind it.
+pub fn is_answered(line: &str) -> bool {
     let Some((call, rest)) = line.split_once(' ') else {
         return false;
     };

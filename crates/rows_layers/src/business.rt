@@ -1,14 +1,16 @@
-//! `rows_business` makes the call of each line of standard input on the calendar of the last line that names one, and
-//! compares the answer with the numbers behind it.
+//! Rows of calls on the calendar of the last row that names one.
 //!
-//! A line is a calendar, as `calendar 1111100 738886 738900`: of each weekday from Monday on whether it is worked,
-//! and the holidays; or `call numbers = answer`, as `add 738886 3 = 738890`. A date is its day number, a count has a
-//! sign, a roll is a word, `none` is no date. Lines `rule ..` are rules of holidays, those behind a line `rules` alone, and a line
-//! `other ..` is a second calendar; `listed 2020 2030 99 = 12`, `left = 12` and `joined 738886 738900 99 = 12` are the holidays of the
-//! rules, the list without weekends and the two calendars joined, by lists of so many places (see `lists`). On a calendar that is refused a line is `refused on_weekend 2`: what is
-//! wrong, and at which place of the list. Each line with another answer is printed with its number, and at the end their
-//! count.
-#![tactic(auto)]
+//! A row is a calendar, as `calendar 1111100 738886 738900`: of each weekday from Monday on whether it is worked, and the
+//! holidays. Or it is `call numbers = answer`, as `add 738886 3 = 738890`. A date is its day number, a count has a sign, a
+//! roll is a word, and `none` is no date. On a calendar that is refused a row is `refused on_weekend 2`: what is wrong, and
+//! at which place of the list.
+//!
+//! Rows `rule ..` are rules of holidays, and a row `rules` forgets those before it. A row `other ..` is a second calendar.
+//! Three calls are answered by lists, two of them of as many places as their last number says (see `lists`):
+//!
+//! - `listed 2020 2030 99 = 12`, by the holidays of the rules;
+//! - `left = 12`, by the list of the calendar without weekends;
+//! - `joined 738886 738900 99 = 12`, by the two calendars joined.
 
 mod lists;
 mod named;
@@ -18,26 +20,7 @@ use chrono_business::{
     Calendar, HolidayError, Roll, actual_360, actual_actual_isda, thirty_360, thirty_e_360,
 };
 use chrono_datetime::{Datelike, NaiveDate};
-use named::Named;
-use rows_lines::check_rows;
-use std::io;
-
-fn main(rt: HostRuntime) -> io::Result<()> {
-    let mut named = Named::new(rt.alloc(), rt.alloc(), rt.alloc());
-    check_rows(&rt, &mut named, "answered")
-}
-
-pub(crate) fn date_of(word: &str) -> Option<NaiveDate> {
-    NaiveDate::from_num_days_from_ce_opt(word.parse().ok()?)
-}
-
-// Whether the words say the number, or that there is none.
-pub(crate) fn is_said(number: Option<i64>, answer: &str) -> bool {
-    match number {
-        Some(number) => answer.parse() == Ok(number),
-        None => answer == "none",
-    }
-}
+pub use named::Named;
 
 // Whether the line says what is wrong with the holidays.
 pub(crate) fn is_refused(wrong: HolidayError, line: &str) -> bool {

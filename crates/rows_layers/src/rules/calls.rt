@@ -1,6 +1,6 @@
 //! Each call of a rule, tried at each of its instances.
 
-use crate::day_of;
+use crate::date_of;
 use chrono_datetime::{AndTime, NaiveDate, NaiveDateTime};
 use chrono_rules::Rule;
 
@@ -16,7 +16,7 @@ pub fn are_instances(rule: &Rule, start: NaiveDate, days: &str) -> Option<bool> 
         if word == "end" {
             return Some(next.is_none() && moment.is_none());
         }
-        let day = day_of(word)?;
+        let day = date_of(word)?;
         number = number.wrapping_add(1);
         if next != Some(day) || moment != noon_of(day) || rule.count_to(start, day) != number {
             return Some(false);

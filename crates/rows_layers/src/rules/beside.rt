@@ -1,6 +1,6 @@
 //! What a line has beside its rule: dates and exceptions.
 
-use crate::day_of;
+use crate::date_of;
 use chrono_datetime::NaiveDate;
 use chrono_rules::{Recurrence, Rule};
 use std::alloc::Allocator;
@@ -28,8 +28,8 @@ impl<A: Allocator> Beside<A> {
         self.exceptions.clear();
         let mut some = false;
         for word in row.split_ascii_whitespace() {
-            let date = word.strip_prefix("+").and_then(day_of);
-            let exception = word.strip_prefix("-").and_then(day_of);
+            let date = word.strip_prefix("+").and_then(date_of);
+            let exception = word.strip_prefix("-").and_then(date_of);
             if let Some(day) = date {
                 self.dates.push(day)?;
                 some = true;
@@ -65,7 +65,7 @@ fn are_days(recurrence: &Recurrence<'_>, days: &str) -> Option<bool> {
         if word == "end" {
             return Some(next.is_none());
         }
-        let day = day_of(word)?;
+        let day = date_of(word)?;
         if next != Some(day) || !recurrence.is_instance(day) {
             return Some(false);
         }

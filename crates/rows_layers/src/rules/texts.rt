@@ -1,4 +1,4 @@
-//! Rows of texts: `text TEXT = LINE`, with the text that is written for the rule of a text, or with the line that says what is wrong with it.
+//! Rows of texts: `text TEXT = LINE`. The line is the text that is written for the rule of the text, or says what is wrong with that.
 use chrono_rules::Rule;
 use std::alloc::Allocator;
 use std::{fmt, io};

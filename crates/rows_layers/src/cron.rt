@@ -1,28 +1,30 @@
-//! `rows_cron` makes the call of each line of standard input, and compares what it answers with the number behind it.
+//! Rows of calls of a schedule.
 //!
-//! A line is `call minutes hours days months weekdays from_end nearest_workdays last_weekdays nth_weekdays last_workday either day second
-//! fraction = number`. The nine sets are numbers whose binary digits are their members, `last_workday` is 1 where the month's last workday
-//! is named, `either` where a day of the month or a weekday is enough, and the start is a day number, a second
-//! of the day and the nanoseconds past it. The calls are `next` and `prev`, answered by the number of minutes from day 0 to the moment,
-//! `due` and `never`, by 1 or 0, `year`, by the sum of those numbers of minutes over the next moments after each minute of 365 days,
-//! in 64 binary digits, `walk`, the same by trying one day after another, and `dues`, by those of the moments that the iterator gives up to 365 days past the start's, each added to 31
-//! times what came before, and `cycle`, the same over 400 years. `none` is no moment. Each line that is answered otherwise is printed
-//! with its number, and at the end their count.
+//! A row is `call minutes hours days months weekdays from_end nearest_workdays last_weekdays nth_weekdays last_workday either day second
+//! fraction = number`. The nine sets are numbers whose binary digits are their members. `last_workday` is 1 where the month's last workday
+//! is named, and `either` where a day of the month or a weekday is enough. The start is a day number, a second of the day and the
+//! nanoseconds past it. The calls are:
 //!
-//! Other calls have other lines. `text` has the eleven numbers of a schedule alone, and is answered by its text. `field low high names text = number`
+//! - `next` and `prev`, answered by the number of minutes from day 0 to the moment, or by `none` where there is no moment;
+//! - `due` and `never`, answered by 1 or 0;
+//! - `year`, by the sum of those minutes over the next moments after each minute of 365 days, in 64 binary digits;
+//! - `walk`, by the same, which is found by trying one day after another;
+//! - `dues`, by the minutes to the moments that the iterator gives up to 365 days past the start's, each added to 31 times what came before;
+//! - `cycle`, by the same over 400 years.
+//!
+//! Other calls have other rows. `text` has the eleven numbers of a schedule alone, and is answered by its text. `field low high names text = number`
 //! reads the text of a field, with the names of `months` or `weekdays` or with `numbers` alone, and is answered by its set.
 //!
 //! Two calls read whole texts. `read text = numbers` is answered by the eleven numbers of the schedule, and by `none` where the text is none.
 //! `dues_of day second fraction text = numbers` is answered by the minutes to as many moments that are due after the start as there are numbers.
 //! `error text = field byte fault` is a text that is no schedule's: see `errors`.
-#![tactic(auto)]
 
 mod errors;
 
+use crate::is_said;
 use chrono_cron::{FieldSets, MonthDays, Names, NumberSet, Schedule, read_field, read_schedule};
 use chrono_datetime::{Datelike, NaiveDate, NaiveDateTime, NaiveTime, Timelike};
 use chrono_text::Text;
-use std::io::{self, BufRead, BufReader};
 use std::str::SplitAsciiWhitespace;
 
 // The seconds of a minute, the minutes of a day, the days of a year, and those of 400 years.
@@ -37,22 +39,8 @@ const CYCLE: i32 = 146_097;
 // No text of a schedule is longer.
 const LONGEST: usize = 1_000;
 
-fn main(rt: HostRuntime) -> io::Result<()> {
-    let (mut lines, mut others) = (0u64, 0u64);
-    for line in BufReader::new(rt.alloc(), rt.reader())?.lines(rt.alloc()) {
-        let line = line?;
-        lines = lines.wrapping_add(1);
-        if !is_answered(line.as_str()) {
-            others = others.wrapping_add(1);
-            println!(rt; "line {lines} is answered otherwise: {line}")?;
-        }
-    }
-    println!(rt; "{lines} lines, {others} of them answered otherwise")?;
-    Ok(())
-}
-
-// Whether the call of the line is answered by the number behind it.
-fn is_answered(line: &str) -> bool {
+/// Whether the call of the line is answered by the number behind it.
+pub fn is_answered(line: &str) -> bool {
     let Some((row, expected)) = line.rsplit_once(" = ") else {
         return false;
     };
@@ -157,10 +145,7 @@ fn is_found(call: &str, arguments: &str, expected: &str) -> bool {
         "walk" => Some(sum_of_year(&schedule, start.date(), true)),
         _ => return false,
     };
-    match answer {
-        Some(number) => expected.parse() == Ok(number),
-        None => expected == "none",
-    }
+    is_said(answer, expected)
 }
 
 // The schedule and the start that stand in a row.

@@ -1,42 +1,28 @@
-//! `rows_rules` finds the instances of the rule of each line of standard input, and compares them with the days behind it.
+//! Rows of rules and the days that are their instances.
 //!
-//! A line is `name rule start = days`, with the rule's text, as `FREQ=DAILY;COUNT=10`. Days are day numbers; `end` behind them says that
-//! the rule ends there, and `none` in their place that the text writes no rule. Each line that is answered otherwise is printed with its
-//! number, and at the end their count. Words `+day` and `-day` behind the start are dates beside the instances and exceptions, and `refused`
-//! in place of the days says that these do not rise. A word `*times` there says that so many calls of `next_after`, each from the day that the
-//! last one gave, lead to the day, and a word `calls` that each other call of the rule is tried at each day: see `calls`. Other lines are rows of
-//! texts that are written: see `texts`.
+//! A row is `name rule start = days`, with the rule's text, as `FREQ=DAILY;COUNT=10`. Days are day numbers. `end` behind them says that
+//! the rule ends there, and `none` in their place that the text writes no rule. Behind the start may stand other words:
 //!
-//! A line `after rule start day = found` compares what `next_after` returns with a day or with `none`, and `before` does so for `prev_before`.
-#![tactic(auto)]
+//! - `+day` and `-day` are dates beside the instances and exceptions; `refused` in place of the days says that these do not rise;
+//! - `*times` says that so many calls of `next_after`, each from the day that the last one gave, lead to the day;
+//! - `calls` says that each other call of the rule is tried at each day: see `calls`.
+//!
+//! A row `after rule start day = found` compares what `next_after` returns with a day or with `none`, and `before` does so for `prev_before`.
+//! Rows `text ..` are of texts that are written: see `texts`.
 
 mod beside;
 mod calls;
 mod texts;
 
-use beside::Beside;
+use crate::date_of;
+pub use beside::Beside;
 use chrono_datetime::NaiveDate;
 use chrono_rules::{End, Rule, read_rule};
 use std::alloc::Allocator;
-use std::io::{self, BufRead, BufReader};
+use std::io;
 
-fn main(rt: HostRuntime) -> io::Result<()> {
-    let (mut lines, mut others) = (0u64, 0u64);
-    let mut beside = Beside::new(rt.alloc(), rt.alloc());
-    for line in BufReader::new(rt.alloc(), rt.reader())?.lines(rt.alloc()) {
-        let line = line?;
-        lines = lines.wrapping_add(1);
-        if !is_answered(line.as_str(), &mut beside, rt.alloc())? {
-            others = others.wrapping_add(1);
-            println!(rt; "line {lines} is answered otherwise: {line}")?;
-        }
-    }
-    println!(rt; "{lines} lines, {others} of them answered otherwise")?;
-    Ok(())
-}
-
-// Whether the line's rule is answered as the line says.
-fn is_answered<A: Allocator>(
+/// Whether the line's rule is answered as the line says.
+pub fn is_answered<A: Allocator>(
     line: &str,
     beside: &mut Beside<A>,
     alloc: impl Allocator,
@@ -85,8 +71,8 @@ fn is_found(call: &str, answer: &str, before: bool) -> Option<bool> {
 fn arguments_of_call(call: &str) -> Option<(&str, NaiveDate, NaiveDate)> {
     let mut words = call.split_ascii_whitespace();
     let text = words.next()?;
-    let start = day_of(words.next()?)?;
-    Some((text, start, day_of(words.next()?)?))
+    let start = date_of(words.next()?)?;
+    Some((text, start, date_of(words.next()?)?))
 }
 
 // Whether `next_after` returns the day that a word writes, or `None` for `none`. With `before`, it is `prev_before`.
@@ -97,7 +83,7 @@ fn is_returned(rule: &Rule, start: NaiveDate, day: NaiveDate, answer: &str, befo
         rule.next_after(start, day)
     };
     match found {
-        Some(date) => day_of(answer) == Some(date),
+        Some(date) => date_of(answer) == Some(date),
         None => answer == "none",
     }
 }
@@ -121,7 +107,7 @@ fn arguments_of(row: &str) -> Option<(&str, NaiveDate)> {
     let mut words = row.split_ascii_whitespace();
     let _ = words.next()?;
     let text = words.next()?;
-    Some((text, day_of(words.next()?)?))
+    Some((text, date_of(words.next()?)?))
 }
 
 // The word `*times` of a row.
@@ -140,7 +126,7 @@ fn leads_to(rule: &Rule, start: NaiveDate, times: u32, day: &str) -> Option<bool
     for _ in 0..times {
         last = rule.next_after(start, last)?;
     }
-    Some(last == day_of(day)?)
+    Some(last == date_of(day)?)
 }
 
 // Whether the row has the word `calls`.
@@ -176,15 +162,10 @@ fn are_instances(rule: &Rule, start: NaiveDate, days: &str) -> Option<bool> {
             return Some(next.is_none() && rule.end != End::Never);
         }
         let next = next?;
-        if next != day_of(word)? || !rule.is_instance(start, next) {
+        if next != date_of(word)? || !rule.is_instance(start, next) {
             return Some(false);
         }
         last = next;
     }
     Some(true)
-}
-
-// The date with the day number that a word writes.
-fn day_of(word: &str) -> Option<NaiveDate> {
-    NaiveDate::from_num_days_from_ce_opt(word.parse().ok()?)
 }

@@ -1,9 +1,9 @@
-//! What the lines so far have named: a calendar, a second one, and rules of holidays.
+//! What the rows so far have named: a calendar, a second one, and rules of holidays.
 
-use crate::{answer_of, date_of, is_refused, is_said, lists};
+use crate::business::{answer_of, is_refused, lists};
+use crate::{date_of, is_said};
 use chrono_business::{Calendar, HolidayRule};
 use chrono_datetime::{NaiveDate, Weekday, WeekdaySet};
-use rows_lines::Rows;
 use std::alloc::Allocator;
 use std::io;
 
@@ -29,8 +29,13 @@ impl<A: Allocator> Named<A> {
         }
     }
 
-    /// Takes what the line names; whether it names anything.
-    pub fn names(&mut self, line: &str) -> io::Result<bool> {
+    /// Whether the row names something, which is taken, or its call has the answer behind it.
+    pub fn agrees(&mut self, row: &str) -> io::Result<bool> {
+        Ok(self.names(row)? || self.is_answered(row))
+    }
+
+    // Takes what the line names; whether it names anything.
+    fn names(&mut self, line: &str) -> io::Result<bool> {
         let (kind, rest) = line.split_once(' ').unwrap_or((line, ""));
         match kind {
             "calendar" => self.weekend = take_days(&mut self.holidays, rest)?,
@@ -44,8 +49,8 @@ impl<A: Allocator> Named<A> {
         Ok(true)
     }
 
-    /// Whether the call of the line has the answer behind it.
-    pub fn is_answered(&self, line: &str) -> bool {
+    // Whether the call of the line has the answer behind it.
+    fn is_answered(&self, line: &str) -> bool {
         let (call, answer) = line.split_once(" = ").unwrap_or((line, ""));
         let (name, words) = call.split_once(' ').unwrap_or((call, ""));
         match name {
@@ -64,12 +69,6 @@ impl<A: Allocator> Named<A> {
         let first = Calendar::try_new(self.weekend, self.holidays.as_slice()).ok()?;
         let second = Calendar::try_new(self.other_weekend, self.other_holidays.as_slice()).ok()?;
         lists::joined(&first, &second, words)
-    }
-}
-
-impl<A: Allocator> Rows for Named<A> {
-    fn agrees(&mut self, row: &str) -> io::Result<bool> {
-        Ok(self.names(row)? || self.is_answered(row))
     }
 }
 
