@@ -10,7 +10,7 @@ pub(crate) fn command() -> &'static CommandRow {
         &[WEEKEND, CALENDAR, HOLIDAYS, ZONED, NOW, UNIX, PARSE, ORDER, FORMAT, LONG, WITHIN, FIELD, SEPARATOR, JSON, HELP];
         help: "move a day or a date-time by each span in turn",
         more: "A SPAN is a whole number of days, weeks, months or years, as 3d, -2w, 1mo and\n\
-            4y, or of open days, as 5b. Of a day, 1m is 1mo too. Also 1y2mo, P1Y2M, '3 days'.\n\
+            4y, or of open days, as 5b. Of a day 1m is 1mo too. Also 1y2mo, P1Y2M, '3 days'.\n\
             A month or a year leads to the same day of its month, or to its last where that\n\
             is shorter.\n\
             A date-time in place of the day is moved by times too: 36h, 90min, 15s, and\n\

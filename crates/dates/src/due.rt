@@ -242,7 +242,12 @@ impl Asked<'_> {
         match read_schedule(word.text.as_bytes()) {
             Ok(schedule) => Some(schedule),
             Err(error) => {
-                self.wrong_by(word, &error, "; expected a schedule as '30 4 1,15 * 5'");
+                let expected = if word.text.contains("FREQ=") {
+                    "; dates rule takes a rule as FREQ=DAILY"
+                } else {
+                    "; expected a schedule as '30 4 1,15 * 5'"
+                };
+                self.wrong_by(word, &error, expected);
                 None
             }
         }

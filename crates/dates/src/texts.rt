@@ -462,7 +462,7 @@ fn offset_in_full(offset: &[u8]) -> Joined {
 }
 
 // That a text has no form, as that byte shows.
-fn no_form(byte: usize) -> ReadError {
+pub(crate) fn no_form(byte: usize) -> ReadError {
     let cause = ReadCause::NotThisForm;
     ReadError { cause, byte }
 }

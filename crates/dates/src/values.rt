@@ -79,6 +79,9 @@ impl Reading<'_> {
     // The day, the date-time or the instant that a text names; by seconds an instant alone. A line may end in a carriage return.
     pub(crate) fn read(&self, text: &[u8]) -> Result<Start, Unreadable> {
         let text = text.strip_suffix(b"\r").unwrap_or(text);
+        if text.len() >= MOST_BYTES {
+            return Err(Unreadable::Form(no_form(0)));
+        }
         if let Some(pattern) = &self.pattern {
             return Ok(read_by(pattern, text)?);
         }
