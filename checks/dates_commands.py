@@ -241,11 +241,11 @@ def apart(start, end, unit):
 
 
 def parts(start, end):
-    """Years, months and days between two days."""
-    years = apart(start, end, "y")
-    on = moved(start, years, "y")
-    whole = max(-11, min(11, apart(on, end, "m")))
-    return years, whole, (end - moved(on, whole, "m")).days
+    """Years, months and days between two days: the most whole months, of which twelve are a year, and then days."""
+    whole = apart(start, end, "m")
+    sign = 1 if start <= end else -1
+    years, months = divmod(abs(whole), 12)
+    return sign * years, sign * months, (end - moved(start, whole, "m")).days
 
 
 def a_count(chance, wide):

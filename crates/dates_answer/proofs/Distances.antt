@@ -19,7 +19,7 @@ stays Months n z date e = ap (month_move n) e ∙ date_every-start n (pos 0) 0 d
 stays Years n z date e = ap (month_move n) (omega (arith, signed, e)) ∙ date_every-start n (pos 0) 0 date refl
 
 -- a move by z comes to a day that lies z units on
-pub lies_on : (unit : Unit) (n z m : ℤ) → unit_move unit n z ≡ Some m → units_apart unit n m ≡ z
+lies_on : (unit : Unit) (n z m : ℤ) → unit_move unit n z ≡ Some m → units_apart unit n m ≡ z
 unfolding unit_move units_apart
 lies_on Days n z m e = omega (arith, signed, (some-date_of_day (n +ℤ z) m (sym e)).1)
 lies_on Weeks n z m e = omega (arith, signed, (some-date_of_day (n +ℤ pos 7 *ℤ z) m (sym e)).1, sevenths (m -ℤ n))
@@ -27,7 +27,7 @@ lies_on Months n z m e = omega (arith, signed, (month_move-parts n z m e).0)
 lies_on Years n z m e = omega (arith, signed, (month_move-parts n (pos 12 *ℤ z) m e).0, month_of-range n, month_of-range m)
 
 -- a later day lies no fewer units on
-pub rises : (unit : Unit) (n a b : ℤ) → a ≤ℤ b → units_apart unit n a ≤ℤ units_apart unit n b
+rises : (unit : Unit) (n a b : ℤ) → a ≤ℤ b → units_apart unit n a ≤ℤ units_apart unit n b
 unfolding units_apart
 rises Days n a b le = omega (arith, signed, le)
 rises Weeks n a b le = omega (arith, signed, le, sevenths (a -ℤ n), sevenths (b -ℤ n))
@@ -77,7 +77,7 @@ if_any (Some m) P known = known m refl
 if_any None P known = tt
 
 -- no unit lies between a day and itself
-pub none_apart : (unit : Unit) (n : ℤ) → IsDate n → units_apart unit n n ≡ pos 0
+none_apart : (unit : Unit) (n : ℤ) → IsDate n → units_apart unit n n ≡ pos 0
 none_apart unit n date = lies_on unit n (pos 0) n (stays unit n (pos 0) date refl)
 
 -- what is read of a move that comes to a day is that day

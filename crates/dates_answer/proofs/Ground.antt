@@ -17,6 +17,6 @@ pub use Rattle.chrono_datetime.proofs.MonthPlaces.{later_month}
 unfoldable pub use Rattle.dates_answer.specs.Moves.{unit_move, moved_from}
 pub use Rattle.dates_answer.specs.Distances.{IsMostBack, IsMostForth, IsUnitsBetween}
 unfoldable pub use Rattle.dates_answer.specs.Distances.{units_apart}
-pub use Rattle.dates_answer.specs.Parts.{IsMonthsLeft, IsPartsBetween}
+pub use Rattle.dates_answer.specs.Parts.{IsPartsBetween}
 pub use Rattle.dates_answer.specs.declared.span.Unit.{Unit}
 pub use Rattle.dates_answer.specs.declared.span.Unit.TheVariants.{Days, Weeks, Months, Years}
