@@ -267,6 +267,19 @@ def a_move(chance, timed, closed):
     return f"{count}{unit}", lambda it: moved(it, count, unit)
 
 
+def joined(moves):
+    """Moves, of which months and years behind one another are one."""
+    found = []
+    for word, move in moves:
+        months = re.fullmatch(r"(-?\d+)(mo?|y)", word)
+        count = int(months[1]) * (12 if months[2] == "y" else 1) if months else None
+        if months and found and found[-1][2] is not None:
+            word, _, before = found.pop()
+            count += before
+        found.append((word, (lambda it, count=count: moved(it, count, "m")) if months else move, count))
+    return [(word, move) for word, move, _ in found]
+
+
 def plain(it):
     """The day of a day or a date-time."""
     return it.date() if isinstance(it, DateTime) else it
@@ -304,7 +317,7 @@ def of_add(chance, files):
         start = DateTime.combine(workday_time(chance), start.time()) if timed else workday_time(chance)
     made = [a_move(chance, timed, closed) for _ in range(chance.choice((1, 1, 1, 2, 3)))]
     reached = start
-    for _, move in made:
+    for _, move in joined(made):
         reached = move(reached)
         if closed and not 2000 <= reached.year <= 2055:
             return of_add(chance, files)
@@ -479,7 +492,7 @@ def of_instant(chance, _):
     word, made = instant_word(chance, start, unix), [a_move(chance, True, None) for _ in range(chance.choice((1, 1, 2, 3)))]
     # (seconds have no offset)
     reached = start.astimezone(datetime.timezone.utc) if re.fullmatch(r"-?\d+", word) else start
-    for _, move in made:
+    for _, move in joined(made):
         reached = move(reached)
     text = instant_text(reached, unix)
     words = ["add", word, *(it for it, _ in made)]
@@ -536,7 +549,7 @@ def of_zoned_add(chance, _):
     found = instants_at(local, zone)
     if len(found) != 1:
         return no_answer(word)
-    for text, move in moves:
+    for text, move in joined(moves):
         last = found[0].astimezone(zone)
         if text.lstrip("-0123456789") in ("d", "w", "mo", "y"):
             local = move(last.replace(tzinfo=None))
@@ -678,7 +691,7 @@ def each_added(chance, closed):
     moves = [a_move(chance, False, closed) for _ in range(chance.choice((1, 1, 2)))]
 
     def answer(date):
-        for _, move in moves:
+        for _, move in joined(moves):
             date = move(date)
             if not 2000 <= date.year <= 2055:
                 return None

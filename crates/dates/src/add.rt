@@ -12,7 +12,7 @@ pub(crate) fn command() -> &'static CommandRow {
         more: "A SPAN is a whole number of days, weeks, months or years, as 3d, -2w, 1mo and\n\
             4y, or of open days, as 5b. Of a day 1m is 1mo too. Also 1y2mo, P1Y2M, '3 days'.\n\
             A month or a year leads to the same day of its month, or to its last where that\n\
-            is shorter.\n\
+            is shorter. Months and years behind one another count together.\n\
             A date-time in place of the day is moved by times too: 36h, 90min, 15s, and\n\
             PT1.5S, seconds alone. It may have an offset, as 2024-02-29T04:30+01:00.\n\
             From a closed day the next open day counts as the first: from a Saturday 1b\n\
@@ -105,7 +105,7 @@ impl<'a> Add<'a> {
                 Move::ShortMonths(_) if self.short.is_none() => self.short = Some(word),
                 _ => self.is_dated = true,
             }
-            asked.done(self.put_next(word, by, place > 0));
+            asked.done(self.put(word, by));
             place = next;
             if place >= word.text.len() {
                 break;
@@ -113,19 +113,12 @@ impl<'a> Add<'a> {
         }
     }
 
-    // Puts a move of a word behind the others, or together with the move of the word in front of it.
-    fn put_next(&mut self, word: Word<'a>, by: Move, is_behind: bool) -> io::Result<()> {
-        match joined(self.moves.as_slice(), by) {
-            Some(both) if is_behind => {
-                self.moves.pop();
-                put_move(&mut self.moves, both)
-            }
-            _ => self.put(word, by),
-        }
-    }
-
-    // Puts a move behind the others.
+    // Puts a move behind the others, or together with the last of them.
     fn put(&mut self, word: Word<'a>, by: Move) -> io::Result<()> {
+        if let Some(both) = joined(self.moves.as_slice(), by) {
+            self.moves.pop();
+            return put_move(&mut self.moves, both);
+        }
         put_move(&mut self.moves, by)?;
         Ok(self.texts.push(word.text)?)
     }
@@ -169,18 +162,22 @@ impl Asked<'_> {
 
 const SPAN_EXPECTED: &str = "expected a span as 3d, -2w, 1mo, 4y, 5b, 36h, 90min, 15s or PT1.5S";
 
-// The months of years, which are the last move, and of months together: they lead to a day at once.
+// The last move and another as one, if both are of months or years: these lead to a day at once.
 fn joined(moves: &[Move], by: Move) -> Option<Move> {
-    match (moves.last().copied()?, by) {
-        (Move::Calendar(years), Move::Calendar(months) | Move::ShortMonths(months)) => {
-            if !matches!((years.unit, months.unit), (Unit::Years, Unit::Months)) {
-                return None;
-            }
-            let count = years.count.checked_mul(12)?.checked_add(months.count)?;
-            let unit = Unit::Months;
-            Some(Move::Calendar(Span { count, unit }))
-        }
-        _ => None,
+    let count = months_of(moves.last().copied()?)?.checked_add(months_of(by)?)?;
+    let unit = Unit::Months;
+    Some(Move::Calendar(Span { count, unit }))
+}
+
+// How many months a move of months or years has.
+fn months_of(by: Move) -> Option<i64> {
+    match by {
+        Move::Calendar(span) | Move::ShortMonths(span) => match span.unit {
+            Unit::Months => Some(span.count),
+            Unit::Years => span.count.checked_mul(12),
+            Unit::Days | Unit::Weeks => None,
+        },
+        Move::OpenDays(_) | Move::Time(_) => None,
     }
 }
 

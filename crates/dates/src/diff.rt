@@ -46,7 +46,8 @@ pub(crate) fn command() -> &'static CommandRow {
             w,d or d,h,min.\n\
             act/act, act/360, act/365, 30/360 and 30e/360 are day counts (ISDA 2006, 4.16).\n\
             It goes back where the second day is the earlier.\n\
-            The unit ymd writes spans by which add leads from the first day to the second.\n\
+            The unit ymd writes spans by which add leads from the first day to the second:\n\
+            whole months, of which twelve are a year, and days.\n\
             The unit b counts the earlier day, where it is open, and not the later; it alone\n\
             takes the options of open days.\n\
             Of two date-times in place of the days it is the time from one to the other, as\n\
