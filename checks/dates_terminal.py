@@ -128,8 +128,8 @@ def answers_at_once(terminal, completion):
 
 
 def moves_at_once(terminal, completion):
-    """The same of a command without its day."""
-    terminal.type("dates add 1m\n2024-01-31\n")
+    """The same of a command that has `-` for its day."""
+    terminal.type("dates add - 1m\n2024-01-31\n")
     first = terminal.until("2024-02-29\n")
     terminal.type(END)
     shown = terminal.until(PROMPT) == PROMPT
