@@ -375,7 +375,7 @@ def whole(start, end, unit):
 
 
 def of_units(chance, _):
-    """A distance in several units, each of which counts what those before it leave."""
+    """A distance in several units, each of which counts what those before it leave, but for years and months."""
     timed = chance.random() < 0.6
     start = any_moment(chance) if timed else any_day(chance)
     end = chance.choice((start + Span(chance.randint(-900, 900)), moved(start, chance.randint(-50, 50), "m")))
@@ -383,9 +383,15 @@ def of_units(chance, _):
         end += Span(seconds=chance.randint(-90_000, 90_000))
     among = list(SHARED) if timed else list(SHARED)[:4]
     units = sorted(chance.sample(among, chance.randint(2, 4)), key=among.index)
-    at, shown = start, []
+    at, years, shown = start, None, []
     for unit in units:
-        count, at = whole(at, end, unit)
+        if unit == "mo" and years is not None:
+            # (they count together)
+            count, at = whole(start, end, unit)
+            count -= 12 * years
+        else:
+            count, at = whole(at, end, unit)
+        years = count if unit == "y" else years
         shown += [f"{count}{unit}"] if count else []
     text = " ".join(shown) or f"0{units[-1]}"
     words = [moment_word(chance, start), moment_word(chance, end)] if timed else [day_word(chance, start), day_word(chance, end)]

@@ -1,4 +1,4 @@
-//! How far it is in several units, the greatest first: each counts what those before it leave.
+//! How far it is in several units, the greatest first: each counts what those before it leave. Years and months count together.
 
 use crate::diff::{Measure, measure_named};
 use crate::prelude::*;
@@ -44,11 +44,19 @@ impl Asked<'_> {
         names: &str,
     ) -> Option<()> {
         let mut at = *from;
+        let mut years: Option<i64> = None;
         for name in names.split(',') {
-            let (count, reached) = match measure_named(name) {
-                Some(Measure::Whole(unit)) => self.whole_units(&at, to, unit)?,
+            let (count, reached) = match (measure_named(name), years) {
+                (Some(Measure::Whole(Unit::Months)), Some(years)) => {
+                    let (whole, reached) = self.whole_units(from, to, Unit::Months)?;
+                    (whole.checked_sub(years.checked_mul(12)?)?, reached)
+                }
+                (Some(Measure::Whole(unit)), _) => self.whole_units(&at, to, unit)?,
                 _ => self.whole_times(&at, to, length_of(name))?,
             };
+            if matches!(measure_named(name), Some(Measure::Whole(Unit::Years))) {
+                years = Some(count);
+            }
             if count != 0 {
                 if !out.is_empty() {
                     out.put(" ");

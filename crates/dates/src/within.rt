@@ -42,6 +42,8 @@ impl Asked<'_> {
             let separator = separator_named(self.option(SEPARATOR.name).text);
             self.within = Within::Field(number, separator);
             self.records.separator = separator_of_records(separator);
+        } else if let Some(word) = self.words.value(&[], SEPARATOR.name) {
+            self.wrong(word, "expected --field beside --separator");
         }
         if !matches!(self.within, Within::Line) {
             self.records.most = MOST_PRINTED;
