@@ -963,6 +963,9 @@ def of_timed_skipping(chance, _):
         return of_timed_skipping(chance, _)
     count, until, left_out = chance.randint(1, len(found)), chance.choice(found), chance.choice(found)
     ends, kept = chance.choice(((f"COUNT={count}", found[:count]), (f"UNTIL={until:%Y%m%dT%H%M%S}{'Z' if name else ''}", [it for it in found if it <= until])))
+    # (also before the start, on its day)
+    added = [begin + Span(minutes=chance.choice((-1, 1, 40)) * chance.randint(1, 900))] if not name and chance.random() < 0.4 else []
+    kept = sorted({*kept, *(it.replace(tzinfo=datetime.timezone.utc) for it in added)})
     kept = [it for it in kept if it != left_out and (since is None or since.replace(tzinfo=zone) <= it)]
     shown = [it.astimezone(zone) for it in kept]
     if not shown or any(it.utcoffset() % Span(minutes=1) for it in shown):
@@ -971,6 +974,7 @@ def of_timed_skipping(chance, _):
     chance.shuffle(parts)
     out = instant_word(chance, left_out.astimezone(zone), False) if name else moment_word(chance, left_out.replace(tzinfo=None))
     options = [["--start", moment_word(chance, begin)], ["--exdate", out], *([["--zone", name]] if name else []), *([["--from", moment_word(chance, since)]] if since else [])]
+    options += [["--rdate", moment_word(chance, it)] for it in added]
     chance.shuffle(options)
     words = ["rule", ";".join(parts), *(word for it in options for word in it)]
     if name:
