@@ -952,7 +952,7 @@ def is_shown_once(local, zone):
 def of_timed_skipping(chance, _):
     """The instances of a rule with SKIP over date-times, by local time or by the clock of a zone: none of the words is spoiled."""
     start, parts, days = skipping_days(chance, 1980, 2030)
-    name = chance.choice((None, *ZONES))
+    name = chance.choice(ZONES) if chance.random() < 0.5 else None
     zone = zoneinfo.ZoneInfo(name or "UTC")
     begin = DateTime.combine(start, datetime.time(*divmod(chance.randrange(0, 1440, 5), 60)))
     hours = sorted(chance.sample(range(24), chance.choice((0, 0, 1, 2, 3))))
@@ -964,7 +964,7 @@ def of_timed_skipping(chance, _):
     count, until, left_out = chance.randint(1, len(found)), chance.choice(found), chance.choice(found)
     ends, kept = chance.choice(((f"COUNT={count}", found[:count]), (f"UNTIL={until:%Y%m%dT%H%M%S}{'Z' if name else ''}", [it for it in found if it <= until])))
     # (also before the start, on its day)
-    added = [begin + Span(minutes=chance.choice((-1, 1, 40)) * chance.randint(1, 900))] if not name and chance.random() < 0.4 else []
+    added = [begin + Span(minutes=chance.choice((-1, -1, 1, 40)) * chance.randint(1, 900))] if not name and chance.random() < 0.6 else []
     kept = sorted({*kept, *(it.replace(tzinfo=datetime.timezone.utc) for it in added)})
     kept = [it for it in kept if it != left_out and (since is None or since.replace(tzinfo=zone) <= it)]
     shown = [it.astimezone(zone) for it in kept]
