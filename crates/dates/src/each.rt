@@ -48,11 +48,25 @@ impl Asks {
         }
     }
 
+    // Why there is no answer for a day whose holidays are known.
+    fn why_none(&self, date: NaiveDate) -> &'static str {
+        match self {
+            Asks::Roll(holidays, _) => holidays.why_none(date),
+            _ => PAST,
+        }
+    }
+
     // Prints what is asked of a day.
     fn answer(&mut self, asked: &mut Asked<'_>, date: NaiveDate) {
-        if !self.knows(date) {
-            return asked.print_nowhere(&Start::Day(date), "", UNKNOWN);
+        if self.knows(date) {
+            self.answer_known(asked, date);
+        } else {
+            asked.print_nowhere(&Start::Day(date), "", UNKNOWN);
         }
+    }
+
+    // Prints what is asked of a day whose holidays are known.
+    fn answer_known(&mut self, asked: &mut Asked<'_>, date: NaiveDate) {
         let reply = match self {
             Asks::Names => Some(Reply::Names(date)),
             Asks::Weekday => Some(Reply::Weekday(date.weekday())),
@@ -63,17 +77,17 @@ impl Asks {
                 Ok(calendar) => Some(Reply::Whether(Key::Open, calendar.is_open(date))),
                 Err(error) => return asked.fail(error),
             },
-            Asks::Roll(holidays, roll) => match holidays.calendar(years_of(date, date)) {
-                Ok(calendar) => day_if(calendar.roll(date, *roll)),
-                Err(error) => return asked.fail(error),
-            },
+            Asks::Roll(holidays, roll) => {
+                let rolled = match holidays.calendar(years_of(date, date)) {
+                    Ok(calendar) => calendar.roll(date, *roll),
+                    Err(error) => return asked.fail(error),
+                };
+                day_if(holidays.known(rolled))
+            }
         };
         match reply {
-            Some(Reply::Date(reached)) if !self.knows(reached) => {
-                asked.print_nowhere(&Start::Day(date), "", UNKNOWN)
-            }
             Some(reply) => asked.print(reply),
-            None => asked.print_nowhere(&Start::Day(date), "", PAST),
+            None => asked.print_nowhere(&Start::Day(date), "", self.why_none(date)),
         }
     }
 }

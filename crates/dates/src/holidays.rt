@@ -46,6 +46,21 @@ impl Holidays {
         self.first <= day.year()
     }
 
+    // A day, if its holidays are known.
+    pub(crate) fn known(&self, day: Option<NaiveDate>) -> Option<NaiveDate> {
+        let day = day?;
+        if self.knows(day) { Some(day) } else { None }
+    }
+
+    // Why there is no day near another, whose holidays are known.
+    pub(crate) fn why_none(&self, day: NaiveDate) -> &'static str {
+        if day.year() == self.first {
+            UNKNOWN
+        } else {
+            PAST
+        }
+    }
+
     // Puts the holidays of these years together.
     fn put_together(&mut self, years: Years) -> io::Result<()> {
         self.years = None;

@@ -140,10 +140,18 @@ fn command_named(name: &str) -> &'static CommandRow {
 // Whether the option of a name has a value behind it.
 fn takes_value(name: &str) -> bool {
     for command in commands() {
-        for option in command.options {
-            if option.name == name {
-                return !option.value.is_empty();
-            }
+        if has_value(command, name) {
+            return true;
+        }
+    }
+    false
+}
+
+// Whether a command has an option of a name, and a value behind it.
+fn has_value(command: &CommandRow, name: &str) -> bool {
+    for option in command.options {
+        if option.name == name && !option.value.is_empty() {
+            return true;
         }
     }
     false

@@ -144,19 +144,19 @@ impl Begin {
             Skip::Omit => None,
             _ => Some(SkipTimes::new(rule, skip, local)),
         };
-        let mut search = Search {
-            rule: *rule,
-            skipping,
-            last: Some(wanted.from),
-            count: u64::MAX,
+        let (bound, count, last) = match rule.bound {
+            Bound::Count(count) => {
+                let first = self.first(wanted.added.as_slice());
+                (Bound::Never, u64::from(count), first)
+            }
+            bound => (bound, u64::MAX, Some(wanted.from)),
         };
-        if let Bound::Count(count) = rule.bound {
-            search.rule.bound = Bound::Never;
-            search.count = u64::from(count);
-            search.last = self.first(wanted.added.as_slice());
+        Search {
+            rule: TimedRule { bound, ..*rule },
+            skipping,
+            last: just_before(last),
+            count,
         }
-        search.last = just_before(search.last);
-        search
     }
 
     // Prints an instance in the way of the start.
