@@ -640,7 +640,7 @@ def of_end(chance, _):
         weekday = chance.randrange(7)
         lines, objects = dated([date + (weekday - date.weekday()) % 7 * DAY])
         word = chance.choice((SHORT[weekday], WEEKDAYS[weekday], WEEKDAYS[weekday].lower()))
-        return Asked(["round", day_word(chance, date), word], ["first", "day", "--first"], 3, lines, objects)
+        return Asked(["round", day_word(chance, date), word], ["first", "day", "to"], 3, lines, objects)
     period = chance.choice(("week", "month", "quarter", "year"))
     size = {"month": 1, "quarter": 3, "year": 12}.get(period)
     begin = date - date.weekday() * DAY if period == "week" else date.replace(day=1, month=(date.month - 1) // size * size + 1)
@@ -1164,6 +1164,7 @@ EXPECTED = {
     "--weekend": "none, or at most two weekdays as fri,sat",
     "--calendar": "us-federal, target, england, fedwire, nyse, germany, france or japan",
     "--first": "a weekday as mon",
+    "to": "a weekday as mon, or a part that divides the day, as 15min",
     "--holidays": "the name of a file",
     "file": "the name of a file",
     "schedule": "a schedule as '30 4 1,15 * 5'",

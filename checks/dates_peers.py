@@ -54,7 +54,7 @@ FORMS = (
     ("friday", "friday --format %F"),
     ("Sun", "sun --format %F"),
     ("last monday", "'last monday' --format %F"),
-    ("@{n}1234567", "in UTC @{n}1234567"),
+    ("@1{n}234567", "in UTC @1{n}234567"),
     ("20{n:02}0314", "20{n:02}0314 --format %F"),
     ("14 Mar 20{n:02}", "'14 Mar 20{n:02}' --format %F"),
     ("Mar 14, 20{n:02}", "'Mar 14, 20{n:02}' --format %F"),
