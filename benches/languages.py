@@ -60,6 +60,7 @@ def build(folder):
     with zipfile.ZipFile(wheel) as it:
         it.extractall(f"{folder}/python")
     os.environ["PYTHONPATH"] = f"{folder}/python"
+    os.environ["CALENDAR_FOLDER"] = folder
     rust = build_over_chrono(folder, "benches/languages/rust_sums")
     return {"C": f"{folder}/c_sums", "Python": f"{SOURCES}/python_sums.py", "Rust": rust}
 

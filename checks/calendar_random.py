@@ -22,6 +22,11 @@ from library import take_library  # noqa: E402
 from results import LANGUAGES, Results, read, run, succeeds  # noqa: E402
 
 HEADER = f"{LANGUAGES}/c/calendar.h"
+# The fields of each struct that a function returns.
+FIELDS = {
+    "calendar_ymd": ("year", "month", "day"), "calendar_time": ("second", "nanos"),
+    "calendar_date_time": ("seconds", "nanos"), "calendar_duration": ("seconds", "nanos"),
+}
 # What a program begins with: random numbers, memory of a size, and texts.
 BEGIN = """#include "calendar.h"
 #include <stdio.h>
@@ -29,7 +34,7 @@ BEGIN = """#include "calendar.h"
 #include <string.h>
 
 static uint64_t state = 88172645463325252u;
-static volatile uint64_t sink;
+static uint64_t sum;
 
 static uint64_t any(void) {
     state ^= state << 13;
@@ -50,6 +55,16 @@ static uint64_t number(void) {
     case 4: return ENDS[any() % (sizeof ENDS / sizeof *ENDS)] + any() % 3 - 1;
     default: return any() % 190000000 - 95000000;
     }
+}
+
+/* All answers go into one sum. */
+static void add(uint64_t answer) {
+    sum = (sum ^ answer) * 1099511628211u;
+    sum ^= sum >> 29;
+}
+
+static void add_bytes(const void *bytes, size_t size) {
+    for (size_t i = 0; i < size; i++) add(((const uint8_t *)bytes)[i]);
 }
 
 static void *memory(size_t size) {
@@ -83,7 +98,7 @@ def declared():
 
 def call_of(name, result, parameters, more):
     """The lines that call a function once. A text is said to have so many bytes more than it has."""
-    lines, given, freed = ["const size_t same = any() % 20;", "(void)same;"], [], []
+    lines, given, freed, written = ["const size_t same = any() % 20;", "(void)same;"], [], [], []
     rest = iter(parameters)
     for it in rest:
         constant, kind, pointer, called = re.fullmatch(r"(const )?(\w+) (\*?)(\w+)", it).groups()
@@ -99,6 +114,7 @@ def call_of(name, result, parameters, more):
                 lines.append(f"for (size_t i = 0; i < {called}_count; i++) if (any() % 8) {called}[i] = ({kind})number();")
             given += [called, f"{called}_count" + (f" + {more}" if more and is_text else "")]
             freed.append(f"free({called});")
+            written += [] if constant else [f"add_bytes({called}, {called}_count * {width} * sizeof({kind}));"]
         elif kind in ("calendar_date_time", "calendar_duration"):
             lines.append(f"const {kind} {called} = {{(int64_t)number(), any() % 2 ? 0 : (uint32_t)number()}};")
             given.append(called)
@@ -112,11 +128,11 @@ def call_of(name, result, parameters, more):
     if result == "void":
         lines.append(f"{call};")
     elif result.startswith("calendar_"):
-        field = {"calendar_ymd": "year", "calendar_time": "second"}.get(result, "seconds")
-        lines.append(f"sink += (uint64_t){call}.{field};")
+        lines.append(f"const {result} answer = {call};")
+        lines += [f"add((uint64_t)answer.{field});" for field in FIELDS[result]]
     else:
-        lines.append(f"sink += (uint64_t){call};")
-    return [*lines, *freed]
+        lines.append(f"add((uint64_t){call});")
+    return [*lines, *written, *freed]
 
 
 def write_program(path, more):
@@ -126,7 +142,8 @@ def write_program(path, more):
         it.write(BEGIN)
         for name, result, parameters in functions:
             it.write("        {\n" + "".join(f"            {line}\n" for line in call_of(name, result, parameters, more)) + "        }\n")
-        it.write(f'    }}\n    printf("%ld passed, 0 failed\\n", rounds * {len(functions)});\n    return 0;\n}}\n')
+        it.write('    }\n    printf("sum %016llx\\n", (unsigned long long)sum);\n')
+        it.write(f'    printf("%ld passed, 0 failed\\n", rounds * {len(functions)});\n    return 0;\n}}\n')
     return len(functions)
 
 
@@ -153,7 +170,7 @@ def run_programs(results, room, library, rounds):
 def main():
     results, rounds = Results(), int(sys.argv[1]) if len(sys.argv) > 1 else 2_000
     with tempfile.TemporaryDirectory(prefix="calendar-random-") as room:
-        library = take_library(results, room)
+        library = take_library(results)
         if library:
             run_programs(results, room, library, rounds)
     print(f"{results.passed} passed, {results.failed} failed")

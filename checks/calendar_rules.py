@@ -130,7 +130,7 @@ def written_rule(draw, rule):
     parts = [f"{name}={numbers}" for name, numbers in (("BYHOUR", hours), ("BYMINUTE", minutes), ("BYSECOND", seconds)) if numbers]
     freq, *others = text.split(";")
     if rule[4:]:
-        freq, others = f"FREQ={UNITS[rule[4][0]][0]}", [f"INTERVAL={rule[4][1:]}", *others]
+        freq, others = f"FREQ={UNITS[rule[4][0]]}", [f"INTERVAL={rule[4][1:]}", *others]
     parts += others
     draw.shuffle(parts)
     return [freq.lower() if draw.random() < 0.1 else freq, *parts]

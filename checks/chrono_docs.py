@@ -15,8 +15,7 @@ import tempfile
 
 TOP = os.path.dirname(os.path.dirname(os.path.abspath(__file__)))
 sys.path[:0] = [f"{TOP}/checks", f"{TOP}/tools"]
-from debian import REGISTRY  # noqa: E402
-from library import LAYERS, find_library  # noqa: E402
+from debian import REGISTRY, cargo_environment  # noqa: E402
 from results import Results  # noqa: E402
 
 VERSION = "0.4.23"
@@ -174,10 +173,7 @@ def main():
     results = Results()
     with tempfile.TemporaryDirectory(prefix="chrono-docs-") as room:
         package = os.path.abspath(sys.argv[1]) if sys.argv[1:] else f"{TOP}/languages/rust"
-        library = sys.argv[1:] or os.environ.get("CALENDAR_FOLDER") or (find_library(room) and find_library(room, LAYERS))
-        results.count(library, "there is no libcalendar_c.a or no liblayers_c.a, and `rt lib` does not build it")
-        if library:
-            test(results, room, package, {"CARGO_TARGET_DIR": f"{room}/target", **os.environ})
+        test(results, room, package, cargo_environment(room, os.environ.get("CALENDAR_FOLDER")))
     print(f"{results.passed} passed, {results.failed} failed")
     return 1 if results.failed else 0
 

@@ -196,7 +196,7 @@ def compare_library(results, room, library):
     run(results, f"{os.path.basename(library)} beside single calls", [f"{room}/columns"], (r"^(\d+) passed", r"(\d+) failed$"))
 
 
-def compare_higher(results, room, library):
+def compare_higher(results, room):
     """The same of the second library of the package for C, where the processor has what it needs."""
     with open("/proc/cpuinfo", encoding="utf-8") as it:
         has_vectors = " avx2 " in it.read()
@@ -204,7 +204,7 @@ def compare_higher(results, room, library):
         print("not run: the columns of the library for higher processors, since there is no rt or no AVX2")
         return
     higher = f"{room}/libcalendar-v3.a"
-    built = build_higher(library, higher)
+    built = build_higher(higher)
     results.count(built, "`rt lib --cpu` does not build the library for higher processors")
     if built:
         compare_library(results, room, higher)
@@ -216,7 +216,7 @@ def main():
         return 0
     results = Results()
     with tempfile.TemporaryDirectory() as room:
-        library = find_library(room)
+        library = find_library()
         if not library:
             print("not run: the columns, since there is no library and no rt")
             print("0 passed, 0 failed")
@@ -230,7 +230,7 @@ def main():
         else:
             print("not run: the machine code of the columns, since there is no objdump")
         compare_library(results, room, library)
-        compare_higher(results, room, library)
+        compare_higher(results, room)
         compare_numpy(results, room, library)
     print(f"{results.passed} passed, {results.failed} failed")
     return 1 if results.failed else 0

@@ -5,7 +5,8 @@
     checks/cron.py --write                    (its rows in crates/rows_layers/stdin made again)
 
 A schedule is read here from its text of five fields, and a moment is due by the definition: its month, its hour and its minute are
-listed, and so are its day of the month and its weekday, or one of these where neither text begins with `*`. Days that a field names by
+listed, and so are its day of the month and its weekday, or one of these where neither text begins with `*`. A schedule whose minutes or hours begin
+with `*` follows the clock, which its row and its written text have to keep. Days that a field names by
 the month's end, its workdays or its weeks (`L`, `L-3`, `LW`, `15W`, `5L`, `5#2`) are picked from a list of the month's days. The next due moment is
 found by trying each day from the start's on, and each minute of a day that passes, to the end of the calendar; a schedule of which
 no day passes in 400 years, in which days and weekdays come again, is never due. Calendar dates are those of checks/counted.py.
@@ -176,26 +177,30 @@ def read_schedule(text):
         sets.append(set().union(*numbers))
     sets[4] = {it % 7 for it in sets[4]}
     either = words[2][0] != "*" and words[4][0] != "*"
-    return row_words(sets, named["ends"], named["nearest"], named["lasts"], named["nths"], bool(named["last"]), either)
+    follows = "*" in (words[0][0], words[1][0])
+    return row_words(sets, named["ends"], named["nearest"], named["lasts"], named["nths"], bool(named["last"]), either, follows)
 
 
-def row_words(sets, ends, nearest, lasts, nths, last, either):
-    """A schedule as the numbers of a row: each set as the number whose binary digits are its members."""
+def row_words(sets, ends, nearest, lasts, nths, last, either, follows):
+    """A schedule as the numbers of a row: each set as the number whose binary digits are its members, and 2 more where it follows the clock."""
     words = [str(sum(1 << it for it in numbers)) for numbers in (*sets, ends, nearest, lasts, nths)]
-    return " ".join([*words, str(int(last)), str(int(either))])
+    return " ".join([*words, str(int(last)), str(int(either) + 2 * int(follows))])
 
 
 def written(words):
     """The text of the schedule that the numbers of a row tell, as it is to be written."""
-    *digits, last, either = map(int, words.split())
+    *digits, last, marks = map(int, words.split())
+    either, follows = marks & 1, marks & 2
     minutes, hours, days, months, weekdays, ends, nearest, lasts, nths = ([it for it in range(64) if number >> it & 1] for number in digits)
     full = [set(range(low, min(high, 6 if low == 0 and high == 7 else high) + 1)) <= set(it) for (low, high), it in zip(FIELDS, (minutes, hours, days, months, weekdays))]
     by_day, by_weekday = full[2], full[4]
     if not by_day and not by_weekday:
         by_day = 1 in days
         by_weekday = not by_day and 0 in weekdays
+    by_hour = full[1] or not full[0] and 0 in hours
+    by_minute = full[0] or not by_hour and 0 in minutes
     texts = []
-    for place, (numbers, starred) in enumerate(((minutes, full[0]), (hours, full[1]), (days, by_day and not either), (months, full[3]), (weekdays, by_weekday and not either))):
+    for place, (numbers, starred) in enumerate(((minutes, follows and by_minute), (hours, follows and by_hour), (days, by_day and not either), (months, full[3]), (weekdays, by_weekday and not either))):
         low, high = FIELDS[place] if place < 4 else (0, 6)
         items, numbers = [], [it for it in numbers if low <= it <= high]
         if starred:
@@ -253,11 +258,12 @@ def field_rows(count, seed):
 
 
 def is_told(words):
-    """Whether a text tells the schedule of a row: no field is empty, and where both fields of days have to match, one can begin with `*`."""
-    *digits, last, either = map(int, words.split())
+    """Whether a text tells the schedule of a row: no field is empty, and a field can begin with `*` where one of two has to."""
+    *digits, last, marks = map(int, words.split())
+    either, follows = marks & 1, marks & 2
     minutes, hours, days, months, weekdays, ends, nearest, lasts, nths = digits
     some = minutes and hours and months and (days or ends or nearest or last) and (weekdays or lasts or nths)
-    return bool(some and (either or days == 2**32 - 2 or days & 2 or weekdays & 1))
+    return bool(some and (either or days == 2**32 - 2 or days & 2 or weekdays & 1) and (not follows or minutes & 1 or hours & 1))
 
 
 def text_rows(count, seed):
@@ -268,7 +274,7 @@ def text_rows(count, seed):
         if chosen.random() < 0.5:
             sets = [{it for it in range(low, min(high, 6 if high == 7 else high) + 1) if chosen.random() < wide} for (low, high), wide in zip(FIELDS, [chosen.choice((0.03, 0.3, 0.9, 1)) for _ in FIELDS])]
             named = [{it for it in range(first, last) if chosen.random() < rare} for (first, last), rare in zip(((0, 31), (1, 32), (0, 7), (0, 35)), [chosen.choice((0, 0, 0.1, 0.9)) for _ in range(4)])]
-            words = row_words(sets, *named, chosen.random() < 0.3, chosen.random() < 0.5)
+            words = row_words(sets, *named, chosen.random() < 0.3, chosen.random() < 0.5, chosen.random() < 0.5)
         text = written(words)
         if is_told(words):
             back += 1
@@ -317,6 +323,7 @@ class Schedule:
         self.sets[4] = {it % 7 for it in self.sets[4]}
         fields = text.split()
         self.either = not fields[2].startswith("*") and not fields[4].startswith("*")
+        self.follows = fields[0].startswith("*") or fields[1].startswith("*")
         self.minutes = [it for it in range(1440) if it // 60 in self.sets[1] and it % 60 in self.sets[0]]
         self.is_never = whole and not any(self.is_day(it) for it in range(1, CYCLE + 1))
 
@@ -326,7 +333,7 @@ class Schedule:
         nearest = {int(it[:-1]) for it in by_day if it[0] != "L"}
         lasts = {int(it[0]) % 7 for it in by_weekday if it[1] == "L"}
         nths = {7 * (int(it[2]) - 1) + int(it[0]) % 7 for it in by_weekday if it[1] == "#"}
-        return row_words(self.sets, ends, nearest, lasts, nths, "LW" in by_day, self.either)
+        return row_words(self.sets, ends, nearest, lasts, nths, "LW" in by_day, self.either, self.follows)
 
     def named_in_month(self, day):
         """The days of a day's month that the items of each of the two fields name."""
@@ -534,9 +541,12 @@ READ_OUT = """\
 @weekly | 0 0 * * 0
 @DAILY | 0 0 * * *
 @reboot | none
-*/120 5-20/100 * * * | 0 5 * * *
+*/120 5-20/100 * * * | */60,0 5 * * *
 */1000 * * * * | none
-*/15 9-17 * jan,MAR mon-fri | 0,15,30,45 9-17 * 1,3 1-5
+*/15 9-17 * jan,MAR mon-fri | */60,0,15,30,45 9-17 * 1,3 1-5
+0 */6 * * * | 0 */24,0,6,12,18 * * *
+0-59 0-23 * * * | 0-59 0-23 * * *
+0-59 */1 * * * | * * * * *
 5 4 * * sun | 5 4 * * 0
 5 4 * * fri-7 | 5 4 * * 0,5-6
 0 0 */2 * 1 | 0 0 */31,1,3,5,7,9,11,13,15,17,19,21,23,25,27,29,31 * 1

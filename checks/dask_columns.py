@@ -48,7 +48,7 @@ FIRST, SPAN = -25_567, 73_049
 
 def install(room):
     """Makes the wheel, and lets this process and those that it starts import what is in it; whether that went well."""
-    calendar, layers = find_library(room), find_library(room, LAYERS)
+    calendar, layers = find_library(), find_library(LAYERS)
     if not calendar or not layers:
         return False
     packages.build(calendar, room)

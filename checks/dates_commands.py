@@ -19,6 +19,7 @@ It needs crates/dates/out/dates, which `rt run` and `rt ci` leave there, and num
 import argparse
 import calendar as months
 import datetime
+import itertools
 import json
 import operator
 import os
@@ -148,6 +149,11 @@ def instant_text(instant, unix):
     return str((instant - EPOCH) // Span(seconds=1)) if unix else moment_text(instant) + offset_text(instant)
 
 
+def month_word(chance, date):
+    """A name of a month with its year."""
+    return chance.choice((f"{date.year:04}-{date.month:02}", f"{MONTHS[date.month]} {date.year:04}", f"{MONTHS[date.month][:3].lower()} {date.year:04}"))
+
+
 def instant_word(chance, instant, unix):
     if unix and not instant.microsecond and chance.random() < 0.7:
         return instant_text(instant, True)
@@ -161,7 +167,7 @@ def day_word(chance, date):
     if chance.random() < 0.35:
         month = chance.choice((MONTHS[date.month], MONTHS[date.month][:3].lower()))
         week = "{}W{:02}{}".format(*date.isocalendar())
-        return chance.choice((f"{date:%m%d}".join((f"{date.year:04}", "")), f"{date.year:04}{date:%j}", week.zfill(8), f"#{date.toordinal()}",
+        return chance.choice((f"{date:%m%d}".join((f"{date.year:04}", "")), week.zfill(8), f"#{date.toordinal()}",
                               f"{date.day} {month} {date.year:04}", f"{month} {date.day}, {date.year:04}", f"{WEEKDAYS[date.weekday()]}, {date.day} {month} {date.year:04}"))
     return names(date.toordinal())[chance.choice((0, 0, 0, 1, 2))]
 
@@ -374,6 +380,9 @@ def whole(start, end, unit):
     return count, moved(start, count, unit)
 
 
+IN_FULL = {"y": "years", "mo": "months", "w": "weeks", "d": "days", "h": "hours", "min": "minutes", "s": "seconds"}
+
+
 def of_units(chance, _):
     """A distance in several units, each of which counts what those before it leave, but for years and months."""
     timed = chance.random() < 0.6
@@ -383,7 +392,7 @@ def of_units(chance, _):
         end += Span(seconds=chance.randint(-90_000, 90_000))
     among = list(SHARED) if timed else list(SHARED)[:4]
     units = sorted(chance.sample(among, chance.randint(2, 4)), key=among.index)
-    at, years, shown = start, None, []
+    at, years, shown, counts = start, None, [], {}
     for unit in units:
         if unit == "mo" and years is not None:
             # (they count together)
@@ -392,10 +401,11 @@ def of_units(chance, _):
         else:
             count, at = whole(at, end, unit)
         years = count if unit == "y" else years
+        counts[IN_FULL[unit]] = count
         shown += [f"{count}{unit}"] if count else []
     text = " ".join(shown) or f"0{units[-1]}"
     words = [moment_word(chance, start), moment_word(chance, end)] if timed else [day_word(chance, start), day_word(chance, end)]
-    return Asked(["diff", *words, "in", ",".join(units)], [], 0, [text], [{"duration": text}])
+    return Asked(["diff", *words, "in", ",".join(units)], [], 0, [text], [counts])
 
 
 def clock_text(moment):
@@ -605,6 +615,29 @@ def of_seq_of_times(chance, _):
     return Asked(words, [], 0, texts or ["none"], [{"moment": it} for it in texts] or [{"moment": None}], int(not texts))
 
 
+def of_left_out(chance, _):
+    """A sequence to the calendar's end of which each day, or all before another weekday, is left out: none of its words is spoiled."""
+    start, count = any_day(chance), chance.choice((1, 2, 7, 14, -7, -14))
+    skip = {SHORT[start.weekday()], *chance.sample(SHORT, chance.choice((0, 2, 6)))}
+    first = next((it for it in (start + count * times * DAY for times in range(7)) if SHORT[it.weekday()] not in skip), None)
+    lines, objects = dated([first] if first else [])
+    words = ["seq", day_word(chance, start), f"{count}d", "--skip", ",".join(sorted(skip)), "--count", "1"]
+    return Asked(words, [], 0, lines or ["none"], objects or [{"date": None}], int(not first))
+
+
+MEANT = "a day as 2024-02-29"
+
+
+def of_no_day(chance, _):
+    """A month, or seven digits, in the place of a day, which is told: none of its words is spoiled."""
+    date = any_day(chance, first=1000)
+    month = chance.random() < 0.7
+    word = month_word(chance, date) if month else f"{date.year:04}{date:%j}"
+    words = chance.choice(([word], ["add", word, "1d"], ["diff", str(date), word], ["week", word], ["round", word, "fri"], ["last", "week", word]))
+    said = f"a month; expected {MEANT}" if month else f"expected {MEANT}, 20240229 or, of seven digits, with a hyphen as 2024-060"
+    return Asked(words, [], 0, [], [], 2, f"dates: argument {words.index(word) + 1}, {word}: {said}")
+
+
 def of_open_seq(chance, files):
     """A sequence by open days, which begins on the first of them: none of its words is spoiled."""
     start, closed, count = workday_time(chance), Closed(chance, files), chance.choice((1, 1, 2, 5, -1, -3))
@@ -646,6 +679,8 @@ def of_end(chance, _):
     begin = date - date.weekday() * DAY if period == "week" else date.replace(day=1, month=(date.month - 1) // size * size + 1)
     end = begin + 6 * DAY if period == "week" else moved(begin, size, "m") - DAY
     lines, objects = dated([begin if name == "first" else end])
+    if period != "week" and chance.random() < 0.2:
+        return Asked([name, period, month_word(chance, date)], ["first", "period", "month"], 2, lines, objects)
     return Asked([name, period, day_word(chance, date)], ["first", "period", "day"], 2, lines, objects)
 
 
@@ -833,7 +868,7 @@ def of_due(chance, files):
 
 
 # Schedules with fixed times, of which a clock that is set skips some or shows some twice, and such as follow the clock.
-ZONED_SCHEDULES = ("30 2 * * *", "0 0 * * *", "15,45 1-3 * * *", "59 1 * * 0", "*/20 0-4 * * *", "30 * * * *", "* 2 * * *", "*/15 * * * *")
+ZONED_SCHEDULES = ("30 2 * * *", "0 0 * * *", "15,45 1-3 * * *", "59 1 * * 0", "*/20 0-4 * * *", "0 */2 * * *", "30 * * * *", "* 2 * * *", "*/15 * * * *")
 
 
 def behind_gap(local, zone):
@@ -845,18 +880,38 @@ def behind_gap(local, zone):
     return utc
 
 
-def firings(schedule, zone, start, days):
-    """The instants near a start at which a schedule is due by the clock of a zone, as cron has it."""
+CORRECTION = Span(hours=3)
+
+
+def firings(schedule, zone, start, days, seconds, dialect):
+    """The instants near a start at which a schedule fires by the clock of a zone, as its dialect has it."""
     first = DateTime.combine(start.astimezone(zone).date() - days * DAY, datetime.time())
-    follows, fired = len(schedule.sets[0]) == 60 or len(schedule.sets[1]) == 24, set()
+    follows, fired = schedule.follows or dialect == "robfig", set()
     for day in (first + it * DAY for it in range(2 * days)):
-        for minute in schedule.minutes if schedule.is_day(day.toordinal()) else []:
-            local = day + Span(minutes=minute)
+        for minute, second in itertools.product(schedule.minutes if schedule.is_day(day.toordinal()) else [], seconds):
+            local = day + Span(minutes=minute, seconds=second)
             found = instants_at(local, zone)
-            fired.update(found if follows else found[:1])
-            if not found and not follows:
-                fired.add(behind_gap(local, zone))
+            if dialect == "quartz":
+                fired.update(found[-1:])
+            elif found:
+                fired.update(found if follows or found[-1] - found[0] > CORRECTION else found[:1])
+            elif not follows:
+                behind = behind_gap(local.replace(second=0), zone)
+                if behind.astimezone(zone).utcoffset() - (behind - Span(minutes=1)).astimezone(zone).utcoffset() < CORRECTION:
+                    fired.add(behind)
     return sorted(fired)
+
+
+def in_dialect(text, seconds, dialect):
+    """The text of a schedule in a dialect, and the word that names it."""
+    listed = ",".join(map(str, seconds))
+    if dialect == "quartz":
+        fields = text.split()
+        fields[2:] = [fields[2], fields[3], "?"] if fields[4] == "*" else ["?", fields[3], str(int(fields[4]) + 1)]
+        return f"{listed or 0} {' '.join(fields)}", ["--dialect", "quartz"]
+    if dialect == "robfig":
+        return text, ["--dialect", "robfig"]
+    return (f"{listed} {text}", ["--dialect", "seconds"]) if seconds else (text, [])
 
 
 def of_zoned_due(chance, _):
@@ -866,16 +921,16 @@ def of_zoned_due(chance, _):
     start = any_instant(chance).replace(year=chance.randint(1980, 2036), day=1)
     if chance.random() < 0.7:
         start = DateTime.combine(chance.choice(SET_ON) + chance.randint(-1, 1) * DAY, start.timetz())
-    fired = firings(cron.Schedule(text, False), zone, start, days)
-    seconds = sorted(chance.sample(range(60), chance.choice((1, 2, 4)))) if chance.random() < 0.3 else []
-    if seconds:
-        text, fired = f"{','.join(map(str, seconds))} {text}", [it + Span(seconds=second) for it in fired for second in seconds]
+    dialect = chance.choice(("crontab", "crontab", "robfig", "quartz"))
+    seconds = sorted(chance.sample(range(60), chance.choice((1, 2, 4)))) if dialect != "robfig" and chance.random() < 0.4 else []
+    fired = firings(cron.Schedule(text, False), zone, start, days, seconds or [0], dialect)
+    text, named = in_dialect(text, seconds, dialect)
     near = [it for it in reversed(fired) if it < start] if back else [it for it in fired if start < it]
     count = chance.choice((1, 2, 3))
     shown = [it.astimezone(zone) for it in near[:count]]
     if len(shown) < count or any(it.utcoffset() % Span(minutes=1) for it in shown):
         return of_zoned_due(chance, _)
-    words = ["prev" if back else "next", text, "--from", instant_word(chance, start, False), "--zone", name, "--count", str(count), *(["--dialect", "seconds"] if seconds else [])]
+    words = ["prev" if back else "next", text, "--from", instant_word(chance, start, False), "--zone", name, "--count", str(count), *named]
     return Asked(words, [], 0, [f"{instant_text(it, False)} {it.tzname()}" for it in shown], [{"moment": instant_text(it, False), "name": it.tzname()} for it in shown])
 
 
@@ -900,25 +955,35 @@ def skipping_days(chance, first_year, last_year):
         start = start.replace(month=chance.choice((1, 3, 5, 7, 8, 10, 12)), day=chance.randint(29, 31))
     interval, skip = chance.choice((1, 1, 1, 2, 3, 5)), chance.choice(("OMIT", "BACKWARD", "FORWARD"))
     listed = sorted({chance.choice((1, 15, 28, 29, 30, 31, 31, 31)) for _ in range(chance.choice((0, 1, 1, 2)))})
+    from_end = sorted({chance.choice((1, 2, 28, 29, 30, 31, 31)) for _ in range(chance.choice((0, 0, 0, 1, 2)))})
     in_year = sorted({chance.randint(1, 12) for _ in range(chance.choice((0, 0, 1, 3)))})
     if start.month > 1 and chance.random() < 0.2:
         # (the month before the start puts a day on it, if it lies in the rule's first period)
         start, skip, listed, in_year = start.replace(day=1), "FORWARD", [*listed, 31][-2:], sorted({*in_year, start.month - 1})
     parts = ["FREQ=YEARLY" if yearly else "FREQ=MONTHLY", f"SKIP={skip}", *(["RSCALE=GREGORIAN"] if chance.random() < 0.3 else [])]
-    parts += [f"{name}={','.join(map(str, values))}" for name, values in (("BYMONTHDAY", listed), ("BYMONTH", in_year)) if values]
+    parts += [f"{name}={','.join(map(str, values))}" for name, values in (("BYMONTHDAY", [*listed, *(-it for it in from_end)]), ("BYMONTH", in_year)) if values]
     parts += [f"INTERVAL={interval}"] if interval > 1 else []
-    in_year = in_year or ([start.month] if yearly and not listed else range(1, 13))
-    listed = listed or [start.day]
+    in_year = in_year or ([start.month] if yearly and not listed and not from_end else range(1, 13))
+    listed = listed if listed or from_end else [start.day]
 
     def recurs(date):
         periods = date.year - start.year if yearly else 12 * (date.year - start.year) + date.month - start.month
         return periods >= 0 and periods % interval == 0 and date.month in in_year
 
+    def length(date):
+        return months.monthrange(date.year, date.month)[1]
+
+    def is_put(date):
+        """Whether SKIP puts a day there that a month lacks: one from its front behind it, or one from its end before it."""
+        before, behind = date - DAY, date + DAY
+        if skip == "BACKWARD" and behind.day == 1:
+            return recurs(date) and listed[-1:] > [date.day] or recurs(behind) and from_end[-1:] > [length(behind)]
+        if skip == "FORWARD" and date.day == 1:
+            return recurs(before) and listed[-1:] > [before.day] or recurs(date) and from_end[-1:] > [length(date)]
+        return False
+
     def is_due(date):
-        is_last, before = (date + DAY).day == 1, date - DAY
-        is_put = skip == "BACKWARD" and is_last and recurs(date) and listed[-1] > date.day
-        is_put |= skip == "FORWARD" and date.day == 1 and recurs(before) and listed[-1] > before.day
-        return is_put or (recurs(date) and date.day in listed)
+        return is_put(date) or (recurs(date) and (date.day in listed or length(date) - date.day + 1 in from_end))
 
     found = [it for it in (start + Span(days) for days in range(366 * 30)) if is_due(it)][:40]
     return (start, parts, found) if found else skipping_days(chance, first_year, last_year)
@@ -1019,7 +1084,9 @@ def of_timed_rule(chance, _):
     options += [*([["--from", day_word(chance, since.date()) if since_day else word(since)]] if since else []), *([["--count", str(count)]] if count else [])]
     chance.shuffle(options)
     lines = [moment_text(it) if offset is None else instant_text(placed(it), False) for it in kept[:count]]
-    return Asked(["rule", rule.text(), *(word for it in options for word in it)], [], 0, lines, [{"moment": it} for it in lines])
+    # (beside a time in the start UNTIL has a time too)
+    text = re.sub(r"UNTIL=\d{8}", r"\g<0>T235959", rule.text())
+    return Asked(["rule", text, *(word for it in options for word in it)], [], 0, lines, [{"moment": it} for it in lines])
 
 
 def of_timed_due(chance, _):
@@ -1145,7 +1212,7 @@ def of_cal(chance, files):
         mark = date.day + (date.replace(day=1).weekday() - (start or 0)) % 7 - 1
         row, column = lines[2 + mark // 7], 6 + 3 * (mark % 7)
         lines[2 + mark // 7] = row[:column] + ("<" if closed.is_open(date) else "#") + row[column + 1 :]
-    return Asked(["cal", word or str(date.year) if word or whole else f"{date:%Y-%m}", *closed.words], ["first", "sheet", *kinds], 1, lines, objects)
+    return Asked(["cal", word or str(date.year) if word or whole else month_word(chance, date), *closed.words], ["first", "sheet", *kinds], 1, lines, objects)
 
 
 # ---- wrong commands
@@ -1278,7 +1345,7 @@ def asks_of_lines(words):
 
 
 SPOILERS = (with_wrong_word, with_wrong_word, with_words_missing, with_a_word_more, with_no_such_day)
-MAKERS = {of_day: 10, of_lines: 4, of_add: 16, of_diff: 16, of_instant: 8, of_zone: 6, of_zoned_add: 6, of_zoned_due: 6, of_seq: 10, of_seq_of_times: 5, of_open_seq: 4, of_week: 4, of_end: 12, of_easter: 4, of_leap: 3, of_open: 8, of_roll: 9, of_units: 8, of_times_alone: 8, of_rounded: 4, of_within: 8, of_grep: 8, of_each: 8, of_check: 5, of_due: 9, of_timed_due: 4, of_rule: 9, of_timed_rule: 6, of_skipping: 5, of_timed_skipping: 5, of_cal: 5}
+MAKERS = {of_day: 10, of_lines: 4, of_add: 16, of_diff: 16, of_instant: 8, of_zone: 6, of_zoned_add: 6, of_zoned_due: 6, of_seq: 10, of_seq_of_times: 5, of_open_seq: 4, of_left_out: 3, of_no_day: 4, of_week: 4, of_end: 12, of_easter: 4, of_leap: 3, of_open: 8, of_roll: 9, of_units: 8, of_times_alone: 8, of_rounded: 4, of_within: 8, of_grep: 8, of_each: 8, of_check: 5, of_due: 9, of_timed_due: 4, of_rule: 9, of_timed_rule: 6, of_skipping: 5, of_timed_skipping: 5, of_cal: 5}
 
 
 def commands(chance, files, count):
@@ -1290,7 +1357,7 @@ def commands(chance, files, count):
             asked = maker(chance, files)
         except Unknown:
             continue
-        if maker in (of_each, of_units, of_times_alone, of_rounded, of_within, of_grep, of_seq_of_times, of_open_seq, of_instant, of_zone, of_zoned_add, of_zoned_due, of_timed_due, of_timed_rule, of_skipping, of_timed_skipping):
+        if maker in (of_each, of_units, of_times_alone, of_rounded, of_within, of_grep, of_seq_of_times, of_open_seq, of_left_out, of_no_day, of_instant, of_zone, of_zoned_add, of_zoned_due, of_timed_due, of_timed_rule, of_skipping, of_timed_skipping):
             made.append(asked)
             continue
         if asked.kinds and chance.random() < 0.2:

@@ -1,7 +1,8 @@
 #!/usr/bin/env python3
 """The documents beside the tree: what they name is there, and what they count is as many.
 
-    checks/docs.py
+    checks/docs.py            all of these checks
+    checks/docs.py NAME ..    those of these names
 
   files      each file or folder that a code span, a link or a command names is there, and so is the heading that a link leads to
   names      a name alone in a code span, a clause's too, is declared by a source; of a path `A::b` a source has b in what it says of A;
@@ -16,6 +17,7 @@
 ABSENT and NO_FILES list what is rightly not in the tree; a line there that no document needs is a fault too. Each check is then tried on
 the faults of PLANTED, in copies of the texts, and has to find each. What a sentence claims of the names in it no script can read.
 """
+import argparse
 import collections
 import datetime
 import os
@@ -51,9 +53,10 @@ ABSENT = {
         to_string IntoIterator Ok Option Result Some Sum TryFrom collect fmt::Write match requires self str u8 unsafe unwrap""",
     "of the kit: its words, its tactics and its std": """SomeIff agree_below agree_below_at jiff_tz num_traits omega refl subst
         unfoldable view_is ensures """,
+    "of the last line of a check": "logic-built libraries-built trusted",
     "of pandas and Dask": "NA OutOfBoundsDatetime Client compute",
     "of Python": "Unpickler OverflowError TypeError ValueError datetime timedelta ZoneInfo __slots__ __getstate__",
-    "of JavaScript": "BigInt Int32Array calendarName PlainTime iso8601 RangeError Temporal overflow wasm-opt bulk-memory sign-ext",
+    "of JavaScript": "BigInt Int32Array calendarName PlainTime iso8601 RangeError Temporal wasm-opt bulk-memory sign-ext",
     "of earlier versions": "check_rule check_schedule Roll::Nearest",
     "of SQL, and of texts that it is given": "timestamptz STRICT IMMUTABLE STABLE nearest-isda nearest-quantlib nearest_quantlib",
     "of C": "int32_t memcpy",
@@ -65,15 +68,16 @@ ABSENT = {
         from_isoywd from_num_days_from_ce from_hms
         from_num_seconds_from_midnight and_hms proved_calendar::chrono""",
     "files and modules of chrono": "naive internals ",
-    "words of CMake, of the shell and of a line": "find_package cc load_extension pkg-config lcalendar ldconfig LD_LIBRARY_PATH gc-sections",
+    "words of CMake, of the shell and of a line": "find_package add_subdirectory Iamalgamation sudo cc load_extension pkg-config lcalendar ldconfig LD_LIBRARY_PATH gc-sections",
     "words of the program dates": "MONTH mo us-federal modified-following modified-preceding",
-    "texts and digits of a text": "CEST P0D PT59M59 PT90S PT5400S PT0S P1Y2M h30min",
+    "texts and digits of a text": "CET CEST P0D PT59M59 PT90S PT5400S PT0S P1Y2M h30min",
     "made by tools/dist": "SHA256SUMS",
-    "in the place of a name, or a part of names": "LAW ARGS condition with_ _milli _micro _nano",
+    "of tzcode": "zic slim",
+    "in the place of a name, or a part of names": "LAW ARGS with_ _milli _micro _nano",
 }
 # Files and folders that are rightly not there, by the reason.
 NO_FILES = {
-    "left by a build": "dist dist/postgresql crates/caltool/out/caltool crates/dates/out/dates out out/libcalendar_c.a",
+    "left by a build": "dist dist/sqlite crates/caltool/out/caltool crates/dates/out/dates out out/libcalendar_c.a",
     "a day count": "actual/actual actual/360 actual/365 30/360 30e/360",
     "where a package is installed": """
         include/calendar.h include/calendar_layers.h lib/libcalendar-v3.a lib/libcalendar.a lib/libcalendar.so
@@ -81,7 +85,7 @@ NO_FILES = {
     "an option of a compiler": "-Ilanguages/c",
     "of the kit": "docs/WALKS.md",
     "of the reader": "main.c",
-    "of the machine": "/usr/share/zoneinfo /etc/localtime Europe/Berlin",
+    "of the machine": "/usr/share/zoneinfo /etc/localtime Europe/Berlin America/Ojinaga",
     "a date": "29/02/2024",
     "in the place of a name": "plants/MODULE.edits specs.MODULE.edits proofs/MODULE/FUNCTION/Answers.antt",
 }
@@ -141,7 +145,9 @@ def without_comments(path, text):
 
 
 def is_source(path):
-    return kind_of(path) in COMMENTS and path != "checks/docs.py"
+    # (what `tools/dist amalgamation` writes declares no name of its own)
+    is_written = path.startswith("amalgamation/") or path.endswith("module.js")
+    return kind_of(path) in COMMENTS and path != "checks/docs.py" and not is_written
 
 
 def declared_by(kind, text):
@@ -472,7 +478,12 @@ def lines_of_specs(tree, those):
 
 def lines_to_read(tree):
     """The lines of the definitions of dates and date-times, which are the first nine rows, to the nearest ten."""
-    return round(sum(int(it) for it in re.findall(r"^\| `\w+/specs/[^|]* \| (\d+) \|", tree.documents[TRUST], re.M)[:9]), -1)
+    return round(sum(number(it) for it in re.findall(r"^\| `\w+/specs/[^|]* \| ([\d,]+) \|", tree.documents[TRUST], re.M)[:9]), -1)
+
+
+def node_wanted(tree):
+    """The first version of node that the package for JavaScript takes."""
+    return re.search(r'"node": ">=([\d.]+)"', tree.files["languages/javascript/package.json"])[1]
 
 
 def callers(tree):
@@ -504,9 +515,10 @@ COUNTS = [
     (r"some (\w+) small functions of\s+a user", functions_of_a_user),
     (r"([\d,]+) days of (?:its )?`datetime`", lambda _: datetime.date.max.toordinal()),
     (r"some ([\d,]+) lines in the `specs/` folders", lines_of_all_specs),
-    (r"^\| (?P<those>`\w+/specs/[^|]*) \| (\d+) \|", lines_of_specs),
+    (r"^\| (?P<those>`\w+/specs/[^|]*) \| ([\d,]+) \|", lines_of_specs),
     (r"about (\d+) lines", lines_to_read),
     (r"These (\w+) have the longest answers", callers),
+    (r"node (\d+\.\d+)", node_wanted),
     (CALLER, lines_of_proof),
 ]
 
@@ -553,6 +565,8 @@ PLANTED = [
     (counts, PROMISES, "the prover refuse ", "the prover refuse 1"),
     (counts, PROMISES, " wrong bodies (`must-fail/`", " bodies (`must-fail/`"),
     (counts, TRUST, "Years.antt` | ", "Years.antt` | 1"),
+    (counts, TRUST, "| 1,", "| 9,"),
+    (counts, README, "node 20.", "node 19."),
     (counts, README, "all fourteen commands", "all thirteen commands"),
     (counts, README, " lines for dates and date-times", "0 lines for dates and date-times"),
     (counts, CALTOOL, "| `wom ", "| `wmo "),
@@ -589,13 +603,17 @@ def is_found(tree, stands, check, path, old, new):
 
 
 def main():
+    words = argparse.ArgumentParser(description="Holds the documents to the tree, by all checks or by those of these names.")
+    words.add_argument("names", nargs="*", metavar="NAME", choices=[[], *(it.__name__ for it in CHECKS)])
+    wanted = words.parse_args().names
+    checks = [it for it in CHECKS if not wanted or it.__name__ in wanted]
     tree = Tree(read_files())
-    stands = [it for check in CHECKS for it in check(tree)]
+    stands = [it for check in checks for it in check(tree)]
     for it in stands:
         print(it)
-    found = [is_found(tree, stands, *it) for it in PLANTED]
-    print(f"{len(CHECKS)} checks over {len(tree.documents)} documents; {sum(found)} of {len(found)} faults found")
-    print(f"{len(CHECKS) + sum(found)} passed, {len(stands) + found.count(False)} failed")
+    found = [is_found(tree, stands, *it) for it in PLANTED if it[0] in checks]
+    print(f"{len(checks)} checks over {len(tree.documents)} documents; {sum(found)} of {len(found)} faults found")
+    print(f"{len(checks) + sum(found)} passed, {len(stands) + found.count(False)} failed")
     return 1 if stands or not all(found) else 0
 
 

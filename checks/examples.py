@@ -308,7 +308,7 @@ def printed_values(room, libraries, left, wrong):
     for _ in range(ROUNDS):
         lines_of = write_program(room, libraries, left)
         words = dict(cwd=f"{room}/crates/examples", stdout=subprocess.PIPE, stderr=subprocess.STDOUT, text=True, errors="replace")
-        said = subprocess.run(["rt", "try"], **words).stdout
+        said = subprocess.run(["rt", "try", "--seconds", "600"], **words).stdout
         bad = dict(uncompiled(said, lines_of, left))
         printed = printed_by(said)
         if not bad and re.search(r"^run=ended status=0 ", said, re.M) and len(printed) == len(left):

@@ -1,10 +1,11 @@
 """The package for Rust, used as its users use it; checks/languages.py runs this.
 
 The declarations of the layers have to be those of calendar_layers.h, each used by the crate and with a test of its name. The package is
-made with the static libraries inside, packed, and unpacked again. A project outside, which names it by its
-path, runs its tests. Where Debian's crates lie, those of its features are run too, its module `chrono` is compared with
-chrono on generated values, and chrono's doc examples are run on it (checks/chrono_docs.py). The examples of the crate are
-run, a build with no library has to say what to do, and each of the wrong lines planted in the wrapper has to fail its tests.
+made with the C files inside, packed, and unpacked again. A project outside, which names it by its path, runs its tests over the proved
+libraries, and once over the C files. Where Debian's crates lie, those of its features are run too, its module `chrono` is compared with
+chrono on generated values, and chrono's doc examples are run on it (checks/chrono_docs.py). The examples of the crate are run. A build with
+few features has to give no warning, and one with no library has to say what to do. Each of the wrong lines planted in the wrapper has to fail
+its tests.
 """
 import glob
 import os
@@ -22,7 +23,7 @@ from wrong_lines import planted, tried
 
 TOP = os.path.dirname(os.path.dirname(os.path.abspath(__file__)))
 sys.path.insert(0, f"{TOP}/tools")
-from debian import FROM_DEBIAN, PYTHON, REGISTRY  # noqa: E402
+from debian import PYTHON, REGISTRY, cargo_environment  # noqa: E402
 from packages import CALENDAR, LAYERS, rust  # noqa: E402
 
 FOLDER = f"{TOP}/languages/rust"
@@ -38,7 +39,7 @@ TESTS, FEATURE_TESTS = ("calls", "layers", "values", "chrono_names"), ("features
 # The structs of the headers by their names in Rust, and what of the layers the crate does not use, as it is built with them.
 STRUCTS = {
     "calendar_date_time": "Moment", "calendar_fault": "Fault", "calendar_schedule": "Sets", "calendar_fraction": "Quotient",
-    "calendar_offsets": "Offsets",
+    "calendar_offsets": "Offsets", "calendar_zoned": "Zoned",
 }
 NOT_USED = ("calendar_layers_version",)
 COUNTS = (r"test result: .*? (\d+) passed", r"test result: .*? (\d+) failed")
@@ -108,19 +109,13 @@ def unpacked(room, built):
 def make_project(project, package, tests, features=()):
     """A project that uses the package, with std if it has tests, and has its tests; the project."""
     named = ", ".join(f'"{it}"' for it in (*features, *(["std"] if tests else [])))
-    others = "".join(f"{it} = {FEATURES[it]}\n" for it in features)
+    others = "".join(f"{it} = {FEATURES[it]}\n" for it in features if it in FEATURES)
     write(f"{project}/Cargo.toml", PROJECT.format(package=package, features=named, others=others))
     write(f"{project}/src/lib.rs", "")
     for it in tests:
         os.makedirs(f"{project}/tests", exist_ok=True)
         shutil.copy(f"{FOLDER}/tests/{it}.rs", f"{project}/tests/{it}.rs")
     return project
-
-
-def environment(room):
-    """The environment of cargo, with no library but the package's own."""
-    kept = {name: it for name, it in os.environ.items() if name != "CALENDAR_FOLDER"}
-    return dict(kept, CARGO_TARGET_DIR=f"{room}/target")
 
 
 def test_examples(results, room, package):
@@ -143,34 +138,40 @@ def test_peers(results, room, package):
         return
     project = make_project(f"{room}/peers", package, ("peers",))
     words = ["cargo", "test", "--offline", "--quiet", "--test", "peers"]
-    run(results, "Rust's layers beside other programs", words, COUNTS, cwd=project, env={**environment(room), "PEER_ANSWERS": answers})
+    run(results, "Rust's layers beside other programs", words, COUNTS, cwd=project, env={**cargo_environment(room, f"{room}/built"), "PEER_ANSWERS": answers})
 
 
 def test_bare(results, room, package):
-    """The package builds with no feature, so without std."""
-    words = ["cargo", "check", "--offline"]
-    ran = subprocess.run(words, cwd=make_project(f"{room}/bare", package, []), env=environment(room), capture_output=True, text=True)
-    results.count(ran.returncode == 0, f"a build with no feature says:\n{ran.stderr[-2000:]}")
+    """The package builds without a warning of its own: with no feature, so without std, with lists and texts, and with std."""
+    for features in ((), ("alloc",), ("std",)):
+        project = make_project(f"{room}/bare", package, [], features)
+        ran = subprocess.run(["cargo", "check", "--offline"], cwd=project, env=cargo_environment(room, f"{room}/built"), capture_output=True, text=True)
+        results.count(ran.returncode == 0 and "warning: " not in ran.stderr, f"a build with the features {features} says:\n{ran.stderr[-2000:]}")
 
 
 def test_cells(results, room, package):
     """The example of each layer."""
     project = make_project(f"{room}/cells", package, ("cells",))
     os.rename(f"{project}/tests/cells.rs", f"{project}/src/main.rs")
-    cells.run(results, "Rust", ["cargo", "run", "--offline", "--quiet"], cwd=project, env=environment(room))
+    cells.run(results, "Rust", ["cargo", "run", "--offline", "--quiet"], cwd=project, env=cargo_environment(room, f"{room}/built"))
 
 
 def test_missing(results, room, package):
-    """A build with no library says what to run."""
-    os.rename(f"{package}/lib", f"{package}/lib-away")
+    """A build with neither the C files nor a library says what to run, and so does one whose folder has no library."""
+    os.rename(f"{package}/amalgamation", f"{package}/away")
     try:
         project = make_project(f"{room}/missing", package, [])
-        words = ["cargo", "check", "--offline"]
-        ran = subprocess.run(words, cwd=project, env=environment(room), capture_output=True, text=True)
-        told = "libcalendar.a is missing" in ran.stderr and "`tools/dist rust`" in ran.stderr
-        results.count(ran.returncode != 0 and told, f"a build with no library says:\n{ran.stderr[-2000:]}")
+        for env, told in ((cargo_environment(room), "`tools/dist amalgamation` makes them"), (cargo_environment(room, room), "There is no libcalendar.a")):
+            ran = subprocess.run(["cargo", "check", "--offline"], cwd=project, env=env, capture_output=True, text=True)
+            results.count(ran.returncode != 0 and told in ran.stderr, f"a build with no library says:\n{ran.stderr[-2000:]}")
     finally:
-        os.rename(f"{package}/lib-away", f"{package}/lib")
+        os.rename(f"{package}/away", f"{package}/amalgamation")
+
+
+def test_c_files(results, room, package):
+    """The tests over the C files, as a machine without the kit builds them."""
+    project = make_project(f"{room}/of_c", package, TESTS)
+    run(results, "cargo test over the C files", TESTING, COUNTS, cwd=project, env=cargo_environment(f"{room}/of_c"))
 
 
 # So many seconds may the tests take with a wrong line. Some make a search go on and on.
@@ -180,10 +181,10 @@ LONGEST = "240"
 def try_wrong_line(room, built, edit):
     """Whether a wrong line in the wrapper is found by the tests, and what they print."""
     package = f"{room}/package"
-    rust.make_package(TOP, planted("rust", f"{room}/planted", edit), built, package)
+    rust.make_package(TOP, planted("rust", f"{room}/planted", edit), package)
     words = ["timeout", LONGEST, *TESTING, "--quiet", "--no-fail-fast"]
     project = make_project(f"{room}/project", package, TESTS)
-    ran = subprocess.run(words, cwd=project, env=environment(room), stdout=subprocess.PIPE, stderr=subprocess.STDOUT, text=True)
+    ran = subprocess.run(words, cwd=project, env=cargo_environment(room, built), stdout=subprocess.PIPE, stderr=subprocess.STDOUT, text=True)
     # (timeout ends with the status 124)
     return "test result: FAILED" in ran.stdout or ran.returncode == 124, ran.stdout[-1500:]
 
@@ -213,17 +214,20 @@ def test(results, room, library, layers):
     os.makedirs(room)
     built = put_libraries(room, library, layers)
     package = unpacked(room, built)
+    if not glob.glob(f"{REGISTRY}/cc-[0-9]*"):
+        print(f"not run: the tests in Rust, since there is no {REGISTRY}/cc")
+        return
     missing = [it for it in FEATURES if not glob.glob(f"{REGISTRY}/{it}-[0-9]*")]
     if missing:
         print(f"not run: the features of the Rust crate, since there is no {REGISTRY}/{missing[0]}")
     tests, features = (TESTS, ()) if missing else (TESTS + FEATURE_TESTS, FEATURES)
     project = make_project(f"{room}/project", package, tests, features)
-    words = [*TESTING, *([] if missing else FROM_DEBIAN)]
-    run(results, "cargo test", words, COUNTS, cwd=project, env=environment(room))
+    run(results, "cargo test", TESTING, COUNTS, cwd=project, env=cargo_environment(room, built))
     test_examples(results, room, package)
-    chrono_docs.test(results, room, package, environment(room))
+    chrono_docs.test(results, room, package, cargo_environment(room, built))
     test_peers(results, room, package)
     test_bare(results, room, package)
     test_cells(results, room, package)
     test_missing(results, room, package)
+    test_c_files(results, room, package)
     try_wrong_lines(results, room, built)

@@ -1,7 +1,7 @@
 #!/usr/bin/env python3
 """Compares the eight given calendars with QuantLib 1.29, and those of Germany, France and Japan with python3-holidays 0.10.1.
 
-    checks/given_calendars.py      (the gate does not start it)
+    checks/given_calendars.py
 
 The holidays are those that checks/business.py writes a second time, and to which it holds the library. Each calendar is compared on
 the workdays from its first year to 2040. A difference fails unless it is listed here with its reason, and so does a reason that no

@@ -3,9 +3,7 @@
 
     checks/languages.py
 
-It takes the libcalendar_c.a that `rt lib` leaves in crates/calendar_c/out, if that is newer than all sources. Else it runs `rt lib`
-there, if the libraries below are built, and after `rt ci`, which builds none for other commands, in a repository of its own over
-what is proved of them, as checks/outside.py does. Where that serves, no library is proved again.
+It takes the static libraries as tools/library.py finds or builds them. Where what the gate left serves, no library below is proved again.
 
 Compared are names, results and parameters, each way: those of calendar.h with the exports of crates/calendar_c, with the symbols
 of the library and with the declarations of the Rust crate; the fields of both structs; the processors that texts and header name,
@@ -226,12 +224,12 @@ def compare_instructions(results, library, wanted):
     results.count(used and level == wanted, f"{os.path.basename(library)} is for {level}, and not for {wanted}")
 
 
-def compare_higher(results, header, library, path):
+def compare_higher(results, header, path):
     """The second library of the package for C has the same names, and instructions of a higher level."""
     if not shutil.which("rt"):
         print("not run: the library for higher processors, since there is no rt")
         return
-    built = build_higher(library, path)
+    built = build_higher(path)
     results.count(built, "`rt lib --cpu` does not build the library for higher processors")
     if built:
         compare_symbols(results, header, path)
@@ -270,7 +268,7 @@ def compare_examples(results):
     page = read(f"{TOP}/README.md")
     results.count("Each call below gives 28 February 2025." in page, "README.md does not say what the uses give")
     rows = re.findall(r"^\| \[[^]]*\]\(languages/(\w+)/README\.md\)[^|]*\| `[^`]*` \| `([^`]*)` \|$", page, re.M)
-    results.count(sorted(it for it, _ in rows) == ["c", "javascript", "python", "rust"], f"README.md has uses of {rows}")
+    results.count(sorted(it for it, _ in rows) == ["c", "javascript", "postgresql", "python", "rust", "sqlite"], f"README.md has uses of {rows}")
     for language, use in rows:
         text = read(f"{TOP}/languages/{language}/README.md").replace(".unwrap().", "?.")
         results.count(use in text and re.search("2025-02-28|2025, 2, 28", text), f"languages/{language}/README.md has no {use}")
@@ -311,12 +309,12 @@ def main():
     results = Results()
     header = compare_sources(results)
     with tempfile.TemporaryDirectory(prefix="languages-") as room:
-        library = take_library(results, room)
-        layers = take_library(results, room, LAYERS)
+        library = take_library(results)
+        layers = take_library(results, LAYERS)
         if library:
             compare_symbols(results, header, library)
             compare_instructions(results, library, level_of_header())
-            compare_higher(results, header, library, f"{room}/higher.a")
+            compare_higher(results, header, f"{room}/higher.a")
         if library and layers:
             from_rust.test(results, room, library, layers)
         if library and layers and shutil.which("cc"):

@@ -35,7 +35,7 @@ SANITIZERS = ["-fsanitize=address,undefined", "-fno-sanitize-recover=all", "-g"]
 TYPES = {
     "int32_t": "i32", "int64_t": "i64", "uint8_t": "u8", "uint32_t": "u32", "uint64_t": "u64", "size_t": "usize",
     "CalendarDateTime": "calendar_date_time", "CalendarFault": "calendar_fault", "CalendarSchedule": "calendar_schedule", "CalendarFraction": "calendar_fraction",
-    "CalendarOffsets": "calendar_offsets",
+    "CalendarOffsets": "calendar_offsets", "CalendarZoned": "calendar_zoned",
 }
 
 
@@ -149,7 +149,7 @@ def run_program(results, room, library, source, words):
 def main():
     results, rounds = Results(), sys.argv[1] if len(sys.argv) > 1 else "2000"
     with tempfile.TemporaryDirectory(prefix="layers-c-") as room:
-        library = take_library(results, room, LAYERS)
+        library = take_library(results, LAYERS)
         if library:
             compare_all(results, library)
             run_program(results, room, library, TEST, [])

@@ -270,7 +270,7 @@ def main():
     cases = int(sys.argv[1]) if len(sys.argv) > 1 else 20_000
     results, numbers = Results(), random.Random(int(sys.argv[2]) if len(sys.argv) > 2 else 1)
     with tempfile.TemporaryDirectory(prefix="layers-peers-") as room:
-        found = take_library(results, room, LAYERS)
+        found = take_library(results, LAYERS)
         if found:
             library = load(found, room)
             left_out = test_schedules(results, library, numbers, cases)

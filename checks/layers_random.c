@@ -200,6 +200,33 @@ static void open_days(void)
     free(days);
 }
 
+/* The same in some years: each answer is that of all years, or none. */
+static void open_days_within(void)
+{
+    uint8_t weekend = any() % 2 ? 96 : (uint8_t)any();
+    int32_t days[40];
+    size_t length = holidays(weekend, days, 40);
+    int32_t near = length ? (int32_t)((int64_t)days[any() % length] + (int64_t)(any() % 9) - 4) : date(), end = date();
+    int64_t n = any() % 8 ? (int64_t)(any() % 400) - 200 : (int64_t)any();
+    /* (a year has 365.2425 days) */
+    int32_t year = (int32_t)((int64_t)near * 400 / 146097 + 1), first = any() % 8 ? year - (int32_t)(any() % 3) : (int32_t)any();
+    int32_t last = any() % 8 ? year + (int32_t)(any() % 3) : (int32_t)any();
+    int32_t here = calendar_is_open_day_within(weekend, days, length, first, last, near);
+    HOLDS(here == CALENDAR_NONE || here == calendar_is_open_day(weekend, days, length, near));
+    int32_t moved = calendar_add_open_days(weekend, days, length, near, n);
+    bool is_known = here != CALENDAR_NONE && calendar_is_open_day_within(weekend, days, length, first, last, moved) != CALENDAR_NONE;
+    HOLDS(calendar_add_open_days_within(weekend, days, length, first, last, near, n) == (is_known ? moved : CALENDAR_NONE));
+    int64_t counted = calendar_open_days_between_within(weekend, days, length, first, last, near, end);
+    HOLDS(counted == INT64_MIN || counted == calendar_open_days_between(weekend, days, length, near, end));
+    HOLDS(here == CALENDAR_NONE || calendar_open_days_between_within(weekend, days, length, first, last, near, near) == 0);
+    for (uint32_t roll = 0; roll < 9; roll++) {
+        int32_t rolled = calendar_roll_within(weekend, days, length, first, last, near, roll);
+        HOLDS(rolled == CALENDAR_NONE || (here != CALENDAR_NONE && rolled == calendar_roll(weekend, days, length, near, roll)));
+    }
+    uint32_t which = (uint32_t)(any() % 16);
+    HOLDS((calendar_holidays_first_year(which) == CALENDAR_NONE) == (which > CALENDAR_JAPAN));
+}
+
 /* A text near to a rule's: parts of rules, and now and then any letters. */
 static uint8_t *rule(size_t *length)
 {
@@ -360,6 +387,17 @@ static void patterns(void)
     HOLDS(written == CALENDAR_NONE || (is_pattern && is_moment(at) && written >= 0 && (size_t)written <= room));
     calendar_date_time read = calendar_parse_date_time(given, length, random, text_length, &other);
     HOLDS(is_pattern || (read.seconds == 0 && read.nanos == CALENDAR_NO_NANOS));
+    bool names_offset = calendar_pattern_names_offset(given, length);
+    HOLDS(is_pattern || !names_offset);
+    calendar_fault zoned_fault = {0, 0, 0, 0};
+    calendar_zoned zoned = calendar_parse_zoned(given, length, random, text_length, &zoned_fault);
+    HOLDS((zoned.nanos == CALENDAR_NO_NANOS) == (zoned_fault.code != 0));
+    HOLDS(zoned.nanos == CALENDAR_NO_NANOS ? zoned.seconds == 0 && zoned.offset == 0 : zoned.offset > -86400 && zoned.offset < 86400);
+    calendar_date_time local;
+    local.seconds = zoned.seconds;
+    local.nanos = zoned.nanos;
+    HOLDS(zoned.nanos == CALENDAR_NO_NANOS || is_moment(local));
+    HOLDS(names_offset || zoned.offset == 0);
     free(out);
     free(random);
     free(given);
@@ -602,6 +640,7 @@ int main(int count_of_words, char **words)
         schedules();
         rules();
         open_days();
+        open_days_within();
         known_holidays();
         columns();
         patterns();

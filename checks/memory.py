@@ -146,7 +146,7 @@ def main():
     with tempfile.TemporaryDirectory(prefix="memory-") as room:
         make_repository(room)
         for request in (FIRST, SECOND, NONE):
-            words = ["rt", "try", "--test", "--fail-alloc", str(request)]
+            words = ["rt", "try", "--test", "--seconds", "600", "--fail-alloc", str(request)]
             ran = subprocess.run(words, cwd=f"{room}/crates/printed", stdout=subprocess.PIPE, stderr=subprocess.STDOUT, text=True)
             told = TOLD.findall(ran.stdout)
             whole = sum(it[1] == "ok" for it in told)

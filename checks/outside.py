@@ -1,5 +1,5 @@
 #!/usr/bin/env python3
-"""Uses the libraries from outside: proves the callers that two pages quote in a fresh repository of their own.
+"""Uses the libraries from outside: proves the callers that three pages quote in a fresh repository of their own.
 
     checks/outside.py           (in a folder below $TMPDIR, removed afterwards)
     checks/outside.py FOLDER    (in that folder, which must not exist yet and stays)
@@ -22,7 +22,7 @@ from gate import load_rt  # noqa: E402
 
 TOP = os.path.dirname(os.path.dirname(os.path.abspath(__file__)))
 USED = ("chrono_reading", "chrono_cron", "chrono_business", "chrono_rules", "chrono_zoned")
-PAGES = ("docs/tutorial.md", "docs/callers.md")
+PAGES = ("docs/tutorial.md", "docs/callers.md", "CALLING.md")
 QUOTED = re.compile(r"^`(crates(?:\.txt|/[\w/.]+))`:\n\n```\w*\n(.*?)^```$", re.M | re.S)
 
 

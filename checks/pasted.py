@@ -41,12 +41,11 @@ ELSEWHERE = {
     "./check": "it runs this check",
     "tools/setup": "`.ci/run` runs it",
     "tools/dist": "its parts are made and used by checks/languages.py and checks/javascript.py",
-    "tools/dist state": "it packs a proved tree",
     "(cd dist && sha256sum --check SHA256SUMS)": "dist/ is left by tools/dist",
-    "python3 -m venv env && env/bin/pip install dist/*.whl": "checks/from_python.py installs the wheel so",
-    "cargo add --path dist/rust/proved-calendar": "checks/from_rust.py",
-    "npm install dist/javascript/proved-calendar": "checks/javascript.py",
-    "cp -R dist/include dist/lib /usr/local/": "checks/from_c.py, in a folder of its own",
+    "tools/dist amalgamation": "checks/portable.py makes the same files",
+    "python3 -m venv env && env/bin/pip install ./languages/python": "checks/without_kit.py",
+    "cargo add --path languages/rust": "checks/from_rust.py tests the crate so",
+    "npm install ./languages/javascript": "checks/without_kit.py",
     "cp crates/dates/out/dates ~/.local/bin/": "it writes into the reader's home",
 }
 # A slow machine proves all that caltool uses in half an hour.

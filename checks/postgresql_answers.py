@@ -238,11 +238,28 @@ def compare_open_days(results, server, library, numbers, count):
 # ---- instants
 
 
+MINUTE = datetime.timedelta(minutes=1)
+CORRECTION = datetime.timedelta(hours=3)
+
+
+def fires(library, text, instant, zone):
+    """Whether a schedule fires at a minute, as with Vixie's cron: by what the clock shows, or else once for each planned time."""
+    follows = "*" in (text.split()[0][0], text.split()[1][0])
+    local, before = instant.astimezone(zone), (instant - MINUTE).astimezone(zone)
+    again = local.replace(fold=0).utcoffset() - local.utcoffset()
+    if library.is_due(text, local) and (follows or again == 0 * MINUTE or again > CORRECTION):
+        return True
+    ahead = local.utcoffset() - before.utcoffset()
+    if follows or not 0 * MINUTE < ahead < CORRECTION:
+        return False
+    return any(library.is_due(text, before.replace(tzinfo=None) + place * MINUTE) for place in range(1, ahead // MINUTE + 1))
+
+
 def next_instant(library, text, start, zone):
-    """The first minute after a start at which the zone's clock shows a time at which the schedule is due."""
-    found = start.replace(second=0, microsecond=0) + datetime.timedelta(minutes=1)
-    while not library.is_due(text, found.astimezone(zone)):
-        found += datetime.timedelta(minutes=1)
+    """The first minute after a start at which the schedule fires by the zone's clock."""
+    found = start.replace(second=0, microsecond=0) + MINUTE
+    while not fires(library, text, found, zone):
+        found += MINUTE
     return found
 
 
@@ -250,7 +267,7 @@ def compare_instants(results, server, library, numbers, count):
     """The next due instant near changes of the clock, and moves by months, in several zones."""
     starts = [datetime.datetime(2011, 12, 29), datetime.datetime(2017, 10, 14), datetime.datetime(2024, 3, 30), datetime.datetime(2024, 10, 26),
               datetime.datetime(2024, 4, 6), datetime.datetime(2024, 11, 2), datetime.datetime(2024, 6, 1), datetime.datetime(2037, 10, 24), datetime.datetime(2095, 3, 26)]
-    texts = ("30 2 * * *", "*/30 * * * *", "0 3 * * *", "15 1,2 * * *", "0 0 * * *", "59 23 * * *")
+    texts = ("30 2 * * *", "*/30 * * * *", "0 */2 * * *", "0 3 * * *", "15 1,2 * * *", "0 0 * * *", "59 23 * * *")
     for name in ZONES:
         zone, rows, wanted = zoneinfo.ZoneInfo(name), [], []
         for _ in range(max(5, count // 500)):

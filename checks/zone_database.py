@@ -154,6 +154,19 @@ fn main(rt: HostRuntime) -> io::Result<()> {
                 }
                 Err(error) => println!(rt; "= {error:?}: {error}")?,
             },
+            "rows" => {
+                let mut bytes = Vec::new(rt.alloc());
+                for pair in word.as_bytes().chunks_exact(2) {
+                    bytes.push(digit_of(pair[0]) * 16 + digit_of(pair[1]))?;
+                }
+                match OwnedZone::from_tzif_rows(rt.alloc(), bytes) {
+                    Ok(read) => {
+                        zone = read;
+                        println!(rt; "= rows {:?} {:?}", zone.rule().is_none(), zone.rule_text())?
+                    }
+                    Err(error) => println!(rt; "= {error:?}: {error}")?,
+                }
+            }
             "local" => {
                 let (tz, folder) = word.split_once(' ').unwrap_or((word, "-"));
                 match local_zone(&Machine(&rt, tz, folder)) {
@@ -182,6 +195,10 @@ fn main(rt: HostRuntime) -> io::Result<()> {
         }
     }
     Ok(())
+}
+
+fn digit_of(byte: u8) -> u8 {
+    if byte < 97 { byte - 48 } else { byte - 87 }
 }
 '''
 # Names that leave the folder or can be no zone's.
@@ -231,6 +248,7 @@ def of_faults(folder):
     badly = {
         "empty": (b"", "File(ZoneFileError { fault: CutOff, byte: 0 }): its file at byte 0: the file is cut off"),
         "text": (b"?" * 99, "File(ZoneFileError { fault: NoHeader, byte: 0 }): its file at byte 0: no header of a TZif file stands there"),
+        "other": (berlin[: place + 4] + b"\xff" + berlin[place + 5 :], f"File(ZoneFileError {{ fault: OtherVersion, byte: {place} }}): its file at byte {place}: the two headers name different versions"),
         "version": (b"TZif9" + berlin[5:], "File(ZoneFileError { fault: UnknownVersion, byte: 0 }): its file at byte 0: an unknown version"),
         "long": (berlin + bytes(1_048_576), "LongFile: its file has more than 1 MiB"),
         "longest": (berlin + bytes(1_048_576 - len(berlin)), f"File(ZoneFileError {{ fault: WrongFooter, byte: {berlin.rindex(bytes((10,)), 0, -1)} }}): its file at byte {berlin.rindex(bytes((10,)), 0, -1)}: the footer is wrong"),
@@ -238,6 +256,11 @@ def of_faults(folder):
         "rule": (berlin.replace(b"CET-1CEST,", b"CET-1CESTx"), 'Rule(ZoneTextError { fault: NoDays, byte: 12 }): its rule at byte 12: the days of daylight time are missing'),
         "joined": (berlin.replace(b"CET-1CEST,", b"CET-4CEST,"), "Zone(NotJoined): the rule does not go on from the last row"),
     }
+    # (the rows are read without the rule, so the last offset holds for ever)
+    yield f"rows {badly['joined'][0].hex()}", 'rows true ""'
+    yield from ((f"at {second}", told(zoneinfo.ZoneInfo("Europe/Berlin"), second)) for second in (-1, 1_719_792_000, 2_140_000_000))
+    yield "at 2224800000", "3600 CET"
+    yield f"rows {badly['version'][0].hex()}", badly["version"][1]
     yield f"folder {folder}", folder
     for name, (data, why) in badly.items():
         with open(os.path.join(folder, name), "wb") as it:
@@ -258,7 +281,7 @@ def answers_of(room, questions):
     """What the program answers."""
     folder = put_program(room, "zones", ["zone_database"], PROGRAM)
     lines = "".join(f"{it}\n" for it in questions)
-    said = subprocess.run(["rt", "try"], cwd=folder, input=lines, stdout=subprocess.PIPE, stderr=subprocess.STDOUT, text=True, errors="replace").stdout
+    said = subprocess.run(["rt", "try", "--seconds", "1200"], cwd=folder, input=lines, stdout=subprocess.PIPE, stderr=subprocess.STDOUT, text=True, errors="replace").stdout
     if not re.search(r"^run=ended status=0 ", said, re.M):
         sys.exit(f"the program fails:\n{said[-3000:]}")
     return [line[2:] for line in said.splitlines() if line.startswith("= ")]

@@ -134,6 +134,7 @@ class Parts:
     def __init__(self, data):
         self.version, at = data[4], 0
         for size in (4,) if not self.version else (4, 8):
+            self.last_version = data[at + 4]
             self.counts = struct.unpack(">6L", data[at + 20 : at + 44])
             isut, isstd, leap, times, kinds, chars = self.counts
             ends = list(itertools.accumulate((times * size, times, kinds * 6, chars, leap * (size + 4), isstd, isut), initial=at + 44))
@@ -158,10 +159,10 @@ class Parts:
         return self.kinds[self.places[-1]] if self.places else self.kinds[0]
 
     def sets_soon(self):
-        """Whether the rule sets the clock within two days behind the last row."""
-        last = self.times[-1]
+        """Whether the rule sets the clock to another offset within two days behind the last row."""
+        last, offset = self.times[-1], self.last_kind()[0]
         years = range(year_of(last) - 1, year_of(last) + 2)
-        return any(last < it <= last + 2 * DAY for year in years for it, _, _ in self.rule.changes(year))
+        return any(last < it <= last + 2 * DAY and self.rule.at(it) != offset for year in years for it, _, _ in self.rule.changes(year))
 
     def names_end(self):
         """Whether each kind has a name that is text and has at most 15 bytes."""
@@ -187,13 +188,14 @@ class Parts:
 # What our reader says, what jiff_tz says, why they differ, and what the file has then.
 REASONS = (
     ("file", "zone", "jiff_tz takes each version that is not 0 as a later one", lambda it: it.version not in b"\x00234"),
+    ("file", "zone", "jiff_tz does not look at the version of the second header", lambda it: it.last_version != it.version),
     ("file", "zone", "jiff_tz steps over leap seconds", lambda it: it.counts[2] > 0),
     ("file", "zone", "jiff_tz lets bytes follow what it reads", lambda it: it.goes_on()),
     ("kind", "zone", "jiff_tz takes each byte but 1 as standard time", lambda it: it.kinds[0][1] > 1),
     ("kind", "zone", "jiff_tz takes offsets of a day and more", lambda it: abs(it.kinds[0][0]) >= DAY),
     ("rows", "zone", "jiff_tz takes offsets of a day and more", lambda it: any(abs(at) >= DAY for at, _, _ in it.kinds)),
     ("unordered", "zone", "jiff_tz takes two rows at one second", lambda it: any(a == b for a, b in itertools.pairwise(it.times))),
-    ("joined", "zone", "jiff_tz lets the rule set the clock soon behind the last row", lambda it: it.sets_soon()),
+    ("joined", "zone", "jiff_tz lets the rule change the offset soon behind the last row", lambda it: it.sets_soon()),
     ("joined", "zone", "jiff_tz moves a row past the year 9999 to its end", lambda it: it.times[-1] > LAST_OF_JIFF),
     ("zone", "fault", "jiff_tz reads the offsets of all kinds, and our reader those that rows have", lambda it: any(abs(at) > MOST_OF_JIFF for at, _, _ in it.kinds)),
     ("zone", "fault", "jiff_tz reads all names, and wants text of 15 bytes at most", lambda it: not it.names_end()),
@@ -231,7 +233,7 @@ def main():
             lines.append(f"byte {place} {change}")
     with tempfile.TemporaryDirectory(prefix="zone-readers-") as room:
         folder = put_program(room, "zone_readers", ["zone_table", "zone_rule", "zone_text", "zone_file", "zone"], PROGRAM, ("jiff_core", "jiff_tz"))
-        said = subprocess.run(["rt", "try", "--seconds", "300"], cwd=folder, input="".join(f"{it}\n" for it in lines), stdout=subprocess.PIPE, stderr=subprocess.STDOUT, text=True, errors="replace").stdout
+        said = subprocess.run(["rt", "try", "--seconds", "1200"], cwd=folder, input="".join(f"{it}\n" for it in lines), stdout=subprocess.PIPE, stderr=subprocess.STDOUT, text=True, errors="replace").stdout
     answers = [it[2:].split() for it in said.splitlines() if it.startswith("= ")]
     if len(answers) != len(lines):
         sys.exit(f"{len(answers)} answers for {len(lines)} lines:\n{said[-3000:]}")

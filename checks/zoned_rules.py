@@ -7,7 +7,8 @@ All changes of N zones of six are gone through, in so many years of each (2 and 
 of all six zones from 2000 to 2029 (20,000, if left out). A line asks about seven questions.
 
 dateutil's `rrule` gives the local times of a rule, with no zone. Each stands for an instant by RFC 5545, 3.3.5: the first at which the clock
-shows it, or by the offset before the gap. Instants that are one count once, and those before the start's instant do not count.
+shows it, or by the offset before the gap. Instants that are one count once. A local time counts that is no earlier than the start by the clock, and
+whose instant is no earlier than the start's.
 A rule by hours, minutes or seconds is FREQ=HOURLY, MINUTELY or SECONDLY with INTERVAL there, and steps of the clock here. dateutil refuses an
 interval that never meets a list of the rule, where the program finds no instance.
 COUNT and UNTIL are held to the instants here, not to the local times. Of some rules one instant is made an exception, and the instant ten
@@ -19,7 +20,7 @@ proves it too, and its answers take seconds. Otherwise `rt try` runs it unproved
 dateutil is also asked for the instants of `next` itself, with the zone at the start. Where it answers otherwise, it is for one of these reasons:
 - `order`: it lists the instants in the order of the local times. A gap moves some behind later ones, or twice onto one.
 - `count` and `until`: COUNT counts local times there, and a rule ends at the first local time that is past UNTIL.
-- `start`: a gap moves a local time before the start's behind the start's instant. dateutil leaves it out.
+- `start`: the clock skips the start. A later local time may then stand for an earlier instant than the start. dateutil lists it.
 We list each instant once, in order, and hold the bounds to them. Any other difference is a failure.
 """
 import argparse
@@ -76,8 +77,8 @@ RULES = (
     ("FREQ=DAILY;BYDAY=SU", "1,2,3", "0,29,30,31", "", "S97"),
     ("FREQ=DAILY", "", "", "", "S90061"),
 )
-# The words of FREQ, each with its seconds.
-UNITS = {"H": ("HOURLY", 3_600), "M": ("MINUTELY", 60), "S": ("SECONDLY", 1)}
+# The words of FREQ.
+UNITS = {"H": "HOURLY", "M": "MINUTELY", "S": "SECONDLY"}
 # The years of changes that are drawn, and rules of days for them.
 DRAWN = (2_000, 2_030)
 DAYS = ("FREQ=DAILY", "FREQ=DAILY;INTERVAL=3", "FREQ=WEEKLY;BYDAY=SU", "FREQ=WEEKLY;INTERVAL=2;BYDAY=SA,SU,MO", "FREQ=MONTHLY;BYDAY=1SU,2SU,-1SU", "FREQ=MONTHLY;BYMONTHDAY=1,2,-1,-2",
@@ -285,23 +286,13 @@ def instances(known, rule, start, end):
     from dateutil.rrule import rrulestr
     text, hours, minutes, seconds = rule[:4]
     parts = [f"{name}={numbers}" for name, numbers in (("BYHOUR", hours), ("BYMINUTE", minutes), ("BYSECOND", seconds)) if numbers]
-    # (from the day's beginning on, since a gap may move a local time before the start's behind the start's instant)
-    first = start.replace(hour=0, minute=0, second=0)
     if rule[4:]:
-        word, unit = UNITS[rule[4][0]]
-        interval = int(rule[4][1:])
-        text = text.replace("FREQ=DAILY", f"FREQ={word};INTERVAL={interval}")
-        length = interval * unit
-        first = start - datetime.timedelta(seconds=(start - first).seconds // length * length)
-        missing = []
-    else:
-        own = (f"BYHOUR={start.hour}", f"BYMINUTE={start.minute}", f"BYSECOND={start.second}")
-        missing = [it for it, numbers in zip(own, (hours, minutes, seconds)) if not numbers]
+        text = text.replace("FREQ=DAILY", f"FREQ={UNITS[rule[4][0]]};INTERVAL={rule[4][1:]}")
     begun = known[seconds_of(start)]
     last = EPOCH + datetime.timedelta(seconds=end + 2 * DAY)
     found = set()
     try:
-        rrule = rrulestr(";".join([text, *parts, *missing]), dtstart=first)
+        rrule = rrulestr(";".join([text, *parts]), dtstart=start)
         found.update(known[seconds_of(it)] for it in itertools.takewhile(lambda it: it <= last, rrule))
     except ValueError as error:
         # (it refuses an interval that never meets a list, where we find no instance)
@@ -419,7 +410,7 @@ def of_dateutil(zone, rule, start, bound, last):
     text, *numbers = rule[:4]
     parts = [f"{name}={it}" for name, it in zip(("BYHOUR", "BYMINUTE", "BYSECOND"), numbers) if it]
     if rule[4:]:
-        text = text.replace("FREQ=DAILY", f"FREQ={UNITS[rule[4][0]][0]};INTERVAL={rule[4][1:]}")
+        text = text.replace("FREQ=DAILY", f"FREQ={UNITS[rule[4][0]]};INTERVAL={rule[4][1:]}")
     try:
         found = rrulestr(";".join([text, *parts]) + bound, dtstart=start.replace(tzinfo=zone))
         return [int(it.timestamp()) for it in itertools.takewhile(lambda it: it.replace(tzinfo=None) <= last, found)]
@@ -448,14 +439,14 @@ def kind_of(known, row, ours):
         "": lambda: of_dateutil(known.zone, rule, start, texts.get(bound, ""), last),
         "order": lambda: sorted({*of_dateutil(known.zone, rule, start, texts.get(bound, ""), last)}),
         bound: lambda: ended(whole, bound, number),
-        "start": lambda: ended(instances(known, rule, start, high), bound, number) if is_set_near(known.zone, begun) else [],
+        "start": lambda: ended(instances(known, rule, start, high), bound, number) if is_skipped(known.zone, start, begun) else [],
     }
     return next((kind for kind, told in readings.items() if [it for it in told() if low <= it < high] == ours), None)
 
 
-def is_set_near(zone, second):
-    """Whether the clock is set within a day of a second."""
-    return ahead(zone, second - DAY) != ahead(zone, second + DAY)
+def is_skipped(zone, start, second):
+    """Whether the clock does not show a start at the second that it stands for."""
+    return second + ahead(zone, second) != seconds_of(start)
 
 
 def beside_dateutil(rows, answers):

@@ -1,13 +1,14 @@
 #!/usr/bin/env python3
 """Holds zoned_cron to a cron that is run here, minute by minute over Python's zoneinfo, and to croniter where Debian has it.
 
-    checks/zoned_schedules.py [--zones N] [--years N]      (all of twenty zones, and the one or two years that are named below, if left out)
+    checks/zoned_schedules.py [--zones N] [--years N]      (all of 22 zones, and the one or two years that are named below, if left out)
 
 The cron here keeps the last local minute that it has dealt with, as cronie does. If the clock has been set ahead, it runs the jobs of the
-minutes in between at once. If the clock has been set back, it runs no job again until the clock is past that minute. A job that
-follows the clock runs at each minute that the clock shows. The later instant of two is found by the same walk, from the end back.
+minutes in between at once. If the clock has been set back, it runs no job again until the clock is past that minute. A clock that has been set ahead
+by three hours, or back by more, has been corrected: then it goes on from what the clock shows. A job that
+follows the clock runs at each minute that the clock shows: one whose minutes or hours begin with `*`. The later instant of two is found by the same walk, from the end back.
 The zones have gaps and folds of a quarter of an hour, of half an hour, of one hour and of two, at midnight too. Some have four changes in a year,
-one that stays, or a day that the clock skips.
+one that stays, or a day that the clock skips. In Casey the clock was set by just three hours, and in Kwajalein by almost a day.
 Some days around each change are gone through by `next_after` and by `prev_before`, and some hours by `is_due` at each half minute. For schedules
 with few times the whole year is gone through by `next_after`: for each zone for a third of them, or for all if --years is given, which then counts
 from the first year of the zone. A small program answers, in a copy of the crates: proved by `rt run`, or by `rt try` where the crates are not
@@ -40,17 +41,20 @@ from debian import PYTHON  # noqa: E402
 LINES = 150
 HOUR = 3_600
 DAY = 86_400
+# The minutes by which a clock is set at least ahead, or by more than which back, where it has been corrected.
+CORRECTION = 180
 EPOCH = datetime.date(1970, 1, 1)
 # Zones, each with its years.
 ZONES = (("Australia/Lord_Howe", (2023,)), ("America/New_York", (2023,)), ("Antarctica/Troll", (2023,)), ("Europe/Berlin", (2023,)),
          ("Africa/Casablanca", (2012,)), ("Pacific/Apia", (2011,)), ("Europe/Dublin", (2023,)), ("Asia/Tehran", (2021,)), ("Asia/Kathmandu", (1986,)),
          ("America/St_Johns", (2006,)), ("America/Santiago", (2022,)), ("Asia/Gaza", (2023,)), ("America/Sao_Paulo", (2017,)), ("Pacific/Chatham", (2023,)),
          ("Atlantic/Azores", (2023,)), ("America/Godthab", (2023,)), ("Europe/Moscow", (2011, 2014)), ("Asia/Pyongyang", (2015, 2018)),
-         ("America/Caracas", (2007, 2016)), ("Pacific/Kiritimati", (1994, 1995)))
+         ("America/Caracas", (2007, 2016)), ("Pacific/Kiritimati", (1994, 1995)),
+         ("Antarctica/Casey", (2009, 2010)), ("Pacific/Kwajalein", (1969, 1993)))
 FIELDS = ((0, 59), (0, 23), (1, 31), (1, 12), (0, 6))
 # Schedules with fixed times, near the changes and at all times, and such as follow the clock.
 SPARSE = ("30 2 * * *", "0 2 * * *", "15 1,2 * * *", "0,30 0-3 * * *", "45 23 * * *", "0 3 * * 0", "59 1 31 * *", "30 12 30,31 12 *", "15 2 29 10,3 *")
-DENSE = ("*/20 0-22 * * *", "0-58/7 1-3 * * *", "30 * * * *", "* 2 * * *")
+DENSE = ("*/20 0-22 * * *", "0-58/7 1-3 * * *", "30 * * * *", "* 2 * * *", "0 */2 * * *", "0-59/20 0-23 * * *")
 EACH_MINUTE = "* * * * *"
 # By each policy: a time of the gap or the fold, and a few.
 ALL_WAYS = SPARSE[:1] + SPARSE[2:3]
@@ -70,7 +74,7 @@ for line in sys.stdin.read().splitlines():
     starts = (datetime.datetime.fromtimestamp(it, datetime.timezone.utc).astimezone(zone) for it in range(int(start), int(end), step))
     print(*(int(croniter(text, it).get_next(datetime.datetime).timestamp()) for it in starts))
 """
-POLICIES = [(gap, fold) for gap in ("skip", "after") for fold in ("earlier", "later", "both")]
+POLICIES = [(gap, fold) for gap in ("skip", "after", "short") for fold in ("earlier", "later", "both", "short")]
 # The steps that a program goes at most from a start to an end, so that a proof knows that it ends.
 MOST_STEPS = "1_000_000"
 # How a program goes through the instants of `PLAN` from `start` to `end`, and back.
@@ -146,12 +150,14 @@ fn answer<Z: TimeZone>(rt: &HostRuntime, zone: Z, words: &str) -> io::Result<()>
     };
     let gap = match gap {
         "skip" => Gap::Skip,
+        "short" => Gap::FirstAfterShort,
         _ => Gap::FirstAfter,
     };
     let policy = match fold {
         "vixie" => Policy::vixie(&schedule),
         "earlier" => Policy { gap, fold: Fold::Earlier },
         "later" => Policy { gap, fold: Fold::Later },
+        "short" => Policy { gap, fold: Fold::EarlierOfShort },
         _ => Policy { gap, fold: Fold::Both },
     };
     let (start, end): (i64, i64) = (start.parse().unwrap_or(0), end.parse().unwrap_or(0));
@@ -211,7 +217,7 @@ class Schedule:
         self.minutes, self.hours, self.days, self.months, self.weekdays = (numbers_of(it, *ends) for it, ends in zip(fields, FIELDS))
         self.either = not (fields[2].startswith("*") or fields[4].startswith("*"))
         self.times = {60 * hour + minute for hour in self.hours for minute in self.minutes}
-        self.follows_clock = "*" in fields[:2]
+        self.follows_clock = any(it.startswith("*") for it in fields[:2])
         self.known = {}
 
     def has_day(self, day):
@@ -243,13 +249,17 @@ def walk(zone, start, end):
 def cron(minutes, schedule, gap, fold):
     """The seconds at which jobs run, of minutes that were walked."""
     run = set()
-    dealt_with = minutes[0][1] - 1
+    shown = dealt_with = minutes[0][1] - 1
     for second, local in minutes:
-        if gap == "after" and local > dealt_with + 1 and any(schedule.is_planned(it) for it in range(dealt_with + 1, local)):
+        caught_up = gap == "after" or gap == "short" and local - shown - 1 < CORRECTION
+        if caught_up and local > dealt_with + 1 and any(schedule.is_planned(it) for it in range(dealt_with + 1, local)):
             run.add(second)
-        if (fold == "both" or fold == "earlier" and local > dealt_with) and schedule.is_planned(local):
+        if fold == "short" and shown + 1 - local > CORRECTION:
+            dealt_with = local - 1
+        if (fold == "both" or fold in ("earlier", "short") and local > dealt_with) and schedule.is_planned(local):
             run.add(second)
         dealt_with = max(dealt_with, local)
+        shown = local
     if fold == "later":
         dealt_with = minutes[-1][1] + 1
         for second, local in reversed(minutes):
@@ -263,7 +273,7 @@ def policy_of(schedule, gap, fold):
     """The policy by its two words; cronie's is told by the schedule."""
     if fold != "vixie":
         return gap, fold
-    return ("skip", "both") if schedule.follows_clock else ("after", "earlier")
+    return ("skip", "both") if schedule.follows_clock else ("short", "short")
 
 
 def questions(zone, year, texts):

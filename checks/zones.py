@@ -309,7 +309,7 @@ def file_parts(data):
         return None
     if not data[4]:
         return (0, *first[1:5], b"") if first[0] and first[5] == len(data) else None
-    second = block(first[5], 8) if data[4:5] in b"234" else None
+    second = block(first[5], 8) if data[4:5] in b"234" and data[first[5] + 4 : first[5] + 5] == data[4:5] else None
     tail = data[second[5] :] if second else b""
     return (data[4], *second[1:5], tail[1:-1]) if second and second[0] and len(tail) > 1 and tail[:1] == tail[-1:] == b"\n" else None
 
@@ -432,7 +432,7 @@ def of_whole(draw, zone, lines, offsets):
     if zone.rule and zone.rows:
         last, offset = zone.rows[-1]
         soon = (it for year in range(year_of(last) - 1, year_of(last) + 2) for it, _, _ in zone.rule.changes(year))
-        if zone.rule.at(last) != offset or any(last < it <= last + 2 * DAY for it in soon):
+        if zone.rule.at(last) != offset or any(last < it <= last + 2 * DAY and zone.rule.at(it) != offset for it in soon):
             yield "whole 0", "NotJoined"
             return
     seconds = [at for at, _ in zone.rows] + [at for at, _ in zone.rows[-1:]] * 9 + changes * 9 + [0]
@@ -490,8 +490,19 @@ def faults():
     files = [(b"?" * 60, "NoHeader 0"), (b"GIF89a", "CutOff 0"), (header(b"5") + data, "UnknownVersion 0"), (header(b"\0", kinds=0) + data[6:], "WrongCounts 0")]
     files += [(header(b"\0", isut=3) + data + bytes(3), "WrongCounts 0"), (header(b"\0", leap=1) + data + bytes(8), "LeapSeconds 0")]
     files += [(utc + utc, f"WrongFooter {2 * len(utc)}"), (whole[:-1], f"WrongFooter {2 * len(utc)}"), (whole, "none"), (utc[:-1], f"CutOff {44}")]
-    files += [(utc + b"?" * 60, f"NoHeader {len(utc)}")]
+    files += [(utc + b"?" * 60, f"NoHeader {len(utc)}"), (utc + header(b"3") + data + b"\nUTC0\n", f"OtherVersion {len(utc)}")]
     yield from ((f"whyfile {it.hex()}", why) for it, why in files)
+
+
+def always_daylight():
+    """Questions to the zone of CPython's test_one_zone_dst: its one row, and a rule that begins daylight time again an hour later, show one offset."""
+    text = "STD0DST-1,0/0,J365/25"
+    rule = Rule.read(text)
+    blocks = [b"TZif2" + bytes(15) + struct.pack(f">6L{size}BlBB", 0, 0, 0, 1, 1, 4, -3_600, 0, 3_600, 1, 0) + b"DST\0" for size in "lq"]
+    data = b"".join(blocks) + f"\n{text}\n".encode()
+    yield f"file {data.hex()}", told_file(data)
+    yield f"text {text}", rule.told()
+    yield from ((f"whole {second}", told(lambda _: 3_600, {0, 3_600}, second)) for second in (-3_601, -3_600, -1, 0, 31_535_999, 31_536_000, 31_539_600))
 
 
 def zones():
@@ -518,7 +529,7 @@ def answers_of(room, groups):
     for at, part in enumerate(parts):
         with open(f"{room}/parts/{at:06}", "w", encoding="utf-8") as it:
             it.writelines(f"{question}\n" for group in part for question, _ in group)
-    said = subprocess.run(["rt", "try", "--seconds", "300", "--cases", f"{room}/parts"], cwd=folder, stdout=subprocess.PIPE, stderr=subprocess.STDOUT, text=True, errors="replace").stdout
+    said = subprocess.run(["rt", "try", "--seconds", "1200", "--cases", f"{room}/parts"], cwd=folder, stdout=subprocess.PIPE, stderr=subprocess.STDOUT, text=True, errors="replace").stdout
     return [line[2:] for line in said.splitlines() if line.startswith("= ")]
 
 
@@ -537,7 +548,7 @@ def mutated(room, zones, seed, count):
             it.write(zone.data)
         with open(f"{path}.args", "w") as it:
             it.write(f"mutate\n{count // len(found)}\n{seed}\n")
-    ran = subprocess.run(["rt", "try", "--seconds", "300", "--cases", cases], cwd=TIMED, stdout=subprocess.PIPE, stderr=subprocess.STDOUT, text=True, errors="replace")
+    ran = subprocess.run(["rt", "try", "--seconds", "1200", "--cases", cases], cwd=TIMED, stdout=subprocess.PIPE, stderr=subprocess.STDOUT, text=True, errors="replace")
     counts = re.findall(r"^Counts \{ read: (\d+), .*wrong: (\d+), refused: (\d+),", ran.stdout, re.M)
     if ran.returncode or len(counts) != len(found) or any(int(wrong) for _, wrong, _ in counts):
         sys.exit(f"a changed file stops timed_zone, or makes a wrong zone:\n{ran.stdout[-3000:]}")
@@ -556,7 +567,7 @@ def main():
         print("not run: checks/zones.py, which needs a database of time zones")
         return
     each = max(1, options.lines // (3 * len(known)))
-    groups = [list(of_zone(draw, zone, each)) for zone in known] + [list(faults())]
+    groups = [list(of_zone(draw, zone, each)) for zone in known] + [list(faults()), list(always_daylight())]
     lines = sum(map(len, groups))
     while lines < options.lines:
         rule = made_rule(draw)

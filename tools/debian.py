@@ -10,6 +10,24 @@ REGISTRY = "/usr/share/cargo/registry"
 # The options by which cargo takes libraries from Debian's packages alone.
 FROM_DEBIAN = ["--config", 'source.crates-io.replace-with="debian"', "--config", f'source.debian.directory="{REGISTRY}"']
 
+# The same as a file of cargo's settings.
+CARGO_CONFIG = f"""\
+[source.crates-io]
+replace-with = "debian"
+
+[source.debian]
+directory = "{REGISTRY}"
+"""
+
+
+def cargo_environment(room, built=None):
+    """The environment of cargo, which takes crates from Debian's packages: over the static libraries of a folder, or with none over the C files."""
+    kept = {name: it for name, it in os.environ.items() if name != "CALENDAR_FOLDER"}
+    os.makedirs(f"{room}/cargo", exist_ok=True)
+    with open(f"{room}/cargo/config.toml", "w", encoding="utf-8") as it:
+        it.write(CARGO_CONFIG)
+    return dict(kept, CARGO_TARGET_DIR=f"{room}/target", CARGO_HOME=f"{room}/cargo", **({"CALENDAR_FOLDER": built} if built else {}))
+
 
 def restart_without(module):
     """Runs the same command again by Debian's Python, if the module is None, which says that this Python lacks it."""

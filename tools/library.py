@@ -1,5 +1,6 @@
 """The static libraries for C, for packages and checks: those that `rt lib` leaves, or ones that are built now."""
 import contextlib
+import fcntl
 import importlib
 import io
 import os
@@ -13,6 +14,7 @@ TOP = os.path.dirname(os.path.dirname(os.path.abspath(__file__)))
 sys.path[:0] = [f"{TOP}/checks", f"{TOP}/tools"]
 import packages  # noqa: E402
 from outside import below, copy_crates, listed_crates, load_rt, take_proved, time_of  # noqa: E402
+from side_by_side import proved  # noqa: E402
 
 # The crates of the static libraries: that of calendar.h, and that of calendar_layers.h.
 CALENDAR, LAYERS = "calendar_c", "layers_c"
@@ -26,10 +28,16 @@ def path_of(top, name):
     return f"{top}/crates/{name}/out/lib{name}.a"
 
 
-def is_newer(name, libraries):
-    """Whether the static library here is newer than what it is made from."""
-    library, parts = path_of(TOP, name), [f"{TOP}/crates/{it}/{part}" for it in (*libraries, name) for part in ("src", "specs", "proofs")]
-    return os.path.exists(library) and os.path.getmtime(library) > time_of(parts, max)
+def git_folder():
+    """The folder that git keeps for this tree."""
+    words = ["git", "-C", TOP, "rev-parse", "--absolute-git-dir"]
+    return subprocess.run(words, check=True, capture_output=True, text=True).stdout.strip()
+
+
+def is_newer(path, name, libraries):
+    """Whether a file is there and newer than the sources of a crate and of the libraries below it."""
+    parts = [f"{TOP}/crates/{it}/{part}" for it in (*libraries, name) for part in ("src", "specs", "proofs")]
+    return os.path.exists(path) and os.path.getmtime(path) > time_of(parts, max)
 
 
 def line_of(name, crates):
@@ -69,24 +77,52 @@ def libraries_below(name, crates):
     return libraries
 
 
-def find_library(room, name=CALENDAR):
-    """The static library of a crate: the one here, if it is newer than what it is made from, or else one that is built now.
+@contextlib.contextmanager
+def repository(name, crates):
+    """The repository in which `rt lib` works over what is proved of the libraries below a crate; one process at a time has it.
 
-    It is built by `rt lib` here, over what is proved here, and what is proved for it stays. Only what the gate left serves in a
-    copy, in a folder below `room`. None without `rt`, or if a library does not build.
+    It is this tree. But what the gate left serves only in a copy, which stays beside what git keeps, where the gate reads nothing.
+    """
+    libraries, beside = libraries_below(name, crates), f"{git_folder()}/libraries"
+    os.makedirs(beside, exist_ok=True)
+    with open(f"{beside}/{name}.lock", "w", encoding="utf-8") as lock:
+        fcntl.flock(lock, fcntl.LOCK_EX)
+        if not is_left_by_gate(libraries):
+            yield TOP
+            return
+        top = f"{beside}/{name}"
+        if not is_newer(f"{top}/crates.txt", name, libraries):
+            shutil.rmtree(top, ignore_errors=True)
+            make_repository(top, libraries, name, crates)
+        yield top
+
+
+def build_here(name, crates):
+    """Proves and builds the static library of a crate, and the libraries below it side by side; whether its file is here then."""
+    libraries = libraries_below(name, crates)
+    with repository(name, crates) as top:
+        # (another process may have built it while this one waited)
+        if is_newer(path_of(TOP, name), name, libraries):
+            return True
+        built = {it.name for it in load_rt().rtlib.crates_below(top) if it.is_built()}
+        with proved(crates, [it for it in libraries if it not in built], sys.stdout) as is_proved:
+            if not is_proved or not build(top, name):
+                return False
+        if top != TOP:
+            os.makedirs(os.path.dirname(path_of(TOP, name)), exist_ok=True)
+            shutil.copy(path_of(top, name), path_of(TOP, name))
+    return True
+
+
+def find_library(name=CALENDAR):
+    """The static library of a crate: the one here, if it is newer than what it is made from, or else one that `rt lib` builds now.
+
+    None without `rt`, or if a library does not build.
     """
     crates = listed_crates()
-    libraries = libraries_below(name, crates)
-    if is_newer(name, libraries):
+    if is_newer(path_of(TOP, name), name, libraries_below(name, crates)):
         return path_of(TOP, name)
-    if not shutil.which("rt"):
-        return None
-    top = f"{room}/{name}" if is_left_by_gate(libraries) else TOP
-    if top != TOP:
-        make_repository(top, libraries, name, crates)
-    built = {it.name for it in load_rt().rtlib.crates_below(top) if it.is_built()}
-    wanted = [it for it in libraries if it not in built]
-    return path_of(top, name) if all(build(top, it) for it in [*wanted, name]) else None
+    return path_of(TOP, name) if shutil.which("rt") and build_here(name, crates) else None
 
 
 def make_package(room, language):
@@ -94,7 +130,7 @@ def make_package(room, language):
     built = f"{room}/built"
     os.makedirs(built)
     for crate, name in {CALENDAR: packages.CALENDAR, LAYERS: packages.LAYERS}.items():
-        library = find_library(room, crate)
+        library = find_library(crate)
         if not library:
             raise RuntimeError(f"there is no lib{crate}.a, and `rt lib` does not build it")
         packages.build(library, built, name)
@@ -102,11 +138,11 @@ def make_package(room, language):
     return made, [f"{built}/lib{it}.a" for it in (packages.CALENDAR, packages.LAYERS)]
 
 
-def take_library(results, room, name=CALENDAR):
+def take_library(results, name=CALENDAR):
     """The static library of a crate, counted in results of a check. Where what the gate left serves, nothing below is proved again."""
     is_left, said = is_left_by_gate(libraries_below(name, listed_crates())), io.StringIO()
     with contextlib.redirect_stdout(said):
-        library = find_library(room, name)
+        library = find_library(name)
     print(said.getvalue(), end="")
     again = [it for it in re.findall(r"^(\w+): proving", said.getvalue(), re.M) if it != name]
     serves = is_left and "nothing kept serves" not in said.getvalue()
@@ -115,18 +151,32 @@ def take_library(results, room, name=CALENDAR):
     return library
 
 
-def build_higher(library, path):
-    """Builds the library for processors of the level HIGHER and puts it at the path; whether that went well.
-
-    `rt lib` leaves both in one place, so the library that is there is put back afterwards.
-    """
-    kept = f"{library}.kept"
-    os.replace(library, kept)
-    words = ["rt", "lib", "--cpu", HIGHER, "--jobs", "1"]
+@contextlib.contextmanager
+def put_aside(path):
+    """Puts a file aside, if there is one, and back at the end of the block."""
+    is_there = os.path.exists(path)
+    if is_there:
+        os.replace(path, f"{path}.kept")
     try:
-        ran = subprocess.run(words, cwd=os.path.dirname(os.path.dirname(library)), stdout=subprocess.PIPE, stderr=subprocess.STDOUT)
-        if not ran.returncode:
-            shutil.copy(library, path)
+        yield path
     finally:
-        os.replace(kept, library)
-    return not ran.returncode
+        if is_there:
+            os.replace(f"{path}.kept", path)
+
+
+def build_higher(path):
+    """Builds the library of calendar.h for processors of the level HIGHER, unless it is here, and puts it at the path; whether that went well.
+
+    `rt lib` leaves it in the place of the other one, which is put back afterwards.
+    """
+    crates, higher = listed_crates(), path_of(TOP, CALENDAR).replace(".a", f"-{HIGHER}.a")
+    with repository(CALENDAR, crates) as top:
+        if not is_newer(higher, CALENDAR, libraries_below(CALENDAR, crates)):
+            with put_aside(path_of(top, CALENDAR)) as library:
+                words = ["rt", "lib", "--cpu", HIGHER, "--jobs", "1"]
+                ran = subprocess.run(words, cwd=f"{top}/crates/{CALENDAR}", stdout=subprocess.PIPE, stderr=subprocess.STDOUT)
+                if ran.returncode:
+                    return False
+                shutil.copy(library, higher)
+    shutil.copy(higher, path)
+    return True

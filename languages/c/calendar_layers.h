@@ -59,7 +59,8 @@ typedef struct {
     uint64_t last_weekdays;
     /* d#k: the k-th day of the month with the weekday d, as 7 * (k - 1) + d */
     uint64_t nth_weekdays;
-    /* 1: a day of the month or a weekday is enough; otherwise both have to match. 2: LW, the last workday of the month. */
+    /* 1: a day of the month or a weekday is enough; otherwise both have to match. 2: LW, the last workday of the month.
+     * 4: the minutes or the hours begin with *, so in a zone the schedule goes by what the clock shows. */
     uint64_t marks;
 } calendar_schedule;
 
@@ -274,6 +275,30 @@ enum {
  * computed days of the equinoxes up to 2099. */
 int32_t calendar_holidays_of(uint32_t which, int32_t first_year, int32_t last_year, uint8_t weekend, int32_t *out, size_t room);
 
+/* Returns the first year of which the holidays of a known calendar are known. Returns CALENDAR_NONE if there is no such calendar. */
+int32_t calendar_holidays_first_year(uint32_t which);
+
+/* The same questions where holidays are known from a first year to a last one alone, which both count. A function that looks at a day of
+ * another year returns CALENDAR_NONE or INT64_MIN. For a known calendar the first year is at least calendar_holidays_first_year. */
+
+/* Returns 1 if a date is open and 0 if it is not. Returns CALENDAR_NONE if it lies in another year. */
+int32_t calendar_is_open_day_within(uint8_t weekend, const int32_t *holidays, size_t count, int32_t first_year, int32_t last_year,
+                                    int32_t date);
+
+/* Returns what calendar_add_open_days does, if both dates lie in the years. */
+int32_t calendar_add_open_days_within(uint8_t weekend, const int32_t *holidays, size_t count, int32_t first_year, int32_t last_year,
+                                      int32_t date, int64_t n);
+
+/* Returns what calendar_open_days_between does, if each day that it counts or not lies in the years. So the later date, which is not
+ * looked at, can be the first day after them. */
+int64_t calendar_open_days_between_within(uint8_t weekend, const int32_t *holidays, size_t count, int32_t first_year, int32_t last_year,
+                                          int32_t from, int32_t to);
+
+/* Returns what calendar_roll does, if both dates lie in the years. CALENDAR_ROLL_NEAREST_QUANTLIB looks at as many days on the other side
+ * of the date, and these have to lie in the years too. */
+int32_t calendar_roll_within(uint8_t weekend, const int32_t *holidays, size_t count, int32_t first_year, int32_t last_year, int32_t date,
+                             uint32_t roll);
+
 /* Returns Easter Sunday of a year, as the Gregorian churches have it. Returns CALENDAR_NONE if the calendar has no such year. */
 int32_t calendar_easter(int32_t year);
 
@@ -345,6 +370,21 @@ int32_t calendar_parse_date(const uint8_t *pattern, size_t length, const uint8_t
 calendar_date_time calendar_parse_date_time(const uint8_t *pattern, size_t length, const uint8_t *text, size_t text_length,
                                             calendar_fault *fault);
 
+/* A local date-time and how many seconds its clock is ahead of UTC. nanos is CALENDAR_NO_NANOS, and the rest 0, if there is none. */
+typedef struct {
+    int64_t seconds;
+    uint32_t nanos;
+    int32_t offset;
+} calendar_zoned;
+
+/* Returns whether a pattern reads an offset from UTC, such as by `%z` or `%+`. calendar_parse_date_time reads one and drops it. Returns false
+ * if the bytes are no pattern. */
+bool calendar_pattern_names_offset(const uint8_t *pattern, size_t length);
+
+/* Returns the local date-time and the offset that a text is of, by a pattern that reads an offset, or with `%s`, which is of UTC by itself. If
+ * there is none, returns CALENDAR_NO_NANOS. */
+calendar_zoned calendar_parse_zoned(const uint8_t *pattern, size_t length, const uint8_t *text, size_t text_length, calendar_fault *fault);
+
 /* ---- time zones
  *
  * A zone is bytes: those of a TZif file, such as `/usr/share/zoneinfo/Europe/Berlin`, or the text of a POSIX rule, such as
@@ -373,7 +413,8 @@ enum {
     CALENDAR_ZONE_NO_DAYS,
     CALENDAR_ZONE_NO_CHANGE,
     CALENDAR_ZONE_UNORDERED,
-    CALENDAR_ZONE_NOT_JOINED
+    CALENDAR_ZONE_NOT_JOINED,
+    CALENDAR_ZONE_OTHER_VERSION
 };
 
 /* The count of no offsets, which says that the bytes are no zone. */
@@ -407,8 +448,8 @@ calendar_offsets calendar_zone_offsets_of_local(const uint8_t *zone, size_t leng
 int64_t calendar_zone_holds_until(const uint8_t *zone, size_t length, int64_t second);
 
 /* Returns the first instant after start at which a schedule fires in the zone. Both are date-times in UTC. A time that the clock skips
- * fires as the gap ends, and one that it shows twice fires once. But a schedule that lists every minute or every hour goes by what the
- * clock shows. So do Vixie's cron and cronie. Returns 0 seconds and CALENDAR_NO_NANOS if there is none. So it does if start is not a
+ * fires as the gap ends, and one that it shows twice fires once. But a schedule whose minutes or hours begin with * goes by what the clock
+ * shows, and so does any where the clock is set ahead by three hours or back by more. So do Vixie's cron and cronie. Returns 0 seconds and CALENDAR_NO_NANOS if there is none. So it does if start is not a
  * date-time, the bytes are no zone, or the zone's clock shows a date outside the calendar at start. */
 calendar_date_time calendar_zone_schedule_next(const calendar_schedule *schedule, const uint8_t *zone, size_t length,
                                                calendar_date_time start);

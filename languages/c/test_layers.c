@@ -72,6 +72,10 @@ static void texts_of_schedules(void)
     IS(schedule.last_weekdays, 32u);
     IS(schedule.nth_weekdays, 128u);
     IS(schedule.marks, 3u);
+    /* what begins with * in the minutes or the hours follows the clock */
+    IS(reads("*/5 2 1 * 1", &schedule, &fault) && schedule.marks == 5u, true);
+    IS(reads("@hourly", &schedule, &fault) && schedule.marks == 4u, true);
+    IS(reads("@daily", &schedule, &fault) && schedule.marks == 0u, true);
     IS(has_fault("0 25,7 * * *", CALENDAR_SCHEDULE_OUT_OF_RANGE, 2, 2, 4), true);
     IS(has_fault("5,60 * * * *", CALENDAR_SCHEDULE_OUT_OF_RANGE, 1, 2, 4), true);
     IS(has_fault("* * * *", CALENDAR_SCHEDULE_TOO_FEW_FIELDS, 0, 7, 7), true);
@@ -417,6 +421,64 @@ static void holidays(void)
     IS(is_wrong_at(many, CALENDAR_MOST_HOLIDAYS + 1, CALENDAR_HOLIDAYS_TOO_MANY, CALENDAR_MOST_HOLIDAYS), true);
 }
 
+/* The first year of each known calendar. */
+static void first_years(void)
+{
+    IS(calendar_holidays_first_year(CALENDAR_US_FEDERAL), 1971);
+    IS(calendar_holidays_first_year(CALENDAR_TARGET), 1999);
+    IS(calendar_holidays_first_year(CALENDAR_ENGLAND_AND_WALES), 1978);
+    IS(calendar_holidays_first_year(CALENDAR_FEDWIRE), 1971);
+    IS(calendar_holidays_first_year(CALENDAR_NYSE), 1998);
+    IS(calendar_holidays_first_year(CALENDAR_GERMANY), 1995);
+    IS(calendar_holidays_first_year(CALENDAR_FRANCE), 1982);
+    IS(calendar_holidays_first_year(CALENDAR_JAPAN), 2007);
+    IS(calendar_holidays_first_year(8), CALENDAR_NONE);
+}
+
+static void open_days_within(void)
+{
+    /* 30 December 2026 is a Wednesday, and 1 January 2027 a Friday */
+    const int32_t jan_1_2026 = 739617, wednesday = 739980, jan_1_2027 = 739982, falling[] = {738977, 738974};
+    int32_t days[20];
+    IS(calendar_holidays_of(CALENDAR_TARGET, 2024, 2026, WEEKEND, days, 20), 17);
+    IS(calendar_is_open_day_within(WEEKEND, days, 17, 2024, 2026, wednesday), 1);
+    IS(calendar_is_open_day_within(WEEKEND, days, 17, 2024, 2026, jan_1_2026), 0);
+    IS(calendar_is_open_day_within(WEEKEND, days, 17, 2024, 2026, jan_1_2027), CALENDAR_NONE);
+    IS(calendar_is_open_day_within(WEEKEND, days, 17, 2024, 2026, 738885), CALENDAR_NONE);
+    IS(calendar_is_open_day_within(WEEKEND, days, 17, INT32_MIN, INT32_MAX, CALENDAR_NONE), CALENDAR_NONE);
+    IS(calendar_is_open_day_within(WEEKEND, falling, 2, 2024, 2026, wednesday), CALENDAR_NONE);
+    IS(calendar_add_open_days_within(WEEKEND, days, 17, 2024, 2026, wednesday, 1), wednesday + 1);
+    IS(calendar_add_open_days_within(WEEKEND, days, 17, 2024, 2026, wednesday, 2), CALENDAR_NONE);
+    IS(calendar_add_open_days_within(WEEKEND, days, 17, 2024, 2027, wednesday, 2), jan_1_2027);
+    IS(calendar_add_open_days_within(WEEKEND, days, 17, 2024, 2026, jan_1_2027, -1), CALENDAR_NONE);
+    IS(calendar_add_open_days_within(WEEKEND, days, 17, 2024, 2026, 738887, -1), CALENDAR_NONE);
+    IS(calendar_add_open_days_within(WEEKEND, falling, 2, 2024, 2026, wednesday, 1), CALENDAR_NONE);
+    IS(calendar_add_open_days_within(WEEKEND, days, 17, 2024, 2026, CALENDAR_NONE, 1), CALENDAR_NONE);
+    /* 261 days of 2026 are no weekends, and five of them holidays */
+    IS(calendar_open_days_between_within(WEEKEND, days, 17, 2024, 2026, jan_1_2026, jan_1_2027), 256);
+    IS(calendar_open_days_between_within(WEEKEND, days, 17, 2024, 2026, jan_1_2027, jan_1_2026), -256);
+    IS(calendar_open_days_between_within(WEEKEND, days, 17, 2024, 2026, jan_1_2027, jan_1_2027), 0);
+    IS(calendar_open_days_between_within(WEEKEND, days, 17, 2024, 2026, jan_1_2026, jan_1_2027 + 1), INT64_MIN);
+    IS(calendar_open_days_between_within(WEEKEND, days, 17, 2026, 2026, jan_1_2026 - 1, jan_1_2027), INT64_MIN);
+    IS(calendar_open_days_between_within(WEEKEND, falling, 2, 2024, 2026, jan_1_2026, jan_1_2026), INT64_MIN);
+    IS(calendar_open_days_between_within(WEEKEND, days, 17, 2024, 2026, CALENDAR_NONE, jan_1_2026), INT64_MIN);
+    IS(calendar_open_days_between_within(WEEKEND, days, 17, 2024, 2026, jan_1_2026, CALENDAR_NONE), INT64_MIN);
+}
+
+static void rolls_within(void)
+{
+    /* 31 December 2022 is a Saturday */
+    const int32_t saturday = 738520, none[] = {0};
+    const int32_t to[] = {saturday, CALENDAR_NONE, saturday - 1, saturday - 1, saturday - 1, saturday - 1, CALENDAR_NONE, CALENDAR_NONE};
+    for (uint32_t roll = 0; roll < 8; roll++) {
+        IS(calendar_roll_within(WEEKEND, none, 0, 2022, 2022, saturday, roll), to[roll]);
+        IS(calendar_roll_within(WEEKEND, none, 0, 2023, 2024, saturday, roll), CALENDAR_NONE);
+    }
+    IS(calendar_roll_within(WEEKEND, none, 0, 2022, 2023, saturday, CALENDAR_ROLL_FOLLOWING), saturday + 2);
+    IS(calendar_roll_within(WEEKEND, none, 0, 2022, 2023, saturday, CALENDAR_ROLL_NEAREST_QUANTLIB), saturday - 1);
+    IS(calendar_roll_within(WEEKEND, none, 0, 2022, 2023, CALENDAR_NONE, CALENDAR_ROLL_FOLLOWING), CALENDAR_NONE);
+}
+
 static void columns(void)
 {
     const int32_t easter[] = {738974, 738977}, falling[] = {738977, 738974};
@@ -510,6 +572,39 @@ static bool fails_to_parse(const char *pattern, const char *text, uint32_t code,
     return date == CALENDAR_NONE && same_moment(moment, 0, CALENDAR_NO_NANOS) && fault.code == code && fault.byte == byte;
 }
 
+/* The text has this second, these nanoseconds and this offset, by the pattern. */
+static bool parses_zoned(const char *pattern, const char *text, int64_t seconds, uint32_t nanos, int32_t offset)
+{
+    calendar_fault fault = {7, 8, 9, 10};
+    calendar_zoned zoned = calendar_parse_zoned(bytes_of(pattern), strlen(pattern), bytes_of(text), strlen(text), &fault);
+    return zoned.seconds == seconds && zoned.nanos == nanos && zoned.offset == offset && fault.code == 7;
+}
+
+static bool fails_to_parse_zoned(const char *pattern, const char *text, uint32_t code, size_t byte)
+{
+    calendar_fault fault;
+    calendar_zoned zoned = calendar_parse_zoned(bytes_of(pattern), strlen(pattern), bytes_of(text), strlen(text), &fault);
+    return zoned.seconds == 0 && zoned.nanos == CALENDAR_NO_NANOS && zoned.offset == 0 && fault.code == code && fault.byte == byte;
+}
+
+static void zoned_patterns(void)
+{
+    IS(calendar_pattern_names_offset(bytes_of("%F %T %:z"), 9), true);
+    IS(calendar_pattern_names_offset(bytes_of("%+"), 2), true);
+    IS(calendar_pattern_names_offset(bytes_of("%F %T %Z"), 8), false);
+    IS(calendar_pattern_names_offset(bytes_of("%s"), 2), false);
+    IS(calendar_pattern_names_offset(bytes_of("%z %"), 4), false);
+    IS(parses_zoned("%F %R %z", "2024-03-01 13:00 +0530", MARCH + 13 * 3600, 0, 19800), true);
+    IS(parses_zoned("%FT%T%.f%:z", "2024-02-29T23:59:60.5-09:30", MARCH - 1, 1500000000, -34200), true);
+    IS(parses_zoned("%+", "2024-03-01T00:00:00Z", MARCH, 0, 0), true);
+    IS(parses_zoned("%s", "1709251200", MARCH, 0, 0), true);
+    IS(parses_zoned("%s %z", "1709251200 +0100", MARCH + 3600, 0, 3600), true);
+    IS(fails_to_parse_zoned("%F %R", "2024-03-01 13:00", CALENDAR_TEXT_NOT_ENOUGH, 0), true);
+    IS(fails_to_parse_zoned("%F %R %z", "2024-03-01 13:00", CALENDAR_TEXT_TOO_SHORT, 16), true);
+    IS(fails_to_parse_zoned("%F %R %z", "2024-03-01 13:00 +2400", CALENDAR_TEXT_OUT_OF_RANGE, 17), true);
+    IS(fails_to_parse_zoned("%F %R %", "2024-03-01 13:00", CALENDAR_PATTERN_CUT, 6), true);
+}
+
 static void patterns(void)
 {
     calendar_fault fault = {7, 8, 9, 10};
@@ -542,6 +637,7 @@ static void patterns(void)
     IS(fails_to_parse("%d.%m.%Y", "29.2.2024x", CALENDAR_TEXT_TOO_LONG, 9), true);
     IS(fails_to_parse("%d.%m.", "29.2.", CALENDAR_TEXT_NOT_ENOUGH, 0), true);
     IS(fails_to_parse("%d.%", "29.2.", CALENDAR_PATTERN_CUT, 3), true);
+    zoned_patterns();
 }
 
 static bool has_offsets(const char *zone, int64_t local, uint32_t number, int32_t earlier, int32_t later)
@@ -633,7 +729,7 @@ static void zones(void)
     IS(is_wrong_zone("5", CALENDAR_ZONE_NO_NAME, 0, 1, "a name of three letters or more is missing"), true);
     IS(is_wrong_zone("XXX24", CALENDAR_ZONE_OFFSET_OF_DAY, 3, 5, "the offset is a day or more"), true);
     IS(is_wrong_zone("TZif", CALENDAR_ZONE_CUT_OFF, 0, 4, "the file is cut off"), true);
-    fault.code = 17;
+    fault.code = 18;
     IS(calendar_zone_fault_text(&fault, text, sizeof text), CALENDAR_NONE);
     fault.code = CALENDAR_ZONE_NO_OFFSET;
     IS(calendar_zone_fault_text(&fault, text, 19), CALENDAR_NONE);
@@ -738,6 +834,7 @@ static const Code codes_of_zones[] = {
     {CALENDAR_ZONE_NO_CHANGE, "no day stands there on which the clock is set", "EST5EDT,M3.2.0,M13.1.0"},
     {CALENDAR_ZONE_UNORDERED, "a row does not follow the one before it", NULL},
     {CALENDAR_ZONE_NOT_JOINED, "the rule does not go on from the last row", NULL},
+    {CALENDAR_ZONE_OTHER_VERSION, "the two headers name different versions", NULL},
 };
 
 static const Code codes_of_recurrences[] = {
@@ -968,6 +1065,9 @@ int main(void)
     open_days();
     rolls();
     many_holidays();
+    first_years();
+    open_days_within();
+    rolls_within();
     holidays();
     columns();
     patterns();

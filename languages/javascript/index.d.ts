@@ -396,6 +396,8 @@ export class Rule implements Iterable<PlainDate> {
   iterate(options?: { from?: DateLike; until?: DateLike }): IterableIterator<PlainDate>;
   [Symbol.iterator](): IterableIterator<PlainDate>;
   toString(): string;
+  /** The text and the start, which the constructor takes. */
+  toJSON(): { text: string; start: string };
   readonly [Symbol.toStringTag]: "Rule";
 }
 
@@ -427,6 +429,13 @@ export class RuleSet implements Iterable<PlainDate> {
   /** The instances in order, from a date on and up to another; both count. */
   iterate(options?: { from?: DateLike; until?: DateLike }): IterableIterator<PlainDate>;
   [Symbol.iterator](): IterableIterator<PlainDate>;
+  /** The four lists, as JSON has their rules and dates. */
+  toJSON(): {
+    rules: { text: string; start: string }[];
+    dates: string[];
+    exceptRules: { text: string; start: string }[];
+    exceptDates: string[];
+  };
   readonly [Symbol.toStringTag]: "RuleSet";
 }
 
@@ -438,9 +447,12 @@ export class Pattern {
   format(value: PlainDate | PlainDateTime): string;
   /** Throws a TextError if the text has no date by the pattern. */
   parseDate(text: string): PlainDate;
-  /** Throws a TextError if the text has no date-time by the pattern. */
+  /** Throws a TextError if the text has no date-time by the pattern, and a RangeError if the pattern reads an offset. */
   parseDateTime(text: string): PlainDateTime;
+  /** The instant in a zone of the text's offset. Throws a TextError if the text has none by the pattern. */
+  parseZonedDateTime(text: string): ZonedDateTime;
   toString(): string;
+  toJSON(): string;
   readonly [Symbol.toStringTag]: "Pattern";
 }
 
@@ -459,10 +471,13 @@ export type DayCount = "actualActualIsda" | "actual360" | "actual365Fixed" | "th
 
 /** Open days: each day but those of a weekend and holidays. */
 export class BusinessCalendar {
-  /** The weekend has weekdays from 1 for Monday to 7, and is [6, 7] if left out. RangeError above 1,000 holidays. */
-  constructor(options?: { weekend?: number[]; holidays?: Iterable<DateLike> });
   /**
-   * The calendar with the known holidays of some years; New Year's Day can be kept in the year before. There are none before the rules
+   * The weekend has weekdays from 1 for Monday to 7, and is [6, 7] if left out. RangeError above 1,000 holidays. If the holidays are those of
+   * some years alone, an answer that looks at another year is a RangeError.
+   */
+  constructor(options?: { weekend?: number[]; holidays?: Iterable<DateLike>; firstYear?: number; lastYear?: number });
+  /**
+   * The calendar with the known holidays of some years. An answer that looks at another year is a RangeError. So is one before the rules
    * begin: in 1971 (usFederal, fedwire), 1978 (englandAndWales), 1982 (france), 1995 (germany), 1998 (nyse), 1999 (target) and 2007 (japan).
    */
   static of(
@@ -472,6 +487,9 @@ export class BusinessCalendar {
     options?: { weekend?: number[] },
   ): BusinessCalendar;
   readonly weekend: number[];
+  /** The first and the last year of which the holidays are known; undefined if the calendar has no years. */
+  readonly firstYear: number | undefined;
+  readonly lastYear: number | undefined;
   /** The holidays that are not on the weekend, in order. */
   readonly holidays: PlainDate[];
   isOpen(date: DateLike): boolean;
@@ -480,6 +498,8 @@ export class BusinessCalendar {
   /** How many days are open from one date on and before another. */
   between(from: DateLike, to: DateLike): number;
   roll(date: DateLike, roll: Roll): PlainDate;
+  /** The weekend, the holidays and the years, if there are any: what the constructor takes. */
+  toJSON(): { weekend: number[]; holidays: string[]; firstYear: number | undefined; lastYear: number | undefined };
   readonly [Symbol.toStringTag]: "BusinessCalendar";
 }
 
@@ -610,7 +630,7 @@ export declare namespace columns {
   /** The same as numbers of 64 bits, of which the least stands for no date. */
   function unixDays64(dates: Int32Array): BigInt64Array;
   function fromUnixDays(days: Int32Array | BigInt64Array): Int32Array;
-  /** Whether each element is an open day, as 1 or 0. */
+  /** Whether each element is an open day, as 1 or 0. Here and below, a day of another year than those of the calendar is a RangeError. */
   function isOpen(dates: Int32Array, calendar: BusinessCalendar): Uint8Array;
   /** The n-th open day after each date, as `BusinessCalendar.add` finds it. */
   function addOpenDays(dates: Int32Array, n: number, calendar: BusinessCalendar): Int32Array;

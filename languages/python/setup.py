@@ -1,26 +1,33 @@
-"""Builds the extension in C over the static libraries of the calendar and of its layers.
+"""Builds the extension in C over the calendar and its layers: over the proved static libraries, or with the two C files made of them.
 
-`include/` has their headers and `lib/` the libraries. They lie beside this file, as `tools/dist` puts them and the source package
-has them, or in the folder that CALENDAR_PREFIX names.
+The static libraries lie in `lib/` and their headers in `include/`, beside this file or in the folder that CALENDAR_PREFIX names. `tools/dist` puts them
+there, for x86-64 Linux. Where there are none, calendar.c and calendar_layers.c are compiled: a source package has them in `amalgamation/`, and a
+clone at its top.
 """
 import glob
 import os
+import sys
 
 from setuptools import Extension, setup
 
 PREFIX = os.environ.get("CALENDAR_PREFIX", os.curdir)
+LIBRARIES = [f"{PREFIX}/lib/libcalendar_layers.a", f"{PREFIX}/lib/libcalendar.a"]
+HAS_LIBRARIES = all(map(os.path.exists, LIBRARIES))
+# The folder of the two C files and of their headers.
+SOURCES = next((it for it in ("amalgamation", "../../amalgamation") if os.path.isdir(it)), "amalgamation")
 WARNINGS = ["-Wall", "-Wextra", "-Wpedantic"]
+IS_LINUX = sys.platform == "linux"
 
 setup(
     ext_modules=[
         Extension(
             "proved_calendar._calendar",
-            sources=sorted(glob.glob("src/*.c")),
+            sources=sorted(glob.glob("src/*.c")) + ([] if HAS_LIBRARIES else [f"{SOURCES}/calendar.c", f"{SOURCES}/calendar_layers.c"]),
             depends=["src/package.h"],
-            include_dirs=[f"{PREFIX}/include"],
-            extra_objects=[f"{PREFIX}/lib/libcalendar_layers.a", f"{PREFIX}/lib/libcalendar.a"],
-            extra_compile_args=["-std=c99", "-O2", "-g0", "-fno-plt", "-fvisibility=hidden", *WARNINGS],
-            extra_link_args=["-s"],
+            include_dirs=[f"{PREFIX}/include" if HAS_LIBRARIES else SOURCES],
+            extra_objects=LIBRARIES if HAS_LIBRARIES else [],
+            extra_compile_args=["-std=c99", "-O2", "-g0", "-fvisibility=hidden", *(["-fno-plt"] if IS_LINUX else []), *WARNINGS],
+            extra_link_args=["-s"] if IS_LINUX else [],
             # (an older Python has no symbols of a later one: one build serves all from 3.10 on)
             py_limited_api=True,
         )

@@ -3,9 +3,14 @@
 `top` is this repository, and `dist` the folder to fill. `built` is a folder with `libcalendar.a` and `libcalendar.so.0`, the same of
 LAYERS, and for C with HIGHER too. `make` answers the paths that it made. It raises `Missing` where a program or a package that it needs is not there.
 """
+import gzip
+import hashlib
+import io
+import os
 import re
 import shutil
 import subprocess
+import tarfile
 
 # What each package holds beside what it is made of.
 LICENCES = ("LICENSE-APACHE", "LICENSE-MIT")
@@ -48,3 +53,30 @@ def run(words, **how):
     if ran.returncode:
         raise RuntimeError(f"{' '.join(map(str, words))}\n{ran.stdout[-4000:]}")
     return ran.stdout
+
+
+def pack(package, path, name):
+    """Packs a folder under a name, so that the same files give the same bytes."""
+    with gzip.GzipFile(path, "wb", 9, mtime=0) as zipped, tarfile.open(fileobj=zipped, mode="w", format=tarfile.PAX_FORMAT) as packed:
+        files = sorted(os.path.relpath(f"{at}/{it}", package) for at, _, names in os.walk(package) for it in names)
+        for it in files:
+            with open(f"{package}/{it}", "rb") as file:
+                text = file.read()
+            member = tarfile.TarInfo(f"{name}/{it}")
+            member.size, member.mode = len(text), 0o644
+            packed.addfile(member, io.BytesIO(text))
+    return path
+
+
+def sum_of_sources(top, crate):
+    """The sum of what is made from a crate for machines without the kit: the sources of the crate and of those below it, and the translator to C."""
+    from outside import below, listed_crates
+
+    crates, made = listed_crates(), hashlib.sha256()
+    line = next(it for it in crates if it.split()[0] == crate)
+    folders = [f"{top}/{it}" for it in (*(f"crates/{it.split()[0]}/src" for it in below(line, crates)), "tools/portable_c")]
+    paths = [f"{at}/{name}" for it in folders for at, _, names in os.walk(it) for name in names if not name.endswith(".pyc")]
+    for path in sorted(paths):
+        with open(path, "rb") as it:
+            made.update(f"{os.path.relpath(path, top)}\n".encode() + it.read())
+    return made.hexdigest()

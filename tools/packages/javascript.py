@@ -17,7 +17,7 @@ import urllib.parse
 
 import zone_texts
 
-from . import LICENCES, Missing, version
+from . import LICENCES, Missing, sum_of_sources, version
 
 # A module of WebAssembly: the crate that it is made of, where it is kept, and what it leaves out: modules of the crate, and the libraries
 # below them. (`rt lib` of the static library takes away a module of the crate's own name.)
@@ -155,15 +155,21 @@ def page_of(folder, module_texts):
     return page
 
 
-def module_texts_of(bytes_of_modules):
-    """Each module as one of JavaScript, which no host has to fetch."""
-    return {source: module_text_of(it) for source, it in bytes_of_modules.items()}
+def module_texts_of(top, bytes_of_modules):
+    """Each module of WebAssembly as one of JavaScript, which no host has to fetch."""
+    return {source: module_text_of(it, sum_of_sources(top, MODULES[source].crate)) for source, it in bytes_of_modules.items()}
 
 
-def module_text_of(bytes_of_module):
-    """A module of WebAssembly as one of JavaScript."""
+def module_text_of(bytes_of_module, sum_of_them):
+    """A module of WebAssembly as one of JavaScript, with the sum of the sources that it is made of."""
     text = base64.b64encode(bytes_of_module).decode()
-    return f'/** The proved functions, as `rt lib` builds them: {len(bytes_of_module):,} bytes. */\nexport const MODULE =\n  "{text}";\n'
+    return f'/**\n * The proved functions, as `rt lib` builds them: {len(bytes_of_module):,} bytes. Their sources have this sum by SHA-256:\n * {sum_of_them}\n */\nexport const MODULE =\n  "{text}";\n'
+
+
+def write_modules(top):
+    """Writes the modules beside the sources of the wrapper, which then serves as it lies in a clone; their paths."""
+    texts = module_texts_of(top, modules(top))
+    return [write(f"{top}/languages/javascript/src/{name}.js", text) for name, text in texts.items()]
 
 
 def zone_texts_of_machine():
@@ -179,7 +185,7 @@ def make_package(top, folder, bytes_of_modules, package):
     shutil.rmtree(package, ignore_errors=True)
     for name in SOURCES:
         write(f"{package}/src/{name}.js", read(f"{folder}/src/{name}.js"))
-    for name, text in module_texts_of(bytes_of_modules).items():
+    for name, text in module_texts_of(top, bytes_of_modules).items():
         write(f"{package}/src/{name}.js", text)
     for name in ("README.md", "index.d.ts", "package.json"):
         write(f"{package}/{name}", read(f"{folder}/{name}"))
@@ -194,4 +200,4 @@ def make(top, built, dist):
     if f'"version": "{version(top)}"' not in read(f"{folder}/package.json"):
         raise RuntimeError(f"languages/javascript/package.json has another version than calendar.h, {version(top)}")
     package = make_package(top, folder, bytes_of_modules, f"{dist}/javascript/proved-calendar")
-    return [package, write(f"{dist}/javascript/page.html", page_of(folder, module_texts_of(bytes_of_modules)))]
+    return [package, write(f"{dist}/javascript/page.html", page_of(folder, module_texts_of(top, bytes_of_modules)))]

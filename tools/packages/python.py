@@ -1,12 +1,13 @@
-"""The packages for Python: a wheel that serves every CPython from 3.10 on, and its sources with the static libraries."""
+"""The packages for Python: a wheel that serves every CPython from 3.10 on, and its sources with the library as C files."""
 import glob
 import os
 import shutil
 import subprocess
 import sys
+import tarfile
 import tempfile
 
-from . import CALENDAR, LAYERS, LICENCES, Missing, run
+from . import CALENDAR, LAYERS, LICENCES, Missing, pack, run
 
 # What a Python needs to build the packages: setuptools with the command for wheels, and the headers of C.
 PROBE = """
@@ -27,22 +28,33 @@ def python():
     raise Missing("no Python with setuptools, wheel and Python.h: tools/setup installs Debian's")
 
 
+def packed_anew(path):
+    """Packs a source package anew, so that the same files give the same bytes."""
+    with tempfile.TemporaryDirectory(prefix="sdist-") as room:
+        with tarfile.open(path) as it:
+            it.extractall(room)
+        (name,) = os.listdir(room)
+        return pack(f"{room}/{name}", path, name)
+
+
 def make(top, built, dist):
-    """Makes the source package and the wheel; their paths."""
+    """Makes the source package, which has the library as C files, and the wheel, which has the static libraries; their paths."""
     os.makedirs(dist, exist_ok=True)
     with tempfile.TemporaryDirectory(prefix="python-") as room:
         source = f"{room}/source"
         skipped = shutil.ignore_patterns("__pycache__", "*.so", "build", "*.egg-info")
         shutil.copytree(f"{top}/languages/python", source, ignore=skipped)
+        shutil.copytree(f"{top}/amalgamation", f"{source}/amalgamation", ignore=shutil.ignore_patterns(*LICENCES))
+        for licence in LICENCES:
+            shutil.copy(f"{top}/{licence}", source)
+        run([python(), "setup.py", "--quiet", "sdist", "--dist-dir", f"{room}/made"], cwd=source)
+        packed_anew(*glob.glob(f"{room}/made/*.tar.gz"))
         for part in ("include", "lib"):
             os.makedirs(f"{source}/{part}")
         for name in (CALENDAR, LAYERS):
             shutil.copy(f"{top}/languages/c/{name}.h", f"{source}/include/")
             shutil.copy(f"{built}/lib{name}.a", f"{source}/lib/")
-        for licence in LICENCES:
-            shutil.copy(f"{top}/{licence}", source)
-        for kind in ("sdist", "bdist_wheel"):
-            run([python(), "setup.py", "--quiet", kind, "--dist-dir", f"{room}/made"], cwd=source)
+        run([python(), "setup.py", "--quiet", "bdist_wheel", "--dist-dir", f"{room}/made"], cwd=source)
         paths = []
         for old in glob.glob(f"{dist}/proved[-_]calendar-*"):
             os.remove(old)

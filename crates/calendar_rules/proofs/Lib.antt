@@ -2,3 +2,4 @@ mod ClockParts
 mod TimedReads
 mod InstantLists
 mod RuleFits
+mod SingleInstances

@@ -13,6 +13,7 @@
 mod calendar_recurrence;
 mod clock_part;
 mod instant_list;
+pub mod law;
 mod part_value;
 mod recurrence_error;
 mod text_of_days;

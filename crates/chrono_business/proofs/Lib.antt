@@ -18,3 +18,5 @@ mod MonthDayCounts
 mod RollLaws
 mod LastWeekdays
 mod LeapDayCounts
+mod KnownDays
+mod FirstYears

@@ -9,3 +9,4 @@ pub mod PublicHolidays
 pub mod HolidayLists
 pub mod OpenDayLists
 pub mod LeapDays
+pub mod KnownYears

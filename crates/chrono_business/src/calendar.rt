@@ -1,11 +1,12 @@
 //! `Calendar`: which days are closed.
 //!
 //! `open_day_numbers` numbers the open days. `open_days`, `rolls` and `open_days_of_month` have the public functions.
-//! `valid_holidays` makes a calendar of holidays that may be wrong.
+//! `known_days` has them for years of which the holidays are known. `valid_holidays` makes a calendar of holidays that may be wrong.
 ghost use Rattle.std.specs.Prelude.{◌≡◌};
 ghost use Rattle.chrono_business.specs.OpenDays.{AreHolidays};
 
 mod joined;
+mod known_days;
 mod open_day_numbers;
 mod open_days;
 mod open_days_of_month;

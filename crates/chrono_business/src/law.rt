@@ -474,6 +474,27 @@ pub fn known_given_calendars()
         Some (pos 739_617) ∷ Some (pos 739_618) ∷ Some (pos 739_619) ∷ Some (pos 739_628) ∷ Some (pos 739_658) ∷ Some (pos 739_670) ∷ Some (pos 739_695) ∷ Some (pos 739_735) ∷ Some (pos 739_742) ∷ Some (pos 739_740) ∷ Some (pos 739_741) ∷ None ∷ None ∷ None ∷ Some (pos 739_817) ∷ None ∷ None ∷ None ∷ Some (pos 739_839) ∷ Some (pos 739_880) ∷ Some (pos 739_882) ∷ None ∷ None ∷ None ∷ Some (pos 739_901) ∷ Some (pos 739_923) ∷ Some (pos 739_943) ∷ None ∷ Some (pos 739_981) ∷ None ∷ None ∷ None ∷ None ∷ None ∷ None ∷ Some (pos 739_881) ∷ None ∷ None ∷ None ∷ None ∷ None ∷ None ∷ None ∷ None ∷ None ∷ None ∷ None ∷ [] }
 {}
 
+/// Known days on which banks in Japan are closed, where a holiday is named on a Sunday or a Saturday: what each rule names, in its order.
+///
+/// 4 May 2008 is a Sunday, and kept on 6 May (day 733,168). 3 November 2030 is one too, and kept on the 4th (day 741,385).
+/// 23 February 2030 is a Saturday, and stays (day 741,131). No rule can move in another way and have these days.
+pub fn known_weekends_of_japan()
+    ensures in_2008 { map (λ r. date_of_rule r (pos 2_008)) japan_rules ≡
+        Some (pos 733_042) ∷ Some (pos 733_043) ∷ Some (pos 733_044) ∷ Some (pos 733_055) ∷ Some (pos 733_083) ∷ None ∷ Some (pos 733_121) ∷ Some (pos 733_161) ∷ Some (pos 733_165) ∷ Some (pos 733_168) ∷ Some (pos 733_167) ∷ Some (pos 733_244) ∷ None ∷ None ∷ None ∷ None ∷ None ∷ None ∷ None ∷ Some (pos 733_300) ∷ Some (pos 733_308) ∷ Some (pos 733_328) ∷ None ∷ None ∷ None ∷ Some (pos 733_349) ∷ Some (pos 733_370) ∷ Some (pos 733_399) ∷ Some (pos 733_407) ∷ None ∷ None ∷ None ∷ None ∷ None ∷ None ∷ None ∷ None ∷ None ∷ None ∷ None ∷ None ∷ None ∷ None ∷ None ∷ None ∷ None ∷ None ∷ [] }
+    ensures in_2017 { map (λ r. date_of_rule r (pos 2_017)) japan_rules ≡
+        Some (pos 736_331) ∷ Some (pos 736_331) ∷ Some (pos 736_332) ∷ Some (pos 736_338) ∷ Some (pos 736_371) ∷ None ∷ Some (pos 736_408) ∷ Some (pos 736_448) ∷ Some (pos 736_452) ∷ Some (pos 736_453) ∷ Some (pos 736_454) ∷ Some (pos 736_527) ∷ None ∷ None ∷ None ∷ Some (pos 736_552) ∷ None ∷ None ∷ None ∷ Some (pos 736_590) ∷ Some (pos 736_595) ∷ Some (pos 736_611) ∷ None ∷ None ∷ None ∷ Some (pos 736_636) ∷ Some (pos 736_656) ∷ Some (pos 736_686) ∷ Some (pos 736_694) ∷ None ∷ None ∷ None ∷ None ∷ None ∷ None ∷ None ∷ None ∷ None ∷ None ∷ None ∷ None ∷ None ∷ None ∷ None ∷ None ∷ None ∷ None ∷ [] }
+    ensures in_2018 { map (λ r. date_of_rule r (pos 2_018)) japan_rules ≡
+        Some (pos 736_695) ∷ Some (pos 736_696) ∷ Some (pos 736_697) ∷ Some (pos 736_702) ∷ Some (pos 736_737) ∷ None ∷ Some (pos 736_774) ∷ Some (pos 736_814) ∷ Some (pos 736_817) ∷ Some (pos 736_818) ∷ Some (pos 736_819) ∷ Some (pos 736_891) ∷ None ∷ None ∷ None ∷ Some (pos 736_917) ∷ None ∷ None ∷ None ∷ Some (pos 736_954) ∷ Some (pos 736_961) ∷ Some (pos 736_975) ∷ None ∷ None ∷ None ∷ Some (pos 737_001) ∷ Some (pos 737_021) ∷ Some (pos 737_052) ∷ Some (pos 737_059) ∷ None ∷ None ∷ None ∷ None ∷ None ∷ None ∷ None ∷ None ∷ None ∷ None ∷ None ∷ None ∷ None ∷ None ∷ None ∷ None ∷ None ∷ None ∷ [] }
+    ensures in_2021 { map (λ r. date_of_rule r (pos 2_021)) japan_rules ≡
+        Some (pos 737_791) ∷ Some (pos 737_792) ∷ Some (pos 737_793) ∷ Some (pos 737_801) ∷ Some (pos 737_832) ∷ Some (pos 737_844) ∷ Some (pos 737_869) ∷ Some (pos 737_909) ∷ Some (pos 737_913) ∷ Some (pos 737_914) ∷ Some (pos 737_915) ∷ None ∷ None ∷ Some (pos 737_993) ∷ None ∷ None ∷ None ∷ Some (pos 738_011) ∷ None ∷ Some (pos 738_053) ∷ Some (pos 738_056) ∷ None ∷ None ∷ Some (pos 737_994) ∷ None ∷ Some (pos 738_097) ∷ Some (pos 738_117) ∷ None ∷ Some (pos 738_155) ∷ None ∷ None ∷ None ∷ None ∷ None ∷ None ∷ None ∷ None ∷ None ∷ None ∷ None ∷ None ∷ None ∷ None ∷ None ∷ None ∷ None ∷ None ∷ [] }
+    ensures in_2029 { map (λ r. date_of_rule r (pos 2_029)) japan_rules ≡
+        Some (pos 740_713) ∷ Some (pos 740_714) ∷ Some (pos 740_715) ∷ Some (pos 740_720) ∷ Some (pos 740_755) ∷ Some (pos 740_766) ∷ Some (pos 740_791) ∷ Some (pos 740_832) ∷ Some (pos 740_835) ∷ Some (pos 740_836) ∷ Some (pos 740_837) ∷ None ∷ None ∷ None ∷ Some (pos 740_909) ∷ None ∷ None ∷ None ∷ Some (pos 740_935) ∷ Some (pos 740_972) ∷ Some (pos 740_979) ∷ None ∷ None ∷ None ∷ Some (pos 740_993) ∷ Some (pos 741_019) ∷ Some (pos 741_039) ∷ None ∷ Some (pos 741_077) ∷ None ∷ None ∷ None ∷ None ∷ None ∷ None ∷ None ∷ None ∷ None ∷ None ∷ None ∷ None ∷ None ∷ None ∷ None ∷ None ∷ None ∷ None ∷ [] }
+    ensures in_2030 { map (λ r. date_of_rule r (pos 2_030)) japan_rules ≡
+        Some (pos 741_078) ∷ Some (pos 741_079) ∷ Some (pos 741_080) ∷ Some (pos 741_091) ∷ Some (pos 741_119) ∷ Some (pos 741_131) ∷ Some (pos 741_156) ∷ Some (pos 741_196) ∷ Some (pos 741_200) ∷ Some (pos 741_201) ∷ Some (pos 741_203) ∷ None ∷ None ∷ None ∷ Some (pos 741_273) ∷ None ∷ None ∷ None ∷ Some (pos 741_301) ∷ Some (pos 741_336) ∷ Some (pos 741_343) ∷ None ∷ None ∷ None ∷ Some (pos 741_364) ∷ Some (pos 741_385) ∷ Some (pos 741_404) ∷ None ∷ Some (pos 741_442) ∷ None ∷ None ∷ None ∷ None ∷ None ∷ None ∷ None ∷ None ∷ None ∷ None ∷ None ∷ None ∷ None ∷ None ∷ None ∷ None ∷ None ∷ None ∷ [] }
+    ensures in_2033 { map (λ r. date_of_rule r (pos 2_033)) japan_rules ≡
+        Some (pos 742_174) ∷ Some (pos 742_175) ∷ Some (pos 742_176) ∷ Some (pos 742_183) ∷ Some (pos 742_215) ∷ Some (pos 742_227) ∷ Some (pos 742_253) ∷ Some (pos 742_292) ∷ Some (pos 742_296) ∷ Some (pos 742_297) ∷ Some (pos 742_298) ∷ None ∷ None ∷ None ∷ Some (pos 742_372) ∷ None ∷ None ∷ None ∷ Some (pos 742_396) ∷ Some (pos 742_435) ∷ Some (pos 742_439) ∷ None ∷ None ∷ None ∷ Some (pos 742_456) ∷ Some (pos 742_480) ∷ Some (pos 742_500) ∷ None ∷ Some (pos 742_538) ∷ None ∷ None ∷ None ∷ None ∷ None ∷ None ∷ None ∷ None ∷ None ∷ None ∷ None ∷ None ∷ None ∷ None ∷ None ∷ None ∷ None ∷ None ∷ [] }
+{}
+
 /// Known holidays of the given calendars: what each rule names in its first year, or in its last one.
 ///
 /// The last Mondays of May and August are those of `known_last_mondays`.
@@ -537,4 +558,24 @@ pub fn known_last_mondays()
     ensures summer_of_1978 { (r : HolidayRule) → date_of_rule (slice_index_or england_and_wales_rules 18 r) (pos 1_978) ≡ Some (pos 722_324) }
     ensures memorial_day_of_fedwire { (r : HolidayRule) → date_of_rule (slice_index_or fedwire_rules 3 r) (pos 1_971) ≡ Some (pos 719_678) }
     ensures memorial_day_of_nyse { (r : HolidayRule) → date_of_rule (slice_index_or nyse_rules 4 r) (pos 1_998) ≡ Some (pos 729_534) }
+{}
+
+/// Known first years of the given calendars: a rule holds from this year on, and none before it.
+pub fn known_first_years()
+    ensures us_federal { map (λ r. r.first_year) (take 1 (filter (λ r. int_lt r.first_year (pos 1_972)) us_federal_rules)) ≡ pos 1_971 ∷ [] }
+    ensures us_federal_none { filter (λ r. int_lt r.first_year (pos 1_971)) us_federal_rules ≡ [] }
+    ensures target { map (λ r. r.first_year) (take 1 (filter (λ r. int_lt r.first_year (pos 2_000)) target_rules)) ≡ pos 1_999 ∷ [] }
+    ensures target_none { filter (λ r. int_lt r.first_year (pos 1_999)) target_rules ≡ [] }
+    ensures england_and_wales { map (λ r. r.first_year) (take 1 (filter (λ r. int_lt r.first_year (pos 1_979)) england_and_wales_rules)) ≡ pos 1_978 ∷ [] }
+    ensures england_and_wales_none { filter (λ r. int_lt r.first_year (pos 1_978)) england_and_wales_rules ≡ [] }
+    ensures fedwire { map (λ r. r.first_year) (take 1 (filter (λ r. int_lt r.first_year (pos 1_972)) fedwire_rules)) ≡ pos 1_971 ∷ [] }
+    ensures fedwire_none { filter (λ r. int_lt r.first_year (pos 1_971)) fedwire_rules ≡ [] }
+    ensures nyse { map (λ r. r.first_year) (take 1 (filter (λ r. int_lt r.first_year (pos 1_999)) nyse_rules)) ≡ pos 1_998 ∷ [] }
+    ensures nyse_none { filter (λ r. int_lt r.first_year (pos 1_998)) nyse_rules ≡ [] }
+    ensures germany { map (λ r. r.first_year) (take 1 (filter (λ r. int_lt r.first_year (pos 1_996)) germany_rules)) ≡ pos 1_995 ∷ [] }
+    ensures germany_none { filter (λ r. int_lt r.first_year (pos 1_995)) germany_rules ≡ [] }
+    ensures france { map (λ r. r.first_year) (take 1 (filter (λ r. int_lt r.first_year (pos 1_983)) france_rules)) ≡ pos 1_982 ∷ [] }
+    ensures france_none { filter (λ r. int_lt r.first_year (pos 1_982)) france_rules ≡ [] }
+    ensures japan { map (λ r. r.first_year) (take 1 (filter (λ r. int_lt r.first_year (pos 2_008)) japan_rules)) ≡ pos 2_007 ∷ [] }
+    ensures japan_none { filter (λ r. int_lt r.first_year (pos 2_007)) japan_rules ≡ [] }
 {}

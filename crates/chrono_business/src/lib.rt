@@ -20,6 +20,7 @@ mod day_count;
 mod holiday_error;
 mod holiday_list;
 mod holiday_rule;
+mod known_years;
 pub mod law;
 mod open_days_iterator;
 mod public_holidays;
@@ -34,6 +35,7 @@ pub use day_count::{
 pub use holiday_error::HolidayError;
 pub use holiday_list::{holidays_of, without_weekends};
 pub use holiday_rule::{HolidayDay, HolidayRule, Moved};
+pub use known_years::{KnownYears, first_known_year};
 pub use open_days_iterator::OpenDaysIterator;
 pub use public_holidays::{
     england_and_wales, fedwire, france, germany, japan, nyse, target, us_federal,

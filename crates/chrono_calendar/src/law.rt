@@ -9,7 +9,7 @@ ghost use Rattle.chrono_units.specs.declared.weekday.Weekday.{Weekday};
 ghost use Rattle.chrono_units.specs.declared.weekday.Weekday.TheVariants.{Fri, Mon, Sun, Tue};
 ghost use Rattle.chrono_units.specs.Weekday.{days_since, next_weekday, previous_weekday};
 ghost use Rattle.chrono_units.specs.WeekdaySet.{DaySet, days_in_row, single, walk, weekday_after};
-ghost use Rattle.chrono_units.specs.Years.{is_leap_year, year_length};
+ghost use Rattle.chrono_units.specs.Years.{is_leap_year, month_length, year_length};
 ghost use Rattle.chrono_calendar.specs.Days.{IsCalendarName, IsDate, IsOrdinalName, date_of_day, date_of_ymd, date_of_yo, day_number_of_ymd, day_number_of_yo, day_of, month_of, ordinal_of, year_of};
 ghost use Rattle.chrono_calendar.specs.MonthMoves.{InSameMonth, MonthMovesAddUp, ComesBack, KeepsOrder, LaterMultiplesAreLater, month_first_of, month_index_of, month_last_of, month_length_of, month_move};
 ghost use Rattle.chrono_calendar.specs.NameLaws.{DatesAreDaysOfYears, DatesHaveOneCalendarName, DatesHaveOneIsoName, DatesHaveOneNumber, DatesHaveOneOrdinalName, WeeksHaveOneFirstDay, iso_cmp};
@@ -123,6 +123,14 @@ pub fn months_are_days_in_a_row()
     ensures month_before { (n : ℤ) →
         month_index_of (month_first_of n -ℤ pos 1) ≡ month_index_of n -ℤ pos 1 }
     ensures dates { (n d : ℤ) → IsDate n → InSameMonth d n → IsDate d }
+{}
+
+/// A month has 28 to 31 days, in any year. Call it where code takes a day that each month has, or where a month is the least
+/// or the most that a step can pass.
+pub fn months_have_28_to_31_days()
+    ensures at_least { (y : ℤ) (m : ℕ) → 28 ≤ month_length y m }
+    ensures at_most { (y : ℤ) (m : ℕ) → month_length y m ≤ 31 }
+    ensures of_a_day { (n : ℤ) → IsInRange 28 31 (month_length_of n) }
 {}
 
 /// A later day is in no earlier year, month or ISO year. Call it where a walk over days ends at a year or at a month.

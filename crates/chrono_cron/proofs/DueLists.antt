@@ -104,8 +104,3 @@ dues_after-first s start m is end due later least =
     (minute_at-earlier m d end.time.second at.second high))
     (ap (is_due s) here ∙ due)
     ∙ ap (λ x. x ∷ filter (is_due s) (minutes_from (minutes_left m) (minute_number_of m +ℤ pos 1))) here
-
--- none is left after the last moment of the calendar
-pub dues_after-end : (s : FieldSets) (m : Moment) → m ≡ moment (pos 95_745_399) (time_at 23 59 59 999_999_999) → dues_after s m ≡ []
-unfolding dues_after minutes_from
-dues_after-end s m end = rw end refl

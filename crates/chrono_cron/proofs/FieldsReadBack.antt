@@ -164,15 +164,15 @@ all_has set (suc count) low k all from to =
 
 -- ---- the fields, by what their ranges, their `*` and their `*/n` list
 
-minutes_read : are_read Numbers 0 59 60 ≡ true
+pub minutes_read : are_read Numbers 0 59 60 ≡ true
 unfolding item_span range_of number_between spelled_number digits_of number_of_name natural_of
 minutes_read = refl
 
-hours_read : are_read Numbers 0 23 24 ≡ true
+pub hours_read : are_read Numbers 0 23 24 ≡ true
 unfolding item_span range_of number_between spelled_number digits_of number_of_name natural_of
 hours_read = refl
 
-months_read : are_read Months 1 12 13 ≡ true
+pub months_read : are_read Months 1 12 13 ≡ true
 unfolding item_span range_of number_between spelled_number digits_of number_of_name month_of_letters weekday_of_letters natural_of
 months_read = refl
 
@@ -180,21 +180,17 @@ months_read = refl
 abbrev pub StarReads : Names → ℕ → ℕ → Type 0
 StarReads names low high = (k : ℕ) → item_lists names low high (codes "*") k ≡ Some (is_by_steps low high 1 k)
 
-minutes_star : StarReads Numbers 0 59
+pub minutes_star : StarReads Numbers 0 59
 unfolding item_lists step_of item_span range_of number_between spelled_number digits_of number_of_name natural_of
 minutes_star k = refl
 
-hours_star : StarReads Numbers 0 23
+pub hours_star : StarReads Numbers 0 23
 unfolding item_lists step_of item_span range_of number_between spelled_number digits_of number_of_name natural_of
 hours_star k = refl
 
-months_star : StarReads Months 1 12
+pub months_star : StarReads Months 1 12
 unfolding item_lists step_of item_span range_of number_between spelled_number digits_of number_of_name month_of_letters weekday_of_letters natural_of
 months_star k = refl
-
--- a field of minutes, of hours or of months
-abbrev plain_items : FiniteSet → ℕ → ℕ → List (List ℕ)
-plain_items set count low = number_items (are_all set count low) set count low
 
 pub star_has : (set : FiniteSet) (low count high k : ℕ) → LieBetween set low (low + count) → are_all set count low ≡ true → low + count ≡ high + 1
     → (is_by_steps low high 1 k || false) ≡ has set k
@@ -218,42 +214,6 @@ pub field_back : (names : Names) (low high k : ℕ) (items : List (List ℕ)) �
     → slice_split (λ x. x == 44) (list_text items) ≡ items
 field_back names low high k [] are is = absurd (false≢true (ap given is))
 field_back names low high k (item ∷ items) are is = items_back item items are
-
-plain_reads : (names : Names) (set : FiniteSet) (low count high : ℕ) (all : Bool) → are_all set count low ≡ all → are_read names low high (low + count) ≡ true → StarReads names low high
-    → low + count ≡ high + 1 → LieBetween set low (low + count) → (k : ℕ) → items_list names low high (plain_items set count low) k ≡ Some (has set k)
-plain_reads names set low count high true is read star ends lie k =
-    sym (ap (λ items. items_list names low high items k) (numbers_all (are_all set count low) set count low is is))
-    ∙ item_first names low high (codes "*") [] k (is_by_steps low high 1 k) false (star k) refl
-    ∙ ap Some (star_has set low count high k lie is ends)
-plain_reads names set low count high false is read star ends lie k =
-    sym (ap (λ items. items_list names low high items k) (numbers_unstarred (are_all set count low) set count low is))
-    ∙ ranges_read names low high low (low + count) (ranges_from set count low) k read (omega arith) (ranges_are set count low (low + count) (omega arith))
-    ∙ ap Some (one_lists-has set low count k lie)
-
-plain_are_items : (names : Names) (set : FiniteSet) (low count high : ℕ) (all : Bool) → are_all set count low ≡ all → are_read names low high (low + count) ≡ true
-    → list_all is_item (plain_items set count low) ≡ true
-plain_are_items names set low count high true is read = sym (ap (list_all is_item) (numbers_all (are_all set count low) set count low is is))
-plain_are_items names set low count high false is read =
-    sym (ap (list_all is_item) (numbers_unstarred (are_all set count low) set count low is))
-    ∙ ranges_are_items names low high low (low + count) (ranges_from set count low) read (omega arith) (ranges_are set count low (low + count) (omega arith))
-
-plain_back : (names : Names) (set : FiniteSet) (low count high : ℕ) → are_read names low high (low + count) ≡ true → StarReads names low high → low + count ≡ high + 1
-    → LieBetween set low (low + count) → Member set → AreListed set (field_lists names low high (plain_text set count low))
-unfolding field_lists plain_text
-plain_back names set low count high read star ends lie (m, member) = λ k.
-    let lists = plain_reads names set low count high (are_all set count low) refl read star ends lie in
-    ap (λ items. items_list names low high items k)
-    (field_back names low high m (plain_items set count low) (plain_are_items names set low count high (are_all set count low) refl read) (lists m ∙ ap Some member))
-    ∙ lists k
-
-pub minutes_back : (set : FiniteSet) → LieBetween set 0 60 → Member set → AreListed set (field_lists Numbers 0 59 (plain_text set 60 0))
-minutes_back set lie some = plain_back Numbers set 0 60 59 minutes_read minutes_star refl lie some
-
-pub hours_back : (set : FiniteSet) → LieBetween set 0 24 → Member set → AreListed set (field_lists Numbers 0 23 (plain_text set 24 0))
-hours_back set lie some = plain_back Numbers set 0 24 23 hours_read hours_star refl lie some
-
-pub months_back : (set : FiniteSet) → LieBetween set 1 13 → Member set → AreListed set (field_lists Months 1 12 (plain_text set 12 1))
-months_back set lie some = plain_back Months set 1 12 12 months_read months_star refl lie some
 
 -- ---- fields as words
 
@@ -283,20 +243,3 @@ field_items (item ∷ items) some are = items_back item items are
 
 pub lists_some : (names : Names) (low high k : ℕ) (items : List (List ℕ)) → items_list names low high items k ≡ Some true → items ≡ [] → ⊥
 lists_some names low high k items is none = false≢true (sym (ap (λ i. given (items_list names low high i k)) none) ∙ ap given is)
-
-plain_word : (names : Names) (set : FiniteSet) (low count high : ℕ) → are_read names low high (low + count) ≡ true → StarReads names low high → low + count ≡ high + 1
-    → LieBetween set low (low + count) → Member set → IsWord (plain_text set count low)
-unfolding plain_text
-plain_word names set low count high read star ends lie (m, member) =
-    field_is_word (plain_items set count low)
-    (lists_some names low high m (plain_items set count low) (plain_reads names set low count high (are_all set count low) refl read star ends lie m ∙ ap Some member))
-    (plain_are_items names set low count high (are_all set count low) refl read)
-
-pub minutes_word : (set : FiniteSet) → LieBetween set 0 60 → Member set → IsWord (plain_text set 60 0)
-minutes_word set lie some = plain_word Numbers set 0 60 59 minutes_read minutes_star refl lie some
-
-pub hours_word : (set : FiniteSet) → LieBetween set 0 24 → Member set → IsWord (plain_text set 24 0)
-hours_word set lie some = plain_word Numbers set 0 24 23 hours_read hours_star refl lie some
-
-pub months_word : (set : FiniteSet) → LieBetween set 1 13 → Member set → IsWord (plain_text set 12 1)
-months_word set lie some = plain_word Months set 1 12 12 months_read months_star refl lie some

@@ -16,6 +16,7 @@ mod DayFieldsReadBack
 mod NamedDaysReadBack
 mod FieldsReadBack
 mod SchedulesReadBack
+mod TimesReadBack
 mod WeekdaysReadBack
 mod SameDues
 mod ReadIsWritable

@@ -1,5 +1,5 @@
 -- A text of a schedule lists one family of sets.
-use Rattle.std.proofs.Common.{◌≡◌, ◌&&◌, ℕ, Bool, List, [], get_or, Option, sym, ap, ◌∙◌}
+use Rattle.std.proofs.Common.{◌≡◌, ◌&&◌, ◌||◌, ℕ, Bool, List, [], get_or, Option, sym, ap, ◌∙◌}
 use Rattle.std.specs.Prelude.{not}
 use Rattle.std.proofs.lemmas.Option.{same_Some}
 use Rattle.chrono_sets.specs.FiniteSets.{FiniteSet, has}
@@ -24,24 +24,25 @@ field_at n fields = get_or fields n []
 abbrev days_of : FiniteSet → FiniteSet → Bool → FiniteSet → FiniteSet → MonthDays
 days_of ends nearest last lasts nths = record { from_end = ends; nearest_workdays = nearest; last_workday = last; last_weekdays = lasts; nth_weekdays = nths }
 
-abbrev sets_of : FiniteSet → FiniteSet → FiniteSet → FiniteSet → FiniteSet → MonthDays → Bool → FieldSets
-sets_of minutes hours days months weekdays named either =
-    record { minutes = minutes; hours = hours; days = days; months = months; weekdays = weekdays; month_days = named; either = either }
+abbrev sets_of : FiniteSet → FiniteSet → FiniteSet → FiniteSet → FiniteSet → MonthDays → Bool → Bool → FieldSets
+sets_of minutes hours days months weekdays named either follows =
+    record { minutes = minutes; hours = hours; days = days; months = months; weekdays = weekdays; month_days = named; either = either; follows_clock = follows }
 
 -- days and sets whose parts are the same
 same_days_of : (a b c d : FiniteSet) (l : Bool) (e f g h : FiniteSet) (m : Bool) → a ≡ e → b ≡ f → l ≡ m → c ≡ g → d ≡ h → days_of a b l c d ≡ days_of e f m g h
 same_days_of a b c d l e f g h m p q r s t =
     ap (λ x. days_of x b l c d) p ∙ ap (λ x. days_of e x l c d) q ∙ ap (λ x. days_of e f x c d) r ∙ ap (λ x. days_of e f m x d) s ∙ ap (days_of e f m g) t
 
-same_sets_of : (s t : FieldSets) → s.minutes ≡ t.minutes → s.hours ≡ t.hours → s.days ≡ t.days → s.months ≡ t.months → s.weekdays ≡ t.weekdays → s.month_days ≡ t.month_days → s.either ≡ t.either → s ≡ t
-same_sets_of s t a b c d e f g =
-    ap (λ x. sets_of x s.hours s.days s.months s.weekdays s.month_days s.either) a
-    ∙ ap (λ x. sets_of t.minutes x s.days s.months s.weekdays s.month_days s.either) b
-    ∙ ap (λ x. sets_of t.minutes t.hours x s.months s.weekdays s.month_days s.either) c
-    ∙ ap (λ x. sets_of t.minutes t.hours t.days x s.weekdays s.month_days s.either) d
-    ∙ ap (λ x. sets_of t.minutes t.hours t.days t.months x s.month_days s.either) e
-    ∙ ap (λ x. sets_of t.minutes t.hours t.days t.months t.weekdays x s.either) f
-    ∙ ap (sets_of t.minutes t.hours t.days t.months t.weekdays t.month_days) g
+same_sets_of : (s t : FieldSets) → s.minutes ≡ t.minutes → s.hours ≡ t.hours → s.days ≡ t.days → s.months ≡ t.months → s.weekdays ≡ t.weekdays → s.month_days ≡ t.month_days → s.either ≡ t.either → s.follows_clock ≡ t.follows_clock → s ≡ t
+same_sets_of s t a b c d e f g h =
+    ap (λ x. sets_of x s.hours s.days s.months s.weekdays s.month_days s.either s.follows_clock) a
+    ∙ ap (λ x. sets_of t.minutes x s.days s.months s.weekdays s.month_days s.either s.follows_clock) b
+    ∙ ap (λ x. sets_of t.minutes t.hours x s.months s.weekdays s.month_days s.either s.follows_clock) c
+    ∙ ap (λ x. sets_of t.minutes t.hours t.days x s.weekdays s.month_days s.either s.follows_clock) d
+    ∙ ap (λ x. sets_of t.minutes t.hours t.days t.months x s.month_days s.either s.follows_clock) e
+    ∙ ap (λ x. sets_of t.minutes t.hours t.days t.months t.weekdays x s.either s.follows_clock) f
+    ∙ ap (λ x. sets_of t.minutes t.hours t.days t.months t.weekdays t.month_days x s.follows_clock) g
+    ∙ ap (sets_of t.minutes t.hours t.days t.months t.weekdays t.month_days t.either) h
 
 pub one_reading : (text : List ℕ) (s t : FieldSets) → IsScheduleText text s → IsScheduleText text t → s ≡ t
 one_reading text s t one other =
@@ -61,10 +62,12 @@ one_reading text s t one other =
     (same_named _ _ (an_item_is nth_weekday_of) one.weekday other.weekday weekday m.nth_weekdays n.nth_weekdays) in
     let either = sym one.either ∙ ap (λ text. not (begins_with_star text) && not (begins_with_star one.weekday)) day
     ∙ ap (λ text. not (begins_with_star other.day) && not (begins_with_star text)) weekday ∙ other.either in
+    let follows = sym one.follows_clock ∙ ap (λ text. begins_with_star text || begins_with_star one.hour) minute
+    ∙ ap (λ text. begins_with_star other.minute || begins_with_star text) hour ∙ other.follows_clock in
     same_sets_of s t
     (same_listed _ _ (field_lists Numbers 0 59) one.minute other.minute minute one.minutes other.minutes)
     (same_listed _ _ (field_lists Numbers 0 23) one.hour other.hour hour one.hours other.hours)
     (same_listed _ _ days_list one.day other.day day one.days other.days)
     (same_listed _ _ (field_lists Months 1 12) one.month other.month month one.months other.months)
     (same_listed _ _ weekdays_list one.weekday other.weekday weekday one.weekdays other.weekdays)
-    named either
+    named either follows

@@ -16,7 +16,7 @@ use Rattle.chrono_cron.specs.declared.text.number_names.Names.TheVariants.{Numbe
 use Rattle.chrono_cron.specs.declared.field_sets.FieldSets.{FieldSets}
 use Rattle.chrono_text.specs.Lists.{begins_alike}
 use Rattle.chrono_datetime.specs.Names.{month_of_letters, weekday_of_letters}
-use Rattle.chrono_cron.specs.FieldTexts.{before_byte, behind_byte, item_lists, items_list, number_between, number_of_name, range_of, range_to, spelled_number}
+use Rattle.chrono_cron.specs.FieldTexts.{before_byte, behind_byte, field_lists, item_lists, items_list, number_between, number_of_name, range_of, range_to, spelled_number}
 use Rattle.chrono_cron.specs.ScheduleTexts.{AreListed, AreNamed, AreNamedDays, IsScheduleText, an_item_is, before_letter, begins_with_star, days_list, from_end_of, is_last_workday_text, is_number, items_of, last_weekday_of, last_workday_of, names_by_place, names_by_weekday, nearest_workday_of, nth_weekday_of, spelled_weekday, weekdays_list}
 use Rattle.chrono_cron.specs.WritableSchedules.{IsWritable, LieBetween, Member}
 use Rattle.chrono_cron.proofs.DayFieldsReadBack.{number_is}
@@ -336,6 +336,22 @@ starred_told text s is e =
     (λ day. ap (λ t. t || has s.weekdays 0) (day_star is.day s.days day is.days))
     (λ weekday. ap (λ t. has s.days 1 || t) (weekday_star is.weekday s.weekdays weekday is.weekdays) ∙ or-true (has s.days 1))
 
+-- nor does a field of minutes or of hours that begins with it lack its first number
+time_star : (high : ℕ) (text : List ℕ) (set : FiniteSet) → begins_with_star text ≡ true → AreListed set (field_lists Numbers 0 high text) → has set 0 ≡ true
+unfolding field_lists
+time_star high text set e all =
+    let found = star_items text e in
+    let item = found.0 in
+    let whole = sym (ap (λ them. items_list Numbers 0 high them 0) found.2) ∙ all 0 in
+    let read = both_first Numbers 0 high 0 (42 ∷ item) found.1 (has set 0) whole in
+    item_of_items Numbers 0 high 0 (42 ∷ item) found.1 (has set 0) whole (item_star Numbers 0 high 0 item read.0 (omega arith) read.1)
+
+timed_told : (text : List ℕ) (s : FieldSets) → IsScheduleText text s → s.follows_clock ≡ true → (has s.hours 0 || has s.minutes 0) ≡ true
+timed_told text s is e =
+    one_of (begins_with_star is.minute) (begins_with_star is.hour) ((has s.hours 0 || has s.minutes 0) ≡ true) (is.follows_clock ∙ e)
+    (λ minute. ap (λ t. has s.hours 0 || t) (time_star 59 is.minute s.minutes minute is.minutes) ∙ or-true (has s.hours 0))
+    (λ hour. ap (λ t. t || has s.minutes 0) (time_star 23 is.hour s.hours hour is.hours))
+
 pub schedule_told : (text : List ℕ) (s : FieldSets) → IsScheduleText text s → IsWritable s
 schedule_told text s is =
     let minute = field_told Numbers 0 59 is.minute s.minutes (omega arith) is.minutes in
@@ -358,4 +374,5 @@ schedule_told text s is =
       a_day = a_day s is.day is.weekday is.days named;
       a_weekday = a_weekday s is.day is.weekday is.weekdays named;
       starred = starred_told text s is;
+      timed = timed_told text s is;
     }

@@ -1,5 +1,5 @@
 -- A schedule that is written is read back.
-use Rattle.std.proofs.Common.{◌≡◌, ℕ, ◌+◌, ◌==◌, Bool, true, false, not, ◌&&◌, ◌||◌, if◌then◌else◌, List, [], ◌∷◌, ◌++◌, Option, Some, inl, inr, refl, sym, ap, ap₂, ◌∙◌, arith, append_assoc}
+use Rattle.std.proofs.Common.{◌≡◌, ℕ, ◌+◌, ◌==◌, Bool, true, false, not, ◌&&◌, ◌||◌, if◌then◌else◌, List, [], ◌∷◌, ◌++◌, Option, Some, inl, inr, refl, sym, ap, ap₂, ◌∙◌, arith, append_assoc, append-nil}
 use Rattle.std.specs.Prelude.{codes, map, nat_lt, slice_index}
 use Rattle.std.specs.List.{filter, list_all, list_any, slice_split}
 use Rattle.std.specs.Option.{option_and_then, option_map}
@@ -14,10 +14,11 @@ use Rattle.chrono_cron.specs.declared.text.schedule_writer.DayName.TheVariants.{
 use Rattle.chrono_cron.specs.FieldTexts.{items_list}
 use Rattle.chrono_cron.specs.ScheduleTexts.{AreListed, AreNamedDays, IsScheduleText, an_item_is, begins_with_star, days_list, fields_of, from_end_of, is_number, last_weekday_of, last_workday_of, nearest_workday_of, nth_weekday_of, spelled_out, weekdays_list, text_words, names_by_place, names_by_weekday}
 use Rattle.chrono_cron.specs.WritableSchedules.{IsWritable}
-use Rattle.chrono_cron.specs.WrittenTexts.{are_all, day_field_items, is_starred_by_day, is_starred_by_weekday, name_text, number_items, plain_text, range_text, ranges_from, schedule_text, weekday_field_items}
-use Rattle.chrono_cron.proofs.FieldsReadBack.{IsWord, all_has, field_is_word, field_items, given, hours_back, hours_word, is_item, lists_some, minutes_back, minutes_word, months_back, months_word, pass_all, ranges_pass}
+use Rattle.chrono_cron.specs.WrittenTexts.{are_all, day_field_items, is_starred_by_day, is_starred_by_hour, is_starred_by_minute, is_starred_by_weekday, name_text, number_items, plain_text, range_text, ranges_from, schedule_text, weekday_field_items}
+use Rattle.chrono_cron.proofs.FieldsReadBack.{IsWord, all_has, field_is_word, field_items, given, is_item, lists_some, pass_all, ranges_pass}
 use Rattle.chrono_cron.proofs.DayFieldsReadBack.{filter_all, names_tested, pass_from}
 use Rattle.chrono_cron.proofs.NamedDaysReadBack.{day_items_are, day_names, day_numbers, days_are_items, days_listed, ends, ends_named, last_named, last_workdays, nearest_named, other_days, workdays}
+use Rattle.chrono_cron.proofs.TimesReadBack.{follows_is, hour_first, hours_back, hours_items, hours_some, hours_word, minute_first, minutes_back, minutes_items, minutes_some, minutes_word, month_first, months_back, months_word}
 use Rattle.chrono_cron.proofs.WeekdaysReadBack.{lasts, lasts_named, nths, nths_named, other_weekdays, weekday_items_are, weekday_numbers, weekdays_are_items, weekdays_listed}
 use Rattle.chrono_cron.proofs.WrittenFields.{numbers_all, numbers_stepped, numbers_unstarred, ranges_are}
 
@@ -130,6 +131,32 @@ begins_weekday s false is some =
     (all_of no_star (lasts s) (nths s) (names_tested no_star LastWeekday s.month_days.last_weekdays 7 0 lasts_lack_star)
     (names_tested no_star NthWeekday s.month_days.nth_weekdays 35 0 nths_lack_star)))
 
+minutes_lack_star : pass_all (λ r. no_star (range_text r)) 0 60 ≡ true
+minutes_lack_star = refl
+
+hours_lack_star : pass_all (λ r. no_star (range_text r)) 0 24 ≡ true
+hours_lack_star = refl
+
+begins_minute : (s : FieldSets) (starred : Bool) → is_starred_by_minute s ≡ starred → (number_items (is_starred_by_minute s) s.minutes 60 0 ≡ [] → ⊥)
+    → begins_with_star (plain_text (is_starred_by_minute s) s.minutes 60 0) ≡ starred
+unfolding plain_text
+begins_minute s true is some =
+    ap (λ items. begins_with_star (list_text items)) (sym (append-nil (number_items (is_starred_by_minute s) s.minutes 60 0)))
+    ∙ begins_starred s.minutes 60 0 (is_starred_by_minute s) (are_all s.minutes 60 0) [] is refl refl
+begins_minute s false is some =
+    begins_unstarred (number_items (is_starred_by_minute s) s.minutes 60 0) some (minutes_items (is_starred_by_minute s) s.minutes)
+    (ranges_lack_star s.minutes 60 0 (is_starred_by_minute s) is minutes_lack_star)
+
+begins_hour : (s : FieldSets) (starred : Bool) → is_starred_by_hour s ≡ starred → (number_items (is_starred_by_hour s) s.hours 24 0 ≡ [] → ⊥)
+    → begins_with_star (plain_text (is_starred_by_hour s) s.hours 24 0) ≡ starred
+unfolding plain_text
+begins_hour s true is some =
+    ap (λ items. begins_with_star (list_text items)) (sym (append-nil (number_items (is_starred_by_hour s) s.hours 24 0)))
+    ∙ begins_starred s.hours 24 0 (is_starred_by_hour s) (are_all s.hours 24 0) [] is refl refl
+begins_hour s false is some =
+    begins_unstarred (number_items (is_starred_by_hour s) s.hours 24 0) some (hours_items (is_starred_by_hour s) s.hours)
+    (ranges_lack_star s.hours 24 0 (is_starred_by_hour s) is hours_lack_star)
+
 -- ---- neither field of days is empty
 
 any_some : (p : List ℕ → Bool) (items : List (List ℕ)) → list_any p items ≡ true → items ≡ [] → ⊥
@@ -182,16 +209,16 @@ five_words a b c d e (some_a, lack_a) (some_b, lack_b) (some_c, lack_c) (some_d,
     (ap₂ (λ x y. x && y) some_a (ap₂ (λ x y. x && y) some_b (ap₂ (λ x y. x && y) some_c (ap₂ (λ x y. x && y) some_d (ap₂ (λ x y. x && y) some_e refl)))))
 
 fields_back : (s : FieldSets) → IsWritable s
-    → fields_of (schedule_text s) ≡ plain_text s.minutes 60 0 ∷ plain_text s.hours 24 0 ∷ list_text (day_field_items s) ∷ plain_text s.months 12 1 ∷ list_text (weekday_field_items s) ∷ []
+    → fields_of (schedule_text s) ≡ plain_text (is_starred_by_minute s) s.minutes 60 0 ∷ plain_text (is_starred_by_hour s) s.hours 24 0 ∷ list_text (day_field_items s) ∷ plain_text (are_all s.months 12 1) s.months 12 1 ∷ list_text (weekday_field_items s) ∷ []
 unfolding fields_of schedule_text
 fields_back s told =
     let nested : schedule_text s
-    ≡ plain_text s.minutes 60 0 ++ 32 ∷ (plain_text s.hours 24 0 ++ 32 ∷ (list_text (day_field_items s) ++ 32 ∷ (plain_text s.months 12 1 ++ 32 ∷ list_text (weekday_field_items s)))) =
+    ≡ plain_text (is_starred_by_minute s) s.minutes 60 0 ++ 32 ∷ (plain_text (is_starred_by_hour s) s.hours 24 0 ++ 32 ∷ (list_text (day_field_items s) ++ 32 ∷ (plain_text (are_all s.months 12 1) s.months 12 1 ++ 32 ∷ list_text (weekday_field_items s)))) =
     simp append_assoc refl in
     ap (λ text. spelled_out (text_words text)) nested
-    ∙ ap spelled_out (five_words (plain_text s.minutes 60 0) (plain_text s.hours 24 0) (list_text (day_field_items s)) (plain_text s.months 12 1) (list_text (weekday_field_items s))
-    (minutes_word s.minutes told.minutes told.a_minute) (hours_word s.hours told.hours told.an_hour) (field_is_word (day_field_items s) (some_days s told) (days_are_items s))
-    (months_word s.months told.months told.a_month) (field_is_word (weekday_field_items s) (some_weekdays s told) (weekdays_are_items s)))
+    ∙ ap spelled_out (five_words (plain_text (is_starred_by_minute s) s.minutes 60 0) (plain_text (is_starred_by_hour s) s.hours 24 0) (list_text (day_field_items s)) (plain_text (are_all s.months 12 1) s.months 12 1) (list_text (weekday_field_items s))
+    (minutes_word (is_starred_by_minute s) s.minutes (minute_first s) told.minutes told.a_minute) (hours_word (is_starred_by_hour s) s.hours (hour_first s) told.hours told.an_hour) (field_is_word (day_field_items s) (some_days s told) (days_are_items s))
+    (months_word (are_all s.months 12 1) s.months (month_first s) told.months told.a_month) (field_is_word (weekday_field_items s) (some_weekdays s told) (weekdays_are_items s)))
 
 -- ---- the schedule
 
@@ -226,17 +253,20 @@ named_back s told = record {
 
 pub schedule_back : (s : FieldSets) → IsWritable s → IsScheduleText (schedule_text s) s
 schedule_back s told = record {
-  minute = plain_text s.minutes 60 0;
-  hour = plain_text s.hours 24 0;
+  minute = plain_text (is_starred_by_minute s) s.minutes 60 0;
+  hour = plain_text (is_starred_by_hour s) s.hours 24 0;
   day = list_text (day_field_items s);
-  month = plain_text s.months 12 1;
+  month = plain_text (are_all s.months 12 1) s.months 12 1;
   weekday = list_text (weekday_field_items s);
   written = fields_back s told;
-  minutes = minutes_back s.minutes told.minutes told.a_minute;
-  hours = hours_back s.hours told.hours told.an_hour;
+  minutes = minutes_back (is_starred_by_minute s) s.minutes (minute_first s) told.minutes told.a_minute;
+  hours = hours_back (is_starred_by_hour s) s.hours (hour_first s) told.hours told.an_hour;
   days = days_back s told;
-  months = months_back s.months told.months told.a_month;
+  months = months_back (are_all s.months 12 1) s.months (month_first s) told.months told.a_month;
   weekdays = weekdays_back s told;
   month_days = named_back s told;
   either = ap₂ (λ a b. not a && not b) (begins_day s (is_starred_by_day s) refl (some_days s told)) (begins_weekday s (is_starred_by_weekday s) refl (some_weekdays s told)) ∙ either_is s told;
+  follows_clock =
+      ap₂ (λ a b. a || b) (begins_minute s (is_starred_by_minute s) refl (minutes_some (is_starred_by_minute s) s.minutes (minute_first s) told.minutes told.a_minute))
+      (begins_hour s (is_starred_by_hour s) refl (hours_some (is_starred_by_hour s) s.hours (hour_first s) told.hours told.an_hour)) ∙ follows_is s told;
 }

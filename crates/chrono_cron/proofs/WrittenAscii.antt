@@ -10,7 +10,7 @@ use Rattle.chrono_sets.specs.FiniteSets.{FiniteSet, has}
 use Rattle.chrono_cron.specs.declared.field_sets.FieldSets.{FieldSets}
 use Rattle.chrono_cron.specs.declared.text.schedule_writer.DayName.{DayName}
 use Rattle.chrono_cron.specs.declared.text.schedule_writer.DayName.TheVariants.{FromEnd, NearestWorkday, LastWeekday, NthWeekday}
-use Rattle.chrono_cron.specs.WrittenTexts.{are_all, day_field_items, is_starred_by_day, is_starred_by_weekday, name_text, names_from, number_items, plain_text, range_text, ranges_from, schedule_text, weekday_field_items}
+use Rattle.chrono_cron.specs.WrittenTexts.{are_all, day_field_items, is_starred_by_day, is_starred_by_hour, is_starred_by_minute, is_starred_by_weekday, name_text, names_from, number_items, plain_text, range_text, ranges_from, schedule_text, weekday_field_items}
 use Rattle.chrono_cron.proofs.WrittenFields.{AreRanges, ranges_are}
 use Rattle.chrono_text.proofs.AsciiTexts.{IsAscii-if, IsAscii-one, AreAscii, AreAscii-if, AreAscii-append, IsAscii-joined, IsAscii-number_text}
 
@@ -53,9 +53,9 @@ numbers_ascii starred set count low le =
 list_ascii : (items : List (List ℕ)) → AreAscii items → IsAscii (list_text items)
 list_ascii items are = IsAscii-joined 44 items (omega arith) are
 
-plain_ascii : (set : FiniteSet) (count low : ℕ) → low + count ≤ 60 → IsAscii (plain_text set count low)
+plain_ascii : (starred : Bool) (set : FiniteSet) (count low : ℕ) → low + count ≤ 60 → IsAscii (plain_text starred set count low)
 unfolding plain_text
-plain_ascii set count low le = list_ascii (number_items (are_all set count low) set count low) (numbers_ascii (are_all set count low) set count low le)
+plain_ascii starred set count low le = list_ascii (number_items starred set count low) (numbers_ascii starred set count low le)
 
 days_ascii : (s : FieldSets) → IsAscii (list_text (day_field_items s))
 unfolding day_field_items
@@ -87,11 +87,11 @@ spaced front field h k = IsAscii-append (front ++ codes " ") field (IsAscii-appe
 pub schedule_ascii : (s : FieldSets) → IsAscii (schedule_text s)
 unfolding schedule_text
 schedule_ascii s =
-    let minutes = plain_text s.minutes 60 0 in
-    let hours = plain_text s.hours 24 0 in
+    let minutes = plain_text (is_starred_by_minute s) s.minutes 60 0 in
+    let hours = plain_text (is_starred_by_hour s) s.hours 24 0 in
     let days = list_text (day_field_items s) in
-    let months = plain_text s.months 12 1 in
-    let two = spaced minutes hours (plain_ascii s.minutes 60 0 (omega arith)) (plain_ascii s.hours 24 0 (omega arith)) in
+    let months = plain_text (are_all s.months 12 1) s.months 12 1 in
+    let two = spaced minutes hours (plain_ascii (is_starred_by_minute s) s.minutes 60 0 (omega arith)) (plain_ascii (is_starred_by_hour s) s.hours 24 0 (omega arith)) in
     let three = spaced (minutes ++ codes " " ++ hours) days two (days_ascii s) in
-    let four = spaced (minutes ++ codes " " ++ hours ++ codes " " ++ days) months three (plain_ascii s.months 12 1 (omega arith)) in
+    let four = spaced (minutes ++ codes " " ++ hours ++ codes " " ++ days) months three (plain_ascii (are_all s.months 12 1) s.months 12 1 (omega arith)) in
     spaced (minutes ++ codes " " ++ hours ++ codes " " ++ days ++ codes " " ++ months) (list_text (weekday_field_items s)) four (weekdays_ascii s)

@@ -32,17 +32,22 @@ every_weekday = in_a_row 7 0
 -- what five fields list, with no days that are named
 abbrev pub fields : List ℕ → List ℕ → List ℕ → List ℕ → List ℕ → Bool → FieldSets
 fields minutes hours days months weekdays either =
-    record { minutes = numbers minutes; hours = numbers hours; days = numbers days; months = numbers months; weekdays = numbers weekdays; month_days = no_month_days; either = either }
+    record { minutes = numbers minutes; hours = numbers hours; days = numbers days; months = numbers months; weekdays = numbers weekdays; month_days = no_month_days; either = either; follows_clock = false }
+
+-- the same sets, and the schedule follows the clock
+abbrev pub following : FieldSets → FieldSets
+following s =
+    record { minutes = s.minutes; hours = s.hours; days = s.days; months = s.months; weekdays = s.weekdays; month_days = s.month_days; either = s.either; follows_clock = true }
 
 -- midnight in each month, on days that are named, where either field will do
 abbrev pub fields_with : List ℕ → List ℕ → Bool → List ℕ → List ℕ → FieldSets
 fields_with ends nearest last lasts nths =
-    record { minutes = numbers (0 ∷ []); hours = numbers (0 ∷ []); days = numbers []; months = numbers every_month; weekdays = numbers []; month_days = days_named ends nearest last lasts nths; either = true }
+    record { minutes = numbers (0 ∷ []); hours = numbers (0 ∷ []); days = numbers []; months = numbers every_month; weekdays = numbers []; month_days = days_named ends nearest last lasts nths; either = true; follows_clock = false }
 
 -- midnight in each month, on days before the end of the month that have one of the weekdays
 abbrev pub last_days_on : List ℕ → List ℕ → FieldSets
 last_days_on ends weekdays =
-    record { minutes = numbers (0 ∷ []); hours = numbers (0 ∷ []); days = numbers []; months = numbers every_month; weekdays = numbers weekdays; month_days = days_named ends [] false [] []; either = false }
+    record { minutes = numbers (0 ∷ []); hours = numbers (0 ∷ []); days = numbers []; months = numbers every_month; weekdays = numbers weekdays; month_days = days_named ends [] false [] []; either = false; follows_clock = false }
 
 -- the moment of a day at an hour, a minute, a second and a fraction of it in nanoseconds
 abbrev pub known_moment : ℤ → ℕ → ℕ → ℕ → ℕ → Moment
@@ -50,7 +55,7 @@ known_moment n hour minute second fraction = moment n (time_at hour minute secon
 
 -- `* * * * *`
 abbrev pub each_minute : FieldSets
-each_minute = fields (in_a_row 60 0) (in_a_row 24 0) every_day every_month every_weekday false
+each_minute = following (fields (in_a_row 60 0) (in_a_row 24 0) every_day every_month every_weekday false)
 
 -- the same but for the minutes, of which it has none
 abbrev pub no_minute : FieldSets

@@ -143,7 +143,8 @@ pub record AreNamedWith (m : MonthDays) (item : List ℕ) (n : MonthDays) : Type
   pub nth_weekdays : (k : ℕ) → has n.nth_weekdays k ≡ (has m.nth_weekdays k || is_number k (nth_weekday_of item))
 
 -- a text of the schedule with these sets: minutes, hours, days of the month, months, weekdays. Either field of days will do if neither begins
--- with `*`
+-- with `*`. The schedule follows the clock if the minutes or the hours do, as the sources of cronie and of Debian's cron have it: they mark
+-- such fields as MIN_STAR and HR_STAR
 pub record IsScheduleText (text : List ℕ) (s : FieldSets) : Type 0 where
   pub minute : List ℕ
   pub hour : List ℕ
@@ -158,6 +159,7 @@ pub record IsScheduleText (text : List ℕ) (s : FieldSets) : Type 0 where
   pub weekdays : AreListed s.weekdays (weekdays_list weekday)
   pub month_days : AreNamedDays day weekday s.month_days
   pub either : (not (begins_with_star day) && not (begins_with_star weekday)) ≡ s.either
+  pub follows_clock : (begins_with_star minute || begins_with_star hour) ≡ s.follows_clock
 
 -- known values: blanks before, between and behind the words, and a nickname with blanks about it
 fields_of-blanks : fields_of (codes "  5 \t4  * * 7 ") ≡ codes "5" ∷ codes "4" ∷ codes "*" ∷ codes "*" ∷ codes "7" ∷ []

@@ -12,7 +12,7 @@ abbrev pub LieBetween : FiniteSet → ℕ → ℕ → Type 0
 LieBetween set low end = (k : ℕ) → has set k ≡ true → (low ≤ k) × (k < end)
 
 -- each set has numbers of its field alone, and each field lists or names something. Where both fields of days have to match, the 1st or Sunday
--- is listed: that field can begin with `*`
+-- is listed: that field can begin with `*`. Where the schedule follows the clock, the hour 0 or the minute 0 is listed, likewise
 pub record IsWritable (s : FieldSets) : Type 0 where
   pub minutes : LieBetween s.minutes 0 60
   pub hours : LieBetween s.hours 0 24
@@ -29,3 +29,4 @@ pub record IsWritable (s : FieldSets) : Type 0 where
   pub a_day : Member s.days ⊎ (Member s.month_days.from_end ⊎ ((s.month_days.last_workday ≡ true) ⊎ Member s.month_days.nearest_workdays))
   pub a_weekday : Member s.weekdays ⊎ (Member s.month_days.last_weekdays ⊎ Member s.month_days.nth_weekdays)
   pub starred : s.either ≡ false → (has s.days 1 || has s.weekdays 0) ≡ true
+  pub timed : s.follows_clock ≡ true → (has s.hours 0 || has s.minutes 0) ≡ true

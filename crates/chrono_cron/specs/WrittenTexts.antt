@@ -51,9 +51,19 @@ number_items starred set count low =
     if starred then (if are_all set count low then codes "*" ∷ [] else (codes "*/" ++ number_text count) ∷ map range_text (ranges_from set count low))
     else map range_text (ranges_from set count low)
 
--- the minutes, the hours or the months: `*`, or a list
-unfoldable pub plain_text : FiniteSet → ℕ → ℕ → List ℕ
-plain_text set count low = list_text (number_items (are_all set count low) set count low)
+-- the minutes, the hours or the months, with a `*` in front or without
+unfoldable pub plain_text : Bool → FiniteSet → ℕ → ℕ → List ℕ
+plain_text starred set count low = list_text (number_items starred set count low)
+
+-- where a schedule follows the clock, each field of minutes or hours that lists all its numbers begins with `*`. If neither does, then that of
+-- hours does if it lists 0, and else that of minutes if it lists 0
+unfoldable pub is_starred_by_hour : FieldSets → Bool
+is_starred_by_hour s = s.follows_clock && (are_all s.hours 24 0 || (not (are_all s.minutes 60 0) && has s.hours 0))
+
+-- whether the field of minutes is written with a `*` in front
+unfoldable pub is_starred_by_minute : FieldSets → Bool
+is_starred_by_minute s =
+    s.follows_clock && (are_all s.minutes 60 0 || (not (are_all s.hours 24 0) && (not (has s.hours 0) && has s.minutes 0)))
 
 -- where a day has to match both of its fields, each that lists all its numbers begins with `*`. If neither does, then that
 -- of days does if it lists the 1st, and else that of weekdays if it lists Sunday
@@ -79,5 +89,6 @@ weekday_field_items s =
 -- the five fields with a space between each two
 unfoldable pub schedule_text : FieldSets → List ℕ
 schedule_text s =
-    plain_text s.minutes 60 0 ++ codes " " ++ plain_text s.hours 24 0 ++ codes " " ++ list_text (day_field_items s)
-    ++ codes " " ++ plain_text s.months 12 1 ++ codes " " ++ list_text (weekday_field_items s)
+    plain_text (is_starred_by_minute s) s.minutes 60 0 ++ codes " " ++ plain_text (is_starred_by_hour s) s.hours 24 0
+    ++ codes " " ++ list_text (day_field_items s) ++ codes " " ++ plain_text (are_all s.months 12 1) s.months 12 1
+    ++ codes " " ++ list_text (weekday_field_items s)

@@ -33,6 +33,9 @@ pub struct FieldSets {
     pub month_days: MonthDays,
     /// Whether one field of days is enough. If false, a day has to match both its day of the month and its weekday.
     pub either: bool,
+    /// Whether the text of the minutes or that of the hours begins with `*`. In a zone such a schedule goes by what the clock shows. Here it
+    /// makes no difference.
+    pub follows_clock: bool,
 }
 
 impl FieldSets {

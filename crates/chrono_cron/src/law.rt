@@ -1,15 +1,16 @@
 //! Known days, moments and texts, and laws of schedules. Each is a clause of a function that does nothing.
-ghost use Rattle.std.specs.Prelude.{◌≡◌, ◌<◌, ◌≤◌, ◌-◌, ℕ, true, false, None, Some, Result, Err, pos, neg_ℤ, [], ◌∷◌, codes};
+ghost use Rattle.std.specs.Prelude.{◌≡◌, ◌<◌, ◌≤◌, ◌-◌, ℕ, Bool, true, false, None, Some, Result, Err, pos, neg_ℤ, [], ◌∷◌, codes};
 ghost use Rattle.chrono_sets.specs.FiniteSets.{has};
 ghost use Rattle.chrono_cron.specs.Due.{IsNeverDue, MeanTheSame, NotDueAfter, NotDueBefore, NotDueBetween, is_due};
 ghost use Rattle.chrono_cron.specs.DueMoments.{dues_after, dues_left};
 ghost use Rattle.chrono_cron.specs.KnownMonthDays.{is_named_day, days_named};
-ghost use Rattle.chrono_cron.specs.KnownSchedules.{dues_of, every_day, every_month, every_weekday, each_minute, fields, fields_with, in_a_row, known_moment, last_days_on, no_minute, odd_days};
+ghost use Rattle.chrono_cron.specs.KnownSchedules.{dues_of, every_day, every_month, every_weekday, each_minute, fields, fields_with, following, in_a_row, known_moment, last_days_on, no_minute, odd_days};
 ghost use Rattle.chrono_cron.specs.FieldTexts.{field_lists};
 ghost use Rattle.chrono_cron.specs.ScheduleErrors.{IsScheduleRead};
 ghost use Rattle.chrono_cron.specs.ScheduleTexts.{AreListed, IsScheduleText};
 ghost use Rattle.chrono_cron.specs.WritableSchedules.{IsWritable, LieBetween, Member};
 ghost use Rattle.chrono_cron.specs.WrittenTexts.{one_lists, plain_text, ranges_from, schedule_text};
+ghost use Rattle.chrono_cron.specs.declared.field_sets.FieldSets.{FieldSets};
 ghost use Rattle.chrono_cron.specs.declared.schedule.Schedule.{Schedule};
 ghost use Rattle.chrono_cron.specs.declared.text.number_names.Names.TheVariants.{Months, Numbers};
 ghost use Rattle.chrono_cron.specs.declared.text.schedule_error.ScheduleError.{ScheduleError};
@@ -130,7 +131,8 @@ pub fn known_gaps()
 /// Each minute is all stars, and all days are ranges if either field of days is enough.
 /// Numbers are written in ranges that are as long as possible.
 /// If both fields have to match, one begins with `*`: by the 1st, or else by Sunday. Without either, no text says it, and none begins with `*`.
-/// Named days follow the numbers.
+/// Named days follow the numbers. All minutes and hours are ranges if the schedule does not follow the clock. If it does, `*` stands in front of the
+/// hours or the minutes.
 pub fn known_texts()
     ensures stars { schedule_text each_minute ≡ codes "* * * * *" }
     ensures ranges { schedule_text (fields (0 ∷ 30 ∷ []) (in_a_row 9 9) every_day (2 ∷ 3 ∷ 5 ∷ 6 ∷ 7 ∷ 8 ∷ 9 ∷ 12 ∷ []) (in_a_row 5 1) false) ≡ codes "0,30 9-17 * 2-3,5-9,12 1-5" }
@@ -141,6 +143,10 @@ pub fn known_texts()
     ensures both_by_neither { schedule_text (fields (0 ∷ []) (0 ∷ []) (15 ∷ []) every_month (5 ∷ []) false) ≡ codes "0 0 15 * 5" }
     ensures names { schedule_text (fields_with (0 ∷ 3 ∷ []) (15 ∷ []) true (5 ∷ []) (12 ∷ [])) ≡ codes "0 0 L,L-3,LW,15W * 5L,5#2" }
     ensures starred_weekdays { schedule_text (fields (0 ∷ []) (0 ∷ []) (1 ∷ 15 ∷ []) every_month every_weekday false) ≡ codes "0 0 1,15 * *" }
+    ensures fixed { schedule_text (fields (in_a_row 60 0) (in_a_row 24 0) every_day every_month every_weekday false) ≡ codes "0-59 0-23 * * *" }
+    ensures each_hour { schedule_text (following (fields (0 ∷ []) (in_a_row 24 0) every_day every_month every_weekday false)) ≡ codes "0 * * * *" }
+    ensures by_hour { schedule_text (following (fields (0 ∷ []) (0 ∷ 12 ∷ []) every_day every_month every_weekday false)) ≡ codes "0 */24,0,12 * * *" }
+    ensures by_minute { schedule_text (following (fields (0 ∷ 30 ∷ []) (2 ∷ []) every_day every_month every_weekday false)) ≡ codes "*/60,0,30 2 * * *" }
 {}
 
 /// What a reading answers to known texts: an error with the field, the place, and what is wrong there.
@@ -151,10 +157,23 @@ pub fn known_answers()
         → result ≡ Err (record { field = None; byte = 7; fault = TooFewFields }) }
 {}
 
-/// Schedules that no text can write: one has a day 0. In the other both fields have to match, without the 1st and without Sunday.
+/// Schedules that no text can write: one has a day 0. In another both fields have to match, without the 1st and without Sunday. The third follows
+/// the clock, without the hour 0 and without the minute 0.
 pub fn known_unwritable_schedules()
     ensures day_0 { IsWritable (fields (0 ∷ []) (0 ∷ []) (0 ∷ 1 ∷ []) every_month (5 ∷ []) true) → ⊥ }
     ensures unstarred { IsWritable (fields (0 ∷ []) (0 ∷ []) (15 ∷ []) every_month (5 ∷ []) false) → ⊥ }
+    ensures untimed { IsWritable (following (fields (30 ∷ []) (2 ∷ []) (1 ∷ []) every_month every_weekday false)) → ⊥ }
+{}
+
+/// Which texts are of schedules that follow the clock: those whose minutes or hours begin with `*`, as `*/5` does and `0,*` does not.
+///
+/// So `@hourly` is one and `@daily` is none. A `*` in a field of days makes no difference.
+pub fn known_followers()
+    ensures minutes { (s : FieldSets) → IsScheduleText (codes "*/5 2 * * *") s → s.follows_clock ≡ true }
+    ensures hours { (s : FieldSets) → IsScheduleText (codes "0 */2 1 1 1") s → s.follows_clock ≡ true }
+    ensures hourly { (s : FieldSets) → IsScheduleText (codes "@hourly") s → s.follows_clock ≡ true }
+    ensures daily { (s : FieldSets) → IsScheduleText (codes "@daily") s → s.follows_clock ≡ false }
+    ensures star_behind { (s : FieldSets) → IsScheduleText (codes "0,* 0-23 * * *") s → s.follows_clock ≡ false }
 {}
 
 /// The ranges that are written for the numbers of a field list its members, and no other of these numbers.
@@ -164,17 +183,20 @@ pub fn ranges_list_the_members(set: NumberSet, low: u32, end: u32)
 
 /// The text that is written for a field of minutes, hours or months is read back as the same set.
 ///
-/// This holds for a set with a member and with the field's own numbers alone.
+/// This holds for a set with a member and with the field's own numbers alone. With a `*` in front it has to list the first of them.
 pub fn written_fields_are_read(set: NumberSet)
-    ensures minutes { LieBetween set 0 60 → Member set → AreListed set (field_lists Numbers 0 59 (plain_text set 60 0)) }
-    ensures hours { LieBetween set 0 24 → Member set → AreListed set (field_lists Numbers 0 23 (plain_text set 24 0)) }
-    ensures months { LieBetween set 1 13 → Member set → AreListed set (field_lists Months 1 12 (plain_text set 12 1)) }
+    ensures minutes { (starred : Bool) → (starred ≡ true → has set 0 ≡ true) → LieBetween set 0 60 → Member set
+        → AreListed set (field_lists Numbers 0 59 (plain_text starred set 60 0)) }
+    ensures hours { (starred : Bool) → (starred ≡ true → has set 0 ≡ true) → LieBetween set 0 24 → Member set
+        → AreListed set (field_lists Numbers 0 23 (plain_text starred set 24 0)) }
+    ensures months { (starred : Bool) → (starred ≡ true → has set 1 ≡ true) → LieBetween set 1 13 → Member set
+        → AreListed set (field_lists Months 1 12 (plain_text starred set 12 1)) }
 {}
 
 /// The text that is written for a schedule is a text of it. So `read_schedule` returns the same sets.
 ///
 /// The schedule has to be one that a text can write. It has numbers of its fields alone, and no empty field.
-/// If both fields of days have to match, it lists the 1st or Sunday.
+/// If both fields of days have to match, it lists the 1st or Sunday. If it follows the clock, it lists the hour 0 or the minute 0.
 pub fn written_schedules_are_read(schedule: &Schedule)
     ensures { IsWritable schedule.now.sets → IsScheduleText (schedule_text schedule.now.sets) schedule.now.sets }
 {}
@@ -182,7 +204,7 @@ pub fn written_schedules_are_read(schedule: &Schedule)
 /// A schedule that was read is one that a text can write, whatever its text is.
 ///
 /// It has numbers of its fields alone, and no empty field.
-/// If both fields of days have to match, it lists the 1st or Sunday.
+/// If both fields of days have to match, it lists the 1st or Sunday. If it follows the clock, it lists the hour 0 or the minute 0.
 /// So it can be written, and that text is read back as the same schedule.
 pub fn read_schedules_are_writable(text: &[u8], schedule: &Schedule)
     ensures { IsScheduleText text.now schedule.now.sets → IsWritable schedule.now.sets }

@@ -10,7 +10,8 @@
 //! Days and minutes are those of `chrono_datetime`'s naive date-times. There is no time zone and no daylight-saving time.
 //! A layer with time zones maps these moments. It decides what to do with one that comes twice or not at all.
 //!
-//! A field `*` lists every number. If a field of days begins with `*`, `either` is false (the rule of cronie).
+//! A field `*` lists every number. If a field of days begins with `*`, `either` is false (the rule of cronie). If the minutes or the hours do,
+//! `follows_clock` is true.
 #![tactic(auto)]
 
 mod field_sets;

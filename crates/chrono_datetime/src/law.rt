@@ -17,13 +17,14 @@ pub use chrono_naive::law::{
     dates_are_counted, dates_are_days_of_years, dates_have_at_most_thirteen_bytes,
     dates_have_one_calendar_name, dates_have_one_iso_name, dates_have_one_number,
     dates_have_one_ordinal_name, dates_have_texts_of_their_own, dates_lie_in_steps,
-    days_have_names, first_date, first_where_is_least, four_digit_years_have_ten_bytes,
-    iso_names_are_in_order, iso_weeks_begin_on_monday, known_date_texts, known_days, known_moves,
-    known_recurrences, known_weeks, last_date, later_multiples_are_later, month_moves_add_up,
-    month_moves_come_back, month_moves_keep_order, month_moves_reach_dates,
-    months_are_days_in_a_row, names_have_days, ordinal_names_are_in_order,
-    sevens_of_days_have_each_weekday, weekdays_follow, weekly_counts_come_again,
-    weeks_have_one_first_day, whole_years_are_birthdays, years_and_months_rise,
+    dates_of_one_name_are_one, days_have_names, first_date, first_where_is_least,
+    four_digit_years_have_ten_bytes, iso_names_are_in_order, iso_weeks_begin_on_monday,
+    known_date_texts, known_days, known_moves, known_recurrences, known_weeks, last_date,
+    later_multiples_are_later, month_moves_add_up, month_moves_come_back, month_moves_keep_order,
+    month_moves_reach_dates, months_are_days_in_a_row, months_have_28_to_31_days, names_have_days,
+    ordinal_names_are_in_order, sevens_of_days_have_each_weekday, weekdays_follow,
+    weekly_counts_come_again, weeks_have_one_first_day, whole_years_are_birthdays,
+    years_and_months_rise,
 };
 use chrono_naive::{Datelike, LAST_DAY};
 pub use chrono_units::law::named_sets;

@@ -2,9 +2,9 @@
 //! texts.
 ghost use Rattle.std.specs.Prelude.{◌≡◌, ◌↔◌, ◌<◌, ◌≤◌, ◌+◌, ◌-◌, ◌*◌, ◌/◌, ◌≤ℤ◌, ◌+ℤ◌, ℕ, ℤ, Some, None, pos, neg_ℤ, length, slice_get, codes};
 ghost use Rattle.chrono_units.specs.declared.weekday.Weekday.{Weekday};
-ghost use Rattle.chrono_calendar.specs.Days.{IsDate, date_of_day, day_of, month_of, year_of};
+ghost use Rattle.chrono_calendar.specs.Days.{IsDate, date_of_day, day_of, month_of, ordinal_of, year_of};
 ghost use Rattle.chrono_calendar.specs.Recurrence.{dates_left};
-ghost use Rattle.chrono_calendar.specs.Weeks.{date_of_nth_weekday, weekday_of};
+ghost use Rattle.chrono_calendar.specs.Weeks.{date_of_nth_weekday, iso_week_of, iso_year_of, weekday_of};
 ghost use Rattle.chrono_naive.specs.DateLists.{IsDayCursor, days_from, days_left, weeks_from};
 ghost use Rattle.chrono_naive.specs.DateText.{date_text};
 
@@ -16,10 +16,22 @@ pub use chrono_calendar::law::{
     first_where_is_least, iso_names_are_in_order, iso_weeks_begin_on_monday, known_days,
     known_moves, known_recurrences, known_weeks, later_multiples_are_later, month_moves_add_up,
     month_moves_come_back, month_moves_keep_order, month_moves_reach_dates,
-    months_are_days_in_a_row, names_have_days, ordinal_names_are_in_order, weekdays_follow,
-    weekly_counts_come_again, weeks_have_one_first_day, whole_years_are_birthdays,
-    years_and_months_rise,
+    months_are_days_in_a_row, months_have_28_to_31_days, names_have_days,
+    ordinal_names_are_in_order, weekdays_follow, weekly_counts_come_again,
+    weeks_have_one_first_day, whole_years_are_birthdays, years_and_months_rise,
 };
+
+/// Two dates of one name are one date. The name may be a calendar date, an ordinal date or a week date.
+///
+/// Call it in a function that compares the names of two dates, in front of the comparison.
+pub fn dates_of_one_name_are_one(first: NaiveDate, second: NaiveDate)
+    ensures calendar { year_of first ≡ year_of second → month_of first ≡ month_of second
+        → day_of first ≡ day_of second → first ≡ second }
+    ensures ordinal { year_of first ≡ year_of second → ordinal_of first ≡ ordinal_of second
+        → first ≡ second }
+    ensures iso { iso_year_of first ≡ iso_year_of second → iso_week_of first ≡ iso_week_of second
+        → weekday_of first ≡ weekday_of second → first ≡ second }
+{}
 
 /// The text of a date in the years 0 to 9999 has ten bytes.
 pub fn four_digit_years_have_ten_bytes()

@@ -33,7 +33,7 @@ use Rattle.chrono_pattern.specs.Patterns.{pattern_text, text_at_offset, text_fro
 use Rattle.chrono_pattern.specs.PatternSteps.{pattern_step}
 use Rattle.chrono_pattern.specs.ReadBack.{if_named, parts_of}
 use Rattle.chrono_pattern.specs.Reads.{text_read}
-use Rattle.chrono_pattern.specs.Separable.{bar_behind, is_separable, is_separable_from, takes_item}
+use Rattle.chrono_pattern.specs.Separable.{bar_behind, shows_ends, is_separable_from, takes_item}
 use Rattle.chrono_pattern.specs.Subseconds.{digit_count, fraction_with, subsecond_of}
 use Rattle.chrono_pattern.specs.TimeParts.{IsClockTime, clock_fits, counts, second_fits, time_fits}
 use Rattle.chrono_pattern.specs.Words.{word_text}
@@ -607,11 +607,11 @@ all_same q m x w y date time offset stamp =
 
 -- ---- the laws
 
-same_parts : (wide : Bool) (bytes : List ℕ) (m : Moment) (x : ℤ) (p : Parsed) → is_separable wide bytes ≡ true → LosesNothing wide bytes m x
+same_parts : (wide : Bool) (bytes : List ℕ) (m : Moment) (x : ℤ) (p : Parsed) → shows_ends wide bytes ≡ true → LosesNothing wide bytes m x
     → text_read bytes (text_at_offset bytes m x) ≡ Ok p → p ≡ kept_parts bytes m x
 same_parts wide bytes m x p separable kept read = same_Ok p (kept_parts bytes m x) (sym read ∙ parts_back wide bytes m x separable kept)
 
-pub date_again : (wide : Bool) (bytes : List ℕ) (m : Moment) (n : ℤ) → is_separable wide bytes ≡ true → LosesNothing wide bytes m (pos 0) → is_present (named_parts bytes).timestamp ≡ false
+pub date_again : (wide : Bool) (bytes : List ℕ) (m : Moment) (n : ℤ) → shows_ends wide bytes ≡ true → LosesNothing wide bytes m (pos 0) → is_present (named_parts bytes).timestamp ≡ false
     → IsDateBy bytes (pattern_text bytes m) n → pattern_text bytes (moment n m.time) ≡ pattern_text bytes m
 date_again wide bytes m n separable kept none is =
     let q = named_parts bytes in
@@ -623,7 +623,7 @@ date_again wide bytes m n separable kept none is =
 own_date : (q : Parsed) (n : ℤ) → DateSame q n n
 own_date q n = record { year = refl; century = refl; place = refl; isoyear = refl; iso_place = refl; quarter = refl; month = refl; isoweek = refl; from_sun = refl; from_mon = refl; weekday = refl; ordinal = refl; day = refl }
 
-pub time_again : (wide : Bool) (bytes : List ℕ) (m : Moment) (u : TimeOfDay) → is_separable wide bytes ≡ true → LosesNothing wide bytes m (pos 0) → is_present (named_parts bytes).timestamp ≡ false
+pub time_again : (wide : Bool) (bytes : List ℕ) (m : Moment) (u : TimeOfDay) → shows_ends wide bytes ≡ true → LosesNothing wide bytes m (pos 0) → is_present (named_parts bytes).timestamp ≡ false
     → IsTimeBy bytes (pattern_text bytes m) u → pattern_text bytes (moment m.date u) ≡ pattern_text bytes m
 time_again wide bytes m u separable kept none is =
     let q = named_parts bytes in
@@ -645,7 +645,7 @@ plain_fits g m x o w y e none fits =
     by_stamp (Some a) None k h f = cc
     by_stamp (Some a) (Some b) k h f = absurd (false≢true (sym h))
 
-fits_again : (wide : Bool) (bytes : List ℕ) (m : Moment) (x : ℤ) (w : Moment) (y : ℤ) → is_separable wide bytes ≡ true → LosesNothing wide bytes m x
+fits_again : (wide : Bool) (bytes : List ℕ) (m : Moment) (x : ℤ) (w : Moment) (y : ℤ) → shows_ends wide bytes ≡ true → LosesNothing wide bytes m x
     → is_present (named_parts bytes).timestamp ≡ false → moment_fits (kept_parts bytes m x) w y ≡ true → if_named (named_parts bytes).offset x ≡ if_named (named_parts bytes).offset y
     → text_at_offset bytes w y ≡ text_at_offset bytes m x
 fits_again wide bytes m x w y separable kept none fits offset =
@@ -656,13 +656,13 @@ fits_again wide bytes m x w y separable kept none fits offset =
     let time = time_same bytes m x w.time like both.1 in
     sym (again wide bytes m x w y Outside Free no_parts separable (all_same q m x w y date time offset (absent_same q.timestamp _ _ none))).0
 
-pub moment_again : (wide : Bool) (bytes : List ℕ) (m w : Moment) → is_separable wide bytes ≡ true → LosesNothing wide bytes m (pos 0) → is_present (named_parts bytes).timestamp ≡ false
+pub moment_again : (wide : Bool) (bytes : List ℕ) (m w : Moment) → shows_ends wide bytes ≡ true → LosesNothing wide bytes m (pos 0) → is_present (named_parts bytes).timestamp ≡ false
     → IsMomentBy bytes (pattern_text bytes m) w → pattern_text bytes w ≡ pattern_text bytes m
 moment_again wide bytes m w separable kept none is =
     let fits = ap (λ (p : Parsed). moment_fits p w (pos 0)) (sym (same_parts wide bytes m (pos 0) is.parts separable kept is.read)) ∙ is.fits in
     fits_again wide bytes m (pos 0) w (pos 0) separable kept none fits refl
 
-pub zoned_again : (wide : Bool) (bytes : List ℕ) (m : Moment) (x : ℤ) (w : Moment) (y : ℤ) → is_separable wide bytes ≡ true → LosesNothing wide bytes m x → is_present (named_parts bytes).timestamp ≡ false
+pub zoned_again : (wide : Bool) (bytes : List ℕ) (m : Moment) (x : ℤ) (w : Moment) (y : ℤ) → shows_ends wide bytes ≡ true → LosesNothing wide bytes m x → is_present (named_parts bytes).timestamp ≡ false
     → IsZonedBy bytes (text_at_offset bytes m x) w y → text_at_offset bytes w y ≡ text_at_offset bytes m x
 unfolding zoned_fits
 zoned_again wide bytes m x w y separable kept none is =
@@ -741,7 +741,7 @@ stamp_same g m x w y time clock first second shown is = by_leap (is_leap w.time)
     by_leap false leap h = (Decides-int_eq (epoch_second m -ℤ x) (epoch_second w -ℤ y)).0 h
     by_leap true leap h = by_test leap (int_eq (epoch_second m -ℤ x) (epoch_second w -ℤ y)) (int_eq (epoch_second m -ℤ x) (epoch_second w -ℤ y +ℤ pos 1)) refl refl h
 
-stamped_again : (wide : Bool) (bytes : List ℕ) (m : Moment) (x : ℤ) (w : Moment) (y : ℤ) → is_separable wide bytes ≡ true → LosesNothing wide bytes m x
+stamped_again : (wide : Bool) (bytes : List ℕ) (m : Moment) (x : ℤ) (w : Moment) (y : ℤ) → shows_ends wide bytes ≡ true → LosesNothing wide bytes m x
     → is_present (named_parts bytes).timestamp ≡ true → IsClockTime w.time → Minutes x → Minutes y
     → moment_fits (kept_parts bytes m x) w y ≡ true → if_named (named_parts bytes).offset x ≡ if_named (named_parts bytes).offset y
     → text_at_offset bytes w y ≡ text_at_offset bytes m x
@@ -765,7 +765,7 @@ stamped_again wide bytes m x w y separable kept some clock first second fits off
     by_stamp None (Some b) k h f = cc
     by_stamp (Some a) other k h f = and_parts _ _ f
 
-any_again : (wide : Bool) (bytes : List ℕ) (m : Moment) (x : ℤ) (w : Moment) (y : ℤ) → is_separable wide bytes ≡ true → LosesNothing wide bytes m x → IsClockTime w.time
+any_again : (wide : Bool) (bytes : List ℕ) (m : Moment) (x : ℤ) (w : Moment) (y : ℤ) → shows_ends wide bytes ≡ true → LosesNothing wide bytes m x → IsClockTime w.time
     → Minutes x → Minutes y → moment_fits (kept_parts bytes m x) w y ≡ true → if_named (named_parts bytes).offset x ≡ if_named (named_parts bytes).offset y
     → text_at_offset bytes w y ≡ text_at_offset bytes m x
 any_again wide bytes m x w y separable kept clock first second fits offset = by_stamp (is_present (named_parts bytes).timestamp) refl
@@ -774,7 +774,7 @@ any_again wide bytes m x w y separable kept clock first second fits offset = by_
     by_stamp true e = stamped_again wide bytes m x w y separable kept e clock first second fits offset
     by_stamp false e = fits_again wide bytes m x w y separable kept e fits offset
 
-pub any_moment_again : (wide : Bool) (bytes : List ℕ) (m w : Moment) → is_separable wide bytes ≡ true → LosesNothing wide bytes m (pos 0) → IsClockTime w.time
+pub any_moment_again : (wide : Bool) (bytes : List ℕ) (m w : Moment) → shows_ends wide bytes ≡ true → LosesNothing wide bytes m (pos 0) → IsClockTime w.time
     → IsMomentBy bytes (pattern_text bytes m) w → pattern_text bytes w ≡ pattern_text bytes m
 any_moment_again wide bytes m w separable kept clock is =
     let fits = ap (λ (p : Parsed). moment_fits p w (pos 0)) (sym (same_parts wide bytes m (pos 0) is.parts separable kept is.read)) ∙ is.fits in
@@ -785,7 +785,7 @@ counted_minutes : (o : Option ℤ) (x y : ℤ) → Minutes x → counts (if_name
 counted_minutes None x y whole h = ap (λ (z : ℤ). unsigned_abs z % 60) (sym ((Decides-int_eq (pos 0) y).0 h))
 counted_minutes (Some a) x y whole h = ap (λ (z : ℤ). unsigned_abs z % 60) (sym ((Decides-int_eq x y).0 h)) ∙ whole
 
-pub any_zoned_again : (wide : Bool) (bytes : List ℕ) (m : Moment) (x : ℤ) (w : Moment) (y : ℤ) → is_separable wide bytes ≡ true → LosesNothing wide bytes m x → Minutes x
+pub any_zoned_again : (wide : Bool) (bytes : List ℕ) (m : Moment) (x : ℤ) (w : Moment) (y : ℤ) → shows_ends wide bytes ≡ true → LosesNothing wide bytes m x → Minutes x
     → IsClockTime w.time → IsZonedBy bytes (text_at_offset bytes m x) w y → text_at_offset bytes w y ≡ text_at_offset bytes m x
 unfolding zoned_fits
 any_zoned_again wide bytes m x w y separable kept whole clock is =

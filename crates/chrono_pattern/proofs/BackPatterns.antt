@@ -16,7 +16,7 @@ use Rattle.chrono_pattern.specs.PatternSteps.{pattern_step}
 use Rattle.chrono_pattern.specs.Progress.{Progress, class_len, is_pattern_blank}
 use Rattle.chrono_pattern.specs.ReadBack.{parts_of}
 use Rattle.chrono_pattern.specs.Reads.{end_read, read_from, text_read}
-use Rattle.chrono_pattern.specs.Separable.{bar_behind, bar_of_subsecond, is_separable, is_separable_from, takes_item, takes_subsecond, takes_digit}
+use Rattle.chrono_pattern.specs.Separable.{bar_behind, bar_of_subsecond, shows_ends, is_separable_from, takes_item, takes_subsecond, takes_digit}
 use Rattle.chrono_pattern.specs.SubsecondReads.{subsecond_read}
 use Rattle.chrono_pattern.specs.Subseconds.{subsecond_of}
 use Rattle.chrono_pattern.specs.declared.item.Bar.{Bar}
@@ -179,7 +179,7 @@ back wide [] m x time near s bar b q h keeps =
 back wide (c ∷ bytes) m x time near s bar b q h keeps =
     step_back wide c bytes m x time near (back wide bytes m x time near) s bar b q (pattern_step s c) refl h keeps
 
-pub parts_back : (wide : Bool) (bytes : List ℕ) (m : Moment) (x : ℤ) → is_separable wide bytes ≡ true → LosesNothing wide bytes m x
+pub parts_back : (wide : Bool) (bytes : List ℕ) (m : Moment) (x : ℤ) → shows_ends wide bytes ≡ true → LosesNothing wide bytes m x
     → text_read bytes (text_at_offset bytes m x) ≡ Ok (parts_of (given_parts bytes m.time) m x)
 parts_back wide bytes m x separable kept =
     ap (λ (o : Result Progress Stop). end_read o) (back wide bytes m x kept.time kept.offset Outside Free false no_parts separable kept.items)

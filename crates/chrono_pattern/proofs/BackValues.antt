@@ -20,7 +20,7 @@ use Rattle.chrono_pattern.specs.Parts.{no_parts}
 use Rattle.chrono_pattern.specs.Patterns.{pattern_text, text_at_offset}
 use Rattle.chrono_pattern.specs.PatternSteps.{pattern_step}
 use Rattle.chrono_pattern.specs.ReadBack.{if_named, parts_of}
-use Rattle.chrono_pattern.specs.Separable.{bar_behind, is_separable, is_separable_from, takes_item, takes_number}
+use Rattle.chrono_pattern.specs.Separable.{bar_behind, shows_ends, is_separable_from, takes_item, takes_number}
 use Rattle.chrono_pattern.specs.TimeParts.{clock_fits, counts, names_second, names_time, second_fits, time_fits}
 use Rattle.chrono_pattern.specs.ZonedParts.{fits_by, is_next_to, is_stamp_of, moment_fits, names_moment, names_zoned, shows_second, stamped_time_fits, zoned_fits}
 use Rattle.chrono_pattern.specs.declared.item.Bar.{Bar}
@@ -86,20 +86,20 @@ own_date_fits q m x window =
 abbrev pub kept_parts : List ℕ → Moment → ℤ → Parsed
 kept_parts bytes m x = parts_of (given_parts bytes m.time) m x
 
-pub kept_like : (wide : Bool) (bytes : List ℕ) (m : Moment) (x : ℤ) → is_separable wide bytes ≡ true → LosesNothing wide bytes m x → Like (kept_parts bytes m x) (named_parts bytes)
+pub kept_like : (wide : Bool) (bytes : List ℕ) (m : Moment) (x : ℤ) → shows_ends wide bytes ≡ true → LosesNothing wide bytes m x → Like (kept_parts bytes m x) (named_parts bytes)
 kept_like wide bytes m x separable kept = read_like bytes (text_at_offset bytes m x) (kept_parts bytes m x) (parts_back wide bytes m x separable kept)
 
-kept_date_named : (wide : Bool) (bytes : List ℕ) (m : Moment) (x : ℤ) → is_separable wide bytes ≡ true → LosesNothing wide bytes m x
+kept_date_named : (wide : Bool) (bytes : List ℕ) (m : Moment) (x : ℤ) → shows_ends wide bytes ≡ true → LosesNothing wide bytes m x
     → names_date (kept_parts bytes m x) ≡ names_date (named_parts bytes)
 kept_date_named wide bytes m x separable kept =
     date_is_named bytes (text_at_offset bytes m x) (kept_parts bytes m x) (parts_back wide bytes m x separable kept)
 
-kept_date_fits : (wide : Bool) (bytes : List ℕ) (m : Moment) (x : ℤ) → is_separable wide bytes ≡ true → LosesNothing wide bytes m x → tells_date (named_parts bytes) m.date ≡ true
+kept_date_fits : (wide : Bool) (bytes : List ℕ) (m : Moment) (x : ℤ) → shows_ends wide bytes ≡ true → LosesNothing wide bytes m x → tells_date (named_parts bytes) m.date ≡ true
     → date_fits (kept_parts bytes m x) m.date ≡ true
 kept_date_fits wide bytes m x separable kept tells =
     own_date_fits (given_parts bytes m.time) m x (window_of_like (kept_parts bytes m x) (named_parts bytes) (year_of m.date) (kept_like wide bytes m x separable kept) ∙ tells)
 
-pub date_back : (wide : Bool) (bytes : List ℕ) (m : Moment) → is_separable wide bytes ≡ true → LosesNothing wide bytes m (pos 0) → names_date (named_parts bytes) ≡ true
+pub date_back : (wide : Bool) (bytes : List ℕ) (m : Moment) → shows_ends wide bytes ≡ true → LosesNothing wide bytes m (pos 0) → names_date (named_parts bytes) ≡ true
     → tells_date (named_parts bytes) m.date ≡ true → IsDateBy bytes (pattern_text bytes m) m.date
 date_back wide bytes m separable kept named tells = record {
   parts = kept_parts bytes m (pos 0);
@@ -181,7 +181,7 @@ told_of_marks (Some a) (Some b) v w e = refl
 abbrev shown : TimeOfDay → ℤ
 shown t = pos (second_of t + t.fraction / nanos_per_second)
 
-second_counts : (wide : Bool) (bytes : List ℕ) (m : Moment) (x : ℤ) → is_separable wide bytes ≡ true → LosesNothing wide bytes m x
+second_counts : (wide : Bool) (bytes : List ℕ) (m : Moment) (x : ℤ) → shows_ends wide bytes ≡ true → LosesNothing wide bytes m x
     → is_told (named_parts bytes).second (shown m.time) ≡ true → counts (kept_parts bytes m x).second (shown m.time) ≡ true
 second_counts wide bytes m x separable kept told =
     counts_told (given_parts bytes m.time).second (shown m.time)
@@ -192,7 +192,7 @@ own_clock_fits : (q : Parsed) (m : Moment) (x : ℤ) → clock_fits (parts_of q 
 unfolding clock_fits
 own_clock_fits q m x = and_from _ _ (and_from _ _ (says_own q.hour_div_12 _) (says_own q.hour_mod_12 _)) (says_own q.minute _)
 
-kept_time_fits : (wide : Bool) (bytes : List ℕ) (m : Moment) (x : ℤ) → is_separable wide bytes ≡ true → LosesNothing wide bytes m x → tells_time (named_parts bytes) m.time ≡ true
+kept_time_fits : (wide : Bool) (bytes : List ℕ) (m : Moment) (x : ℤ) → shows_ends wide bytes ≡ true → LosesNothing wide bytes m x → tells_time (named_parts bytes) m.time ≡ true
     → time_fits (kept_parts bytes m x) m.time ≡ true
 unfolding time_fits second_fits
 kept_time_fits wide bytes m x separable kept tells =
@@ -205,12 +205,12 @@ unfolding names_time
 second_named p named =
     (and_parts (is_present p.minute) (names_second p) (and_parts (is_present p.hour_div_12 && is_present p.hour_mod_12) (is_present p.minute && names_second p) named).1).1
 
-kept_time_named : (wide : Bool) (bytes : List ℕ) (m : Moment) (x : ℤ) → is_separable wide bytes ≡ true → LosesNothing wide bytes m x → names_time (named_parts bytes) ≡ true
+kept_time_named : (wide : Bool) (bytes : List ℕ) (m : Moment) (x : ℤ) → shows_ends wide bytes ≡ true → LosesNothing wide bytes m x → names_time (named_parts bytes) ≡ true
     → names_time (kept_parts bytes m x) ≡ true
 kept_time_named wide bytes m x separable kept named =
     time_of_like (kept_parts bytes m x) (named_parts bytes) (kept_like wide bytes m x separable kept) (second_named (named_parts bytes) named) ∙ named
 
-pub time_back : (wide : Bool) (bytes : List ℕ) (m : Moment) → is_separable wide bytes ≡ true → LosesNothing wide bytes m (pos 0) → names_time (named_parts bytes) ≡ true
+pub time_back : (wide : Bool) (bytes : List ℕ) (m : Moment) → shows_ends wide bytes ≡ true → LosesNothing wide bytes m (pos 0) → names_time (named_parts bytes) ≡ true
     → tells_time (named_parts bytes) m.time ≡ true → IsTimeBy bytes (pattern_text bytes m) m.time
 time_back wide bytes m separable kept named tells = record {
   parts = kept_parts bytes m (pos 0);
@@ -231,7 +231,7 @@ moment_named p q stamps dates times named = by_stamp (is_present p.timestamp) (i
     by_stamp false true e h = absurd (false≢true e)
     by_stamp false false e h = let both = and_parts (names_date q) (names_time q) h in and_from (names_date p) (names_time p) (dates ∙ both.0) (times both.1)
 
-kept_moment_named : (wide : Bool) (bytes : List ℕ) (m : Moment) (x : ℤ) → is_separable wide bytes ≡ true → LosesNothing wide bytes m x → names_moment (named_parts bytes) ≡ true
+kept_moment_named : (wide : Bool) (bytes : List ℕ) (m : Moment) (x : ℤ) → shows_ends wide bytes ≡ true → LosesNothing wide bytes m x → names_moment (named_parts bytes) ≡ true
     → names_moment (kept_parts bytes m x) ≡ true
 kept_moment_named wide bytes m x separable kept named =
     moment_named (kept_parts bytes m x) (named_parts bytes) (stamp_of_like (kept_parts bytes m x) (named_parts bytes) (kept_like wide bytes m x separable kept))
@@ -258,7 +258,7 @@ own_second None None t e tells = by_leap (is_leap t) tells
     by_leap b h = h
 own_second None (Some b) t e tells = cc
 
-kept_stamped_fits : (wide : Bool) (bytes : List ℕ) (m : Moment) (x : ℤ) → is_separable wide bytes ≡ true → LosesNothing wide bytes m x → tells_fraction (named_parts bytes) m.time ≡ true
+kept_stamped_fits : (wide : Bool) (bytes : List ℕ) (m : Moment) (x : ℤ) → shows_ends wide bytes ≡ true → LosesNothing wide bytes m x → tells_fraction (named_parts bytes) m.time ≡ true
     → stamped_time_fits (kept_parts bytes m x) m.time ≡ true
 unfolding stamped_time_fits
 kept_stamped_fits wide bytes m x separable kept tells =
@@ -268,7 +268,7 @@ kept_stamped_fits wide bytes m x separable kept tells =
     (and_from _ _ (own_second (given_parts bytes m.time).second q.second m.time (ap (λ (p : Parsed). p.second) (kept_like wide bytes m x separable kept).same) told.0)
     (fraction_counts bytes m.time told.1))
 
-kept_by : (wide : Bool) (bytes : List ℕ) (m : Moment) (x : ℤ) → is_separable wide bytes ≡ true → LosesNothing wide bytes m x
+kept_by : (wide : Bool) (bytes : List ℕ) (m : Moment) (x : ℤ) → shows_ends wide bytes ≡ true → LosesNothing wide bytes m x
     → (if is_present (named_parts bytes).timestamp then tells_fraction (named_parts bytes) m.time else tells_time (named_parts bytes) m.time) ≡ true
     → fits_by (kept_parts bytes m x).timestamp (kept_parts bytes m x) m x ≡ true
 kept_by wide bytes m x separable kept tells =
@@ -283,7 +283,7 @@ kept_by wide bytes m x separable kept tells =
     by_stamp (Some w) true e h = and_from _ _ (kept_stamped_fits wide bytes m x separable kept h) (own_stamp m x)
     by_stamp (Some w) false e h = absurd (false≢true (sym e))
 
-kept_moment_fits : (wide : Bool) (bytes : List ℕ) (m : Moment) (x : ℤ) → is_separable wide bytes ≡ true → LosesNothing wide bytes m x → tells_moment (named_parts bytes) m ≡ true
+kept_moment_fits : (wide : Bool) (bytes : List ℕ) (m : Moment) (x : ℤ) → shows_ends wide bytes ≡ true → LosesNothing wide bytes m x → tells_moment (named_parts bytes) m ≡ true
     → moment_fits (kept_parts bytes m x) m x ≡ true
 unfolding moment_fits
 kept_moment_fits wide bytes m x separable kept tells =
@@ -291,7 +291,7 @@ kept_moment_fits wide bytes m x separable kept tells =
     let told = and_parts (tells_date q m.date) (if is_present q.timestamp then tells_fraction q m.time else tells_time q m.time) tells in
     and_from _ _ (kept_date_fits wide bytes m x separable kept told.0) (kept_by wide bytes m x separable kept told.1)
 
-pub moment_back : (wide : Bool) (bytes : List ℕ) (m : Moment) → is_separable wide bytes ≡ true → LosesNothing wide bytes m (pos 0) → names_moment (named_parts bytes) ≡ true
+pub moment_back : (wide : Bool) (bytes : List ℕ) (m : Moment) → shows_ends wide bytes ≡ true → LosesNothing wide bytes m (pos 0) → names_moment (named_parts bytes) ≡ true
     → tells_moment (named_parts bytes) m ≡ true → IsMomentBy bytes (pattern_text bytes m) m
 moment_back wide bytes m separable kept named tells = record {
   parts = kept_parts bytes m (pos 0);
@@ -312,7 +312,7 @@ zoned_named p q stamps offsets moments named = by_stamp (is_present p.timestamp)
     by_stamp false true e h = absurd (false≢true e)
     by_stamp false false e h = let both = and_parts (names_moment q) (is_present q.offset) h in and_from (names_moment p) (is_present p.offset) (moments both.0) (offsets ∙ both.1)
 
-pub zoned_back : (wide : Bool) (bytes : List ℕ) (m : Moment) (x : ℤ) → is_separable wide bytes ≡ true → LosesNothing wide bytes m x → names_zoned (named_parts bytes) ≡ true
+pub zoned_back : (wide : Bool) (bytes : List ℕ) (m : Moment) (x : ℤ) → shows_ends wide bytes ≡ true → LosesNothing wide bytes m x → names_zoned (named_parts bytes) ≡ true
     → tells_zoned (named_parts bytes) m x ≡ true → IsZonedBy bytes (text_at_offset bytes m x) m x
 unfolding zoned_fits
 zoned_back wide bytes m x separable kept named tells =
@@ -425,7 +425,7 @@ unfolding keeps_from
 all_kept wide [] m x whole s bar h = refl
 all_kept wide (c ∷ bytes) m x whole s bar h = step_kept wide c bytes m x whole (all_kept wide bytes m x whole) s bar (pattern_step s c) refl h
 
-pub whole_kept : (wide : Bool) (bytes : List ℕ) (m : Moment) (x : ℤ) → is_separable wide bytes ≡ true → IsTime m.time → IsOffset x
+pub whole_kept : (wide : Bool) (bytes : List ℕ) (m : Moment) (x : ℤ) → shows_ends wide bytes ≡ true → IsTime m.time → IsOffset x
     → keeps_year wide (year_of m.date) ≡ true → keeps_year wide (iso_year_of m.date) ≡ true → m.time.fraction % nanos_per_second ≡ 0
     → unsigned_abs x % 3_600 ≡ 0 → keeps_stamp (epoch_second m -ℤ x) ≡ true → LosesNothing wide bytes m x
 whole_kept wide bytes m x separable time near year iso_year fraction hours stamp = record {

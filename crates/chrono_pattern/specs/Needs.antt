@@ -1,5 +1,5 @@
 -- Which patterns write a part of a date, of the time of day or of the offset from UTC, and which give a fraction in each text.
-use Rattle.std.specs.Prelude.{ℕ, Bool, true, false, not, ◌||◌, List, [], ◌∷◌, Some, None}
+use Rattle.std.specs.Prelude.{ℕ, ◌==◌, Bool, true, false, not, ◌&&◌, ◌||◌, List, [], ◌∷◌, Some, None}
 use Rattle.chrono_pattern.specs.PatternSteps.{pattern_step}
 use Rattle.chrono_pattern.specs.declared.item.NumberField.{NumberField}
 use Rattle.chrono_pattern.specs.declared.item.NumberField.TheVariants.{Hour, SpacedHour, HalfHour, SpacedHalfHour, Minute, Second, Nanosecond}
@@ -14,7 +14,7 @@ use Rattle.chrono_pattern.specs.declared.item.Item.TheVariants.{Empty, Byte, Num
 use Rattle.chrono_pattern.specs.declared.item.State.{State}
 use Rattle.chrono_pattern.specs.declared.item.State.TheVariants.{Outside}
 use Rattle.chrono_pattern.specs.declared.needs.Sort.{Sort}
-use Rattle.chrono_pattern.specs.declared.needs.Sort.TheVariants.{OfDate, OfTime, OfOffset, OfFraction}
+use Rattle.chrono_pattern.specs.declared.needs.Sort.TheVariants.{OfDate, OfTime, OfOffset, OfFraction, OfPoint}
 
 -- the number is of the time of day
 abbrev pub number_needs_time : NumberField → Bool
@@ -106,12 +106,18 @@ gives_fraction (Number field p) = is_fraction field
 gives_fraction (Subsecond point count) = not point
 gives_fraction _ = false
 
+-- each text that the item writes has a fraction behind a point
+abbrev pub writes_point : Item → Bool
+writes_point (Subsecond point count) = point && not (count == 0)
+writes_point _ = false
+
 -- the item is of the sort
 abbrev pub is_item_of : Sort → Item → Bool
 is_item_of OfDate item = item_needs_date item
 is_item_of OfTime item = item_needs_time item
 is_item_of OfOffset item = item_needs_offset item
 is_item_of OfFraction item = gives_fraction item
+is_item_of OfPoint item = writes_point item
 
 -- some item of the bytes is
 unfoldable pub has_item_of : Sort → State → List ℕ → Bool

@@ -2,6 +2,9 @@
 use Rattle.std.specs.Prelude.{ℕ, ◌==◌, Bool, true, false, ◌&&◌, ◌||◌, if◌then◌else◌, List, [], ◌∷◌, Some, None}
 use Rattle.std.specs.Char.{is_ascii_digit}
 use Rattle.std.specs.Str.{byte}
+use Rattle.chrono_pattern.specs.DateParts.{is_present}
+use Rattle.chrono_pattern.specs.NamedParts.{named_parts}
+use Rattle.chrono_pattern.specs.Needs.{has_item_of}
 use Rattle.chrono_pattern.specs.NumberReads.{has_sign, most_digits}
 use Rattle.chrono_pattern.specs.Numbers.{padding_of}
 use Rattle.chrono_pattern.specs.PatternSteps.{pattern_step}
@@ -21,6 +24,8 @@ use Rattle.chrono_pattern.specs.declared.item.ZonedField.{ZonedField}
 use Rattle.chrono_pattern.specs.declared.item.ZonedField.TheVariants.{Offset, ZoneName, Stamp, Iso8601}
 use Rattle.chrono_pattern.specs.declared.item.Item.{Item}
 use Rattle.chrono_pattern.specs.declared.item.Item.TheVariants.{Empty, Byte, Number, Word, Group, Subsecond, Zoned}
+use Rattle.chrono_pattern.specs.declared.needs.Sort.TheVariants.{OfPoint}
+use Rattle.chrono_pattern.specs.declared.parsed.Parsed.{Parsed}
 use Rattle.chrono_pattern.specs.declared.item.State.{State}
 use Rattle.chrono_pattern.specs.declared.item.State.TheVariants.{Outside}
 
@@ -161,5 +166,17 @@ is_separable_from wide s bar [] = true
 is_separable_from wide s bar (c ∷ bytes) = elim (pattern_step s c) [ None ↦ false | Some next ↦ takes_item wide bar next.1 && is_separable_from wide next.0 (bar_behind wide bar next.1) bytes ]
 
 -- each text of the pattern shows where every item ends: for years from 0 to 9999, or for all years
+abbrev pub shows_ends : Bool → List ℕ → Bool
+shows_ends wide bytes = is_separable_from wide Outside Free bytes
+
+-- the parts have a second: that of a minute, or those from 1970
+abbrev pub has_second : Parsed → Bool
+has_second p = is_present p.second || is_present p.timestamp
+
+-- a fraction that stands behind a point in each text has its second, without which no text would name a time
+abbrev pub fractions_have_seconds : List ℕ → Bool
+fractions_have_seconds bytes = if has_item_of OfPoint Outside bytes then has_second (named_parts bytes) else true
+
+-- the pattern shows where every item ends, and its fractions have their second
 abbrev pub is_separable : Bool → List ℕ → Bool
-is_separable wide bytes = is_separable_from wide Outside Free bytes
+is_separable wide bytes = shows_ends wide bytes && fractions_have_seconds bytes

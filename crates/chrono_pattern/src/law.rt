@@ -25,7 +25,7 @@ ghost use Rattle.chrono_pattern.specs.Parts.{no_parts};
 ghost use Rattle.chrono_pattern.specs.PatternItems.{pattern_items};
 ghost use Rattle.chrono_pattern.specs.Kept.{LosesNothing, given_parts, keeps_stamp, keeps_year, tells_date, tells_moment, tells_time, tells_zoned};
 ghost use Rattle.chrono_pattern.specs.ReadBack.{parts_of};
-ghost use Rattle.chrono_pattern.specs.Separable.{is_separable};
+ghost use Rattle.chrono_pattern.specs.Separable.{is_separable, shows_ends};
 ghost use Rattle.chrono_pattern.specs.Reads.{front_read, text_read};
 ghost use Rattle.chrono_pattern.specs.TextPieces.{Reads, ReadsFront};
 ghost use Rattle.chrono_pattern.specs.YearWeeks.{week_from_monday, week_from_sunday};
@@ -428,18 +428,18 @@ pub fn fields_tell_the_names()
 /// - It is of the time of day, if the pattern names one, and what it does not name of the second is 0.
 /// - It is of the date-time, and of the one with its offset, if the pattern names and tells them so.
 pub fn separable_patterns_read_back()
-    ensures whole { (wide : Bool) → (bytes : List ℕ) → (m : Moment) → (x : ℤ) → is_separable wide bytes ≡ true → IsTime m.time → IsOffset x
+    ensures whole { (wide : Bool) → (bytes : List ℕ) → (m : Moment) → (x : ℤ) → shows_ends wide bytes ≡ true → IsTime m.time → IsOffset x
         → keeps_year wide (year_of m.date) ≡ true → keeps_year wide (iso_year_of m.date) ≡ true → m.time.fraction % nanos_per_second ≡ 0
         → unsigned_abs x % 3_600 ≡ 0 → keeps_stamp (epoch_second m -ℤ x) ≡ true → LosesNothing wide bytes m x }
-    ensures parts { (wide : Bool) → (bytes : List ℕ) → (m : Moment) → (x : ℤ) → is_separable wide bytes ≡ true → LosesNothing wide bytes m x
+    ensures parts { (wide : Bool) → (bytes : List ℕ) → (m : Moment) → (x : ℤ) → shows_ends wide bytes ≡ true → LosesNothing wide bytes m x
         → text_read bytes (text_at_offset bytes m x) ≡ Ok (parts_of (given_parts bytes m.time) m x) }
-    ensures date { (wide : Bool) → (bytes : List ℕ) → (m : Moment) → is_separable wide bytes ≡ true → LosesNothing wide bytes m (pos 0)
+    ensures date { (wide : Bool) → (bytes : List ℕ) → (m : Moment) → shows_ends wide bytes ≡ true → LosesNothing wide bytes m (pos 0)
         → names_date (named_parts bytes) ≡ true → tells_date (named_parts bytes) m.date ≡ true → IsDateBy bytes (pattern_text bytes m) m.date }
-    ensures time { (wide : Bool) → (bytes : List ℕ) → (m : Moment) → is_separable wide bytes ≡ true → LosesNothing wide bytes m (pos 0)
+    ensures time { (wide : Bool) → (bytes : List ℕ) → (m : Moment) → shows_ends wide bytes ≡ true → LosesNothing wide bytes m (pos 0)
         → names_time (named_parts bytes) ≡ true → tells_time (named_parts bytes) m.time ≡ true → IsTimeBy bytes (pattern_text bytes m) m.time }
-    ensures date_time { (wide : Bool) → (bytes : List ℕ) → (m : Moment) → is_separable wide bytes ≡ true → LosesNothing wide bytes m (pos 0)
+    ensures date_time { (wide : Bool) → (bytes : List ℕ) → (m : Moment) → shows_ends wide bytes ≡ true → LosesNothing wide bytes m (pos 0)
         → names_moment (named_parts bytes) ≡ true → tells_moment (named_parts bytes) m ≡ true → IsMomentBy bytes (pattern_text bytes m) m }
-    ensures zoned { (wide : Bool) → (bytes : List ℕ) → (m : Moment) → (x : ℤ) → is_separable wide bytes ≡ true → LosesNothing wide bytes m x
+    ensures zoned { (wide : Bool) → (bytes : List ℕ) → (m : Moment) → (x : ℤ) → shows_ends wide bytes ≡ true → LosesNothing wide bytes m x
         → names_zoned (named_parts bytes) ≡ true → tells_zoned (named_parts bytes) m x ≡ true → IsZonedBy bytes (text_at_offset bytes m x) m x }
 {}
 
@@ -454,24 +454,24 @@ pub fn separable_patterns_read_back()
 /// - `clock` and `zoned_clock` are of all patterns, and of what a clock shows: its leap seconds are behind second 59. The offset has whole minutes.
 pub fn lossy_patterns_write_the_same_again()
     ensures cut { (bytes : List ℕ) → (m : Moment) → (x : ℤ) → text_at_offset bytes m x ≡ text_at_offset bytes (as_written bytes m) x }
-    ensures date { (wide : Bool) → (bytes : List ℕ) → (m : Moment) → (n : ℤ) → is_separable wide bytes ≡ true
+    ensures date { (wide : Bool) → (bytes : List ℕ) → (m : Moment) → (n : ℤ) → shows_ends wide bytes ≡ true
         → LosesNothing wide bytes (as_written bytes m) (pos 0)
         → is_present (named_parts bytes).timestamp ≡ false → IsDateBy bytes (pattern_text bytes m) n
         → pattern_text bytes (moment n m.time) ≡ pattern_text bytes m }
-    ensures time { (wide : Bool) → (bytes : List ℕ) → (m : Moment) → (t : TimeOfDay) → is_separable wide bytes ≡ true
+    ensures time { (wide : Bool) → (bytes : List ℕ) → (m : Moment) → (t : TimeOfDay) → shows_ends wide bytes ≡ true
         → LosesNothing wide bytes (as_written bytes m) (pos 0)
         → is_present (named_parts bytes).timestamp ≡ false → IsTimeBy bytes (pattern_text bytes m) t
         → pattern_text bytes (moment m.date t) ≡ pattern_text bytes m }
-    ensures date_time { (wide : Bool) → (bytes : List ℕ) → (m w : Moment) → is_separable wide bytes ≡ true
+    ensures date_time { (wide : Bool) → (bytes : List ℕ) → (m w : Moment) → shows_ends wide bytes ≡ true
         → LosesNothing wide bytes (as_written bytes m) (pos 0) → is_present (named_parts bytes).timestamp ≡ false
         → IsMomentBy bytes (pattern_text bytes m) w → pattern_text bytes w ≡ pattern_text bytes m }
-    ensures zoned { (wide : Bool) → (bytes : List ℕ) → (m : Moment) → (x : ℤ) → (w : Moment) → (y : ℤ) → is_separable wide bytes ≡ true
+    ensures zoned { (wide : Bool) → (bytes : List ℕ) → (m : Moment) → (x : ℤ) → (w : Moment) → (y : ℤ) → shows_ends wide bytes ≡ true
         → LosesNothing wide bytes (as_written bytes m) x → is_present (named_parts bytes).timestamp ≡ false
         → IsZonedBy bytes (text_at_offset bytes m x) w y → text_at_offset bytes w y ≡ text_at_offset bytes m x }
-    ensures clock { (wide : Bool) → (bytes : List ℕ) → (m w : Moment) → is_separable wide bytes ≡ true
+    ensures clock { (wide : Bool) → (bytes : List ℕ) → (m w : Moment) → shows_ends wide bytes ≡ true
         → LosesNothing wide bytes (as_written bytes m) (pos 0) → IsClockTime w.time
         → IsMomentBy bytes (pattern_text bytes m) w → pattern_text bytes w ≡ pattern_text bytes m }
-    ensures zoned_clock { (wide : Bool) → (bytes : List ℕ) → (m : Moment) → (x : ℤ) → (w : Moment) → (y : ℤ) → is_separable wide bytes ≡ true
+    ensures zoned_clock { (wide : Bool) → (bytes : List ℕ) → (m : Moment) → (x : ℤ) → (w : Moment) → (y : ℤ) → shows_ends wide bytes ≡ true
         → LosesNothing wide bytes (as_written bytes m) x → unsigned_abs x % 60 ≡ 0 → IsClockTime w.time
         → IsZonedBy bytes (text_at_offset bytes m x) w y → text_at_offset bytes w y ≡ text_at_offset bytes m x }
 {}
@@ -480,7 +480,8 @@ pub fn lossy_patterns_write_the_same_again()
 ///
 /// - for all years: a year with a byte behind it, `%c`, and RFC 3339;
 /// - for the years 0 to 9999: a year with digits behind it, and a century;
-/// - for no years: numbers without padding side by side, digits or a point behind a fraction, minutes behind hours, and the name of a zone.
+/// - for no years: numbers without padding side by side, digits or a point behind a fraction, minutes behind hours, and the name of a zone;
+/// - with a fraction behind a point if a second or `%s` stands beside it, or if the fraction may be left out.
 pub fn known_separable_patterns()
     ensures dashes { is_separable true (codes "%Y-%m-%d") ≡ true }
     ensures whole { is_separable true (codes "%+") ≡ true }
@@ -498,6 +499,11 @@ pub fn known_separable_patterns()
     ensures second_point { is_separable false (codes "%S%.f %.3f") ≡ false }
     ensures minutes { is_separable false (codes "%:::z : %M") ≡ false }
     ensures zone { is_separable false (codes "%R %Z") ≡ false }
+    ensures fraction_with_no_second { is_separable false (codes "%R%.3f") ≡ false }
+    ensures its_ends { shows_ends true (codes "%R%.3f") ≡ true }
+    ensures fraction_of_second { is_separable true (codes "%T%.3f") ≡ true }
+    ensures fraction_of_stamp { is_separable true (codes "%s%.6f") ≡ true }
+    ensures fraction_left_out { is_separable true (codes "%R%.f") ≡ true }
 {}
 
 /// States that patterns with the same items write the same texts, and read each text alike.

@@ -1,6 +1,6 @@
 //! Which patterns write a part of a date, of the time of day or of the offset from UTC, and which give a fraction in each text.
 ghost use Rattle.std.specs.Prelude.{◌≡◌};
-ghost use Rattle.chrono_pattern.specs.Needs.{gives_fraction, has_item_of, is_item_of, item_needs_date, item_needs_offset, item_needs_time, number_needs_time, word_needs_time, zoned_needs_offset, zoned_needs_time};
+ghost use Rattle.chrono_pattern.specs.Needs.{gives_fraction, has_item_of, is_item_of, item_needs_date, item_needs_offset, item_needs_time, number_needs_time, word_needs_time, writes_point, zoned_needs_offset, zoned_needs_time};
 ghost use Rattle.chrono_pattern.specs.declared.item.State.TheVariants.{Outside};
 
 use crate::item::{GroupField, Item, NumberField, State, WordField, ZonedField};
@@ -17,6 +17,8 @@ pub(crate) enum Sort {
     OfOffset,
     // Each text of the item gives a fraction of a second.
     OfFraction,
+    // Each text that the item writes has a fraction behind a point.
+    OfPoint,
 }
 
 // Whether bytes have an item of a sort.
@@ -47,6 +49,7 @@ fn is_item_of(sort: Sort, item: Item) -> bool
         Sort::OfTime => item_needs_time(item),
         Sort::OfOffset => item_needs_offset(item),
         Sort::OfFraction => gives_fraction(item),
+        Sort::OfPoint => writes_point(item),
     }
 }
 
@@ -141,6 +144,16 @@ fn gives_fraction(item: Item) -> bool
     match item {
         Item::Number(field, _) => matches!(field, NumberField::Nanosecond),
         Item::Subsecond(point, _) => !point,
+        _ => false,
+    }
+}
+
+// Whether each text that an item writes has a fraction behind a point.
+fn writes_point(item: Item) -> bool
+    ensures { result ≡ writes_point item }
+{
+    match item {
+        Item::Subsecond(point, count) => point && count != 0,
         _ => false,
     }
 }

@@ -241,7 +241,7 @@ impl<'a> Pattern<'a> {
     /// Returns whether the specifiers of the pattern may name a time of day, as [`Parsed::to_time`] says. If they do not, no text gives one.
     ///
     /// A text may leave out a fraction with a point, such as `%.f`. So `%R%.f` may name a time of day: it reads `09:30`, but no second stands
-    /// before the fraction of `09:30.5`.
+    /// before the fraction of `09:30.5`. `%R%.3f` may too, though it writes a fraction into each text.
     ///
     /// ```
     /// Pattern::new(b"%I:%M %p").ok()?.names_time() // true
@@ -271,8 +271,8 @@ impl<'a> Pattern<'a> {
 
     /// Returns whether the pattern is separable for the years 0 to 9999. Then each of its texts shows where every item ends.
     ///
-    /// The law `separable_patterns_read_back` says which values it then reads back. A fraction needs its second: `%R%.f` is separable, and a
-    /// text of it with a fraction names no time.
+    /// The law `separable_patterns_read_back` says which values it then reads back. A fraction needs its second. So `%R%.3f`, which writes one in
+    /// each text, is not separable. `%R%.f` is: it reads back whole minutes, and a text of it with a fraction names no time.
     ///
     /// Such a pattern has no digit behind a number with fewer digits than are read at most. So `%Y%m%d` is separable, and `%Y%-m%d` is not.
     /// No pattern with `%Z` is, since `%Z` reads all bytes up to a blank, also those of what stands behind it.
@@ -284,6 +284,7 @@ impl<'a> Pattern<'a> {
     /// Pattern::new(b"%-d.%-m.%Y").ok()?.is_separable() // true
     /// Pattern::new(b"%-d%-m%Y").ok()?.is_separable() // false
     /// Pattern::new(b"%T%.f%j").ok()?.is_separable() // false
+    /// Pattern::new(b"%R%.3f").ok()?.is_separable() // false
     /// ```
     pub fn is_separable(&self) -> bool
         ensures { result ≡ is_separable false self.now }

@@ -1,16 +1,36 @@
 //! Which patterns are separable: each text of them shows where every item ends.
 ghost use Rattle.std.specs.Prelude.{◌≡◌};
-ghost use Rattle.chrono_pattern.specs.Separable.{bar_behind, bar_of_byte, bar_of_group, bar_of_number, bar_of_subsecond, bar_of_zoned, bars_digit, bars_point, is_filled, is_separable, takes_byte, takes_few, takes_group, takes_item, takes_number, takes_subsecond, takes_zoned};
+ghost use Rattle.chrono_pattern.specs.Separable.{bar_behind, bar_of_byte, bar_of_group, bar_of_number, bar_of_subsecond, bar_of_zoned, bars_digit, bars_point, fractions_have_seconds, is_filled, is_separable, shows_ends, takes_byte, takes_few, takes_group, takes_item, takes_number, takes_subsecond, takes_zoned};
 
 use crate::class::{Class, is_of};
 use crate::item::{Bar, GroupField, Item, NumberField, OffsetForm, Padding, State, ZonedField};
+use crate::named_parts::named_parts;
+use crate::needs::{Sort, has_item_of};
 use crate::number::padding_of;
 use crate::number_reader::{has_sign, most_digits};
 use crate::step::pattern_step;
 
-// Whether each text of a pattern shows where every item ends, for years from 0 to 9999 or for all years.
+// Whether each text of a pattern shows where every item ends, for years from 0 to 9999 or for all years, and its fractions have their second.
 pub(crate) fn is_separable(bytes: &[u8], wide: bool) -> bool
     ensures { result ≡ is_separable wide bytes.now }
+{
+    shows_ends(bytes, wide) && fractions_have_seconds(bytes)
+}
+
+// Whether a fraction that stands behind a point in each text has its second.
+fn fractions_have_seconds(bytes: &[u8]) -> bool
+    ensures { result ≡ fractions_have_seconds bytes.now }
+{
+    if !has_item_of(Sort::OfPoint, bytes) {
+        return true;
+    }
+    let parts = named_parts(bytes);
+    parts.second.is_some() || parts.timestamp.is_some()
+}
+
+// Whether each text of a pattern shows where every item ends.
+fn shows_ends(bytes: &[u8], wide: bool) -> bool
+    ensures { result ≡ shows_ends wide bytes.now }
 {
     let mut state = State::Outside;
     let mut bar = Bar::Free;

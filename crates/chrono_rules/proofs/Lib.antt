@@ -23,6 +23,7 @@ mod Passed
 mod PeriodMembers
 mod PeriodsLeftOut
 mod PlacesFromEnd
+mod PlacesBeyond
 mod PlacesInPeriods
 mod RecurrenceWalks
 mod Repeated

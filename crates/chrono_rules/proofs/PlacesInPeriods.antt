@@ -100,7 +100,7 @@ front_place p first day e before passed low le before-is passed-is is =
 back_place : (p : ℤ → Bool) (day e end : ℤ) (left passed : ℕ) → day ≤ℤ e → e ≤ℤ end → left ≡ count_between p day end → passed ≡ count_between p day e → left - passed ≡ count_between p e end
 back_place p day e end left passed le high left-is passed-is = omega (arith, left-is, passed-is, count_between-sum p day e end le high)
 
-before_or_at : (a b : ℤ) → a <ℤ b → a ≤ℤ b
+pub before_or_at : (a b : ℤ) → a <ℤ b → a ≤ℤ b
 before_or_at a b less = omega (arith, signed, less)
 
 pub off_position : (r : Rule) (start day e : ℤ) (before left passed : ℕ) → lacks_positions r ≡ false → day ≤ℤ e → period_first r.frequency r.week_start e ≡ period_first r.frequency r.week_start day → period_end r.frequency r.week_start e ≡ period_end r.frequency r.week_start day → (is_empty r.positions ≡ false → before ≡ count_between (date_passes r start) (period_first r.frequency r.week_start day) day) → (is_empty r.positions_from_end ≡ false → left ≡ count_between (date_passes r start) day (period_end r.frequency r.week_start day)) → passed ≡ count_between (date_passes r start) day e → date_passes r start e ≡ true → (has r.positions (before + passed + 1) || has r.positions_from_end (left - passed)) ≡ false → is_member r start e ≡ false

@@ -1,11 +1,11 @@
 //! Laws of the texts of instants, each as the contract of a function.
-ghost use Rattle.std.specs.Prelude.{◌∷◌, ◌++◌, Bool, ℕ, ℤ, ◌-ℤ◌, List, codes, neg_ℤ, pos};
+ghost use Rattle.std.specs.Prelude.{◌≡◌, ◌∷◌, ◌++◌, Bool, ℕ, ℤ, ◌-ℤ◌, List, Some, codes, neg_ℤ, pos};
 ghost use Rattle.chrono_datetime.specs.Moment.{IsMoment, Moment, moment};
 ghost use Rattle.chrono_datetime.specs.Time.{FractionFits, second_of, time_at};
 ghost use Rattle.chrono_instant.specs.Instants.{IsEpochSecond, epoch_second};
 ghost use Rattle.chrono_instant.specs.Offsets.{IsOffset};
 ghost use Rattle.chrono_stamps.specs.IsoForms.{IsIso8601Text};
-ghost use Rattle.chrono_stamps.specs.Rfc2822.{IsRfc2822Text};
+ghost use Rattle.chrono_stamps.specs.Rfc2822.{IsRfc2822Text, hours_behind};
 ghost use Rattle.chrono_stamps.specs.Rfc3339.{IsRfc3339Text};
 ghost use Rattle.chrono_stamps.specs.WrittenStamps.{HasStampText, moment_cut, rfc2822_text, rfc3339_text};
 ghost use Rattle.chrono_stamps.specs.declared.seconds_format.SecondsFormat.{SecondsFormat};
@@ -76,6 +76,23 @@ pub fn known_rfc2822_texts()
         (moment (pos 729_349) (time_at 9 55 6 0)) (pos 0) }
     ensures comment { IsRfc2822Text (codes "Fri, 21 Nov 1997 09(comment):   55  :  06 -0600")
         (moment (pos 729_349) (time_at 9 55 6 0)) (neg_ℤ (pos 21_600)) }
+{}
+
+/// The names of zones of RFC 2822 (4.3), by the hours that each lies behind UTC.
+///
+/// The RFC gives EDT as `-0400`, EST and CDT as `-0500`, CST and MDT as `-0600`, MST and PDT as `-0700`, and PST as `-0800`.
+#[tactic(auto, unfolding(crate::specs::Rfc2822::hours_behind))]
+pub fn known_rfc2822_zones()
+    ensures ut { hours_behind (codes "UT") ≡ Some 0 }
+    ensures gmt { hours_behind (codes "GMT") ≡ Some 0 }
+    ensures edt { hours_behind (codes "EDT") ≡ Some 4 }
+    ensures est { hours_behind (codes "EST") ≡ Some 5 }
+    ensures cdt { hours_behind (codes "CDT") ≡ Some 5 }
+    ensures cst { hours_behind (codes "CST") ≡ Some 6 }
+    ensures mdt { hours_behind (codes "MDT") ≡ Some 6 }
+    ensures mst { hours_behind (codes "MST") ≡ Some 7 }
+    ensures pdt { hours_behind (codes "PDT") ≡ Some 7 }
+    ensures pst { hours_behind (codes "PST") ≡ Some 8 }
 {}
 
 /// Texts of ISO 8601, each with its value:

@@ -97,6 +97,9 @@ impl<'a> Add<'a> {
             let Some((by, next)) = move_at(word.text.as_bytes(), place) else {
                 return asked.wrong(word, SPAN_EXPECTED);
             };
+            if matches!((by, start), (Move::ShortMonths(_), Some(Start::Clock(_)))) {
+                return asked.wrong_months(word);
+            }
             if let Some(why) = unfit(start, matches!(by, Move::Time(_))) {
                 return asked.wrong(word, why);
             }
@@ -252,17 +255,15 @@ pub(crate) fn open_days_later(
     count: i64,
     holidays: &mut Holidays,
 ) -> Result<NaiveDate, &'static str> {
-    let years = years_of_open_days(date, count, holidays.listed.len());
-    let reached = match holidays.calendar(years) {
-        Ok(calendar) => calendar.add_open_days(date, count),
+    let reached = match holidays.open_days_on(asked.rt.alloc(), date, count) {
+        Ok(reached) => reached,
         Err(error) => {
             asked.fail(error);
-            None
+            Err(PAST)
         }
     };
     match reached {
-        Some(day) if !holidays.knows(day.min(date)) => Err(UNKNOWN),
-        Some(day) => Ok(day),
-        None => Err(PAST),
+        Ok(day) if !holidays.knows(day.min(date)) => Err(UNKNOWN),
+        reached => reached,
     }
 }

@@ -1,6 +1,6 @@
 //! How far it is in several units, the greatest first: each counts what those before it leave. Years and months count together.
 
-use crate::diff::{Measure, measure_named};
+use crate::diff::{Measure, key_text, measure_named};
 use crate::prelude::*;
 use dates_answer::{distance, moved};
 
@@ -35,17 +35,11 @@ pub(crate) fn are_units(text: &str) -> bool {
 }
 
 impl Asked<'_> {
-    // Puts how far it is behind a text, as `2w 3d`; whether there is an answer.
-    pub(crate) fn put_apart(
-        &self,
-        out: &mut Buffer,
-        from: &Start,
-        to: &Start,
-        names: &str,
-    ) -> Option<()> {
+    // Puts how far it is behind a text, as `2w 3d`, or as the members of an object; whether there is an answer.
+    pub(crate) fn put_apart(&self, out: &mut Buffer, from: &Start, to: &Start) -> Option<()> {
         let mut at = *from;
         let mut years: Option<i64> = None;
-        for name in names.split(',') {
+        for name in self.units.split(',') {
             let (count, reached) = match (measure_named(name), years) {
                 (Some(Measure::Whole(Unit::Months)), Some(years)) => {
                     let (whole, reached) = self.whole_units(from, to, Unit::Months)?;
@@ -57,19 +51,58 @@ impl Asked<'_> {
             if matches!(measure_named(name), Some(Measure::Whole(Unit::Years))) {
                 years = Some(count);
             }
-            if count != 0 {
-                if !out.is_empty() {
-                    out.put(" ");
-                }
-                out.show(&count);
-                out.put(name);
-            }
+            self.put_count(out, name, Some(count));
             at = reached;
         }
         if out.is_empty() {
-            put!(out, "0", names.rsplit(',').next().unwrap_or(""));
+            put!(out, "0", self.units.rsplit(',').next().unwrap_or(""));
         }
         Some(())
+    }
+
+    // Puts how many units of a name there are behind a text: none is left out, but in an object, where null stands for no answer.
+    fn put_count(&self, out: &mut Buffer, name: &str, count: Option<i64>) {
+        if matches!(self.form, OutputForm::Json) {
+            let key = match measure_named(name) {
+                Some(measure) => key_text(measure),
+                None => "",
+            };
+            put!(out, if out.is_empty() { "\"" } else { ",\"" }, key, "\":");
+            match count {
+                Some(count) => out.show(&count),
+                None => out.put("null"),
+            }
+        } else if let Some(count) = count {
+            if count != 0 {
+                out.put(if out.is_empty() { "" } else { " " });
+                out.show(&count);
+                out.put(name);
+            }
+        }
+    }
+
+    // Prints how far it is in several units.
+    pub(crate) fn print_units(&mut self, counts: &Buffer, status: u8) {
+        let mut line = Buffer::new(self.rt.alloc());
+        let counts = self.text(counts);
+        match self.form {
+            OutputForm::Text => line.put(counts),
+            OutputForm::Json => put!(line, "{", counts, "}"),
+        }
+        let line = self.text(&line);
+        self.print_line(&line, status);
+    }
+
+    // Prints that there is no answer in several units.
+    pub(crate) fn print_no_units(&mut self) {
+        let mut nulls = Buffer::new(self.rt.alloc());
+        for name in self.units.split(',') {
+            self.put_count(&mut nulls, name, None);
+        }
+        if nulls.is_empty() {
+            nulls.put("none");
+        }
+        self.print_units(&nulls, NONE);
     }
 
     // How many times of so many seconds lie between two, and what lies as many on.

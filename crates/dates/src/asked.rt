@@ -38,6 +38,8 @@ pub(crate) struct Asked<'a> {
     pub held: Option<Buffer>,
     /// What is printed where there is no answer.
     pub none: Reply,
+    /// The names of the units, with commas between them, among which an answer is shared out; none for other answers.
+    pub units: &'a str,
     /// The number of the line that is answered, from 1 on; 0 where a word is.
     pub line: u64,
     /// The exit status, by what was printed last.
@@ -68,6 +70,7 @@ impl<'a> Asked<'a> {
             },
             held: None,
             none: Reply::Nothing(Key::Date),
+            units: "",
             line: 0,
             status: ANSWERED,
             is_over: false,
@@ -99,6 +102,9 @@ impl<'a> Asked<'a> {
 
     // Prints a reply: a day, or those of a week, by the pattern, if one is given.
     pub(crate) fn print(&mut self, reply: Reply) {
+        if self.is_without_units(&reply) {
+            return self.print_no_units();
+        }
         let form = self.form;
         let has_format = self.format.is_some();
         let status = match reply {
@@ -114,6 +120,11 @@ impl<'a> Asked<'a> {
         self.print_line(&ReplyLine { form, reply }, status);
     }
 
+    // Whether a reply says that there is no answer where one in several units is asked for.
+    fn is_without_units(&self, reply: &Reply) -> bool {
+        matches!(reply, Reply::Nothing(Key::Duration)) && !self.units.is_empty()
+    }
+
     // Prints a day, a date-time or an instant.
     pub(crate) fn print_start(&mut self, start: &Start) {
         if self.format.is_some() {
@@ -125,8 +136,14 @@ impl<'a> Asked<'a> {
 
     // Prints a day, a date-time or an instant by the pattern, or that it lacks what the pattern asks for.
     pub(crate) fn print_by_pattern(&mut self, start: &Start) {
+        let text = self.text_by_pattern(start);
+        self.print_text_of(start, text);
+    }
+
+    // Prints the text of a day, a date-time or an instant by the pattern, or that it lacks what the pattern asks for.
+    pub(crate) fn print_text_of(&mut self, start: &Start, text: io::Result<Option<String>>) {
         let key = start.key();
-        match self.text_by_pattern(start) {
+        match text {
             Ok(Some(text)) => self.print_text(key, text.as_str()),
             Ok(None) => self.say_lacking(start, Reply::Nothing(key)),
             Err(error) => self.fail(error),
@@ -139,28 +156,14 @@ impl<'a> Asked<'a> {
         self.print_line(&ReplyLine { form, reply }, NONE);
         let mut said = Buffer::new(self.rt.alloc());
         said.show(start);
-        if start.is_clock() {
-            said.put(": the pattern asks for a day, which it has not");
+        said.put(": the pattern asks");
+        self.put_lacking(&mut said, start);
+        said.put(if start.is_clock() {
+            " for a day, which it has not"
         } else {
-            said.put(": the pattern asks for a time of day or an offset, which it has not");
-        }
+            " for a time of day or an offset, which it has not"
+        });
         self.say(&said);
-    }
-
-    // The text by the pattern, if there is what the pattern asks for.
-    pub(crate) fn text_by_pattern(&self, start: &Start) -> io::Result<Option<String>> {
-        let Some(pattern) = &self.format else {
-            return Ok(None);
-        };
-        let delayed = if self.words.has(LONG.name) {
-            delayed_long(start)
-        } else {
-            delayed(pattern, start)
-        };
-        match delayed {
-            Some(delayed) => Ok(Some(delayed.to_string(self.rt.alloc())?)),
-            None => Ok(None),
-        }
     }
 
     // Prints a text, in an object under a key.

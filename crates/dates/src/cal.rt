@@ -16,8 +16,8 @@ pub(crate) fn command() -> &'static CommandRow {
         "cal", &[operand!("MONTH|YEAR|DAY"; required: false)],
         &[FIRST, NOW, WEEKEND, CALENDAR, HOLIDAYS, JSON, HELP];
         help: "print a month or a year as a sheet",
-        more: "A MONTH is written as 2024-02, a YEAR as 2024. Of a DAY it prints the month, and\n\
-            of no word that of today.\n\
+        more: "A MONTH is written as 2024-02 or 'Feb 2024', a YEAR as 2024. Of a DAY it prints\n\
+            the month, and of no word that of today.\n\
             Each row begins with its ISO week, that of its Thursday. * marks a closed day,\n\
             < the DAY or today, and # a day that is both.",
         example: "$ dates cal 2021-02\n\

@@ -101,9 +101,9 @@ pub(crate) fn both_years(known: Years, years: Years) -> Years {
 }
 
 // The years of the calendar.
-const FIRST_YEAR: i32 = -262_143;
+pub(crate) const FIRST_YEAR: i32 = -262_143;
 
-const LAST_YEAR: i32 = 262_142;
+pub(crate) const LAST_YEAR: i32 = 262_142;
 
 // Puts the dates of rules in these years, in the years of days that are listed, and in a year before and behind them into the list
 // of these.

@@ -6,7 +6,7 @@ use crate::prelude::*;
 use chrono_business::{
     Fraction, actual_360, actual_365_fixed, actual_actual_isda, thirty_360, thirty_e_360,
 };
-use dates_answer::{distance, parts_between};
+use dates_answer::{distance, key_name, parts_between};
 
 // The names of units.
 const UNITS: &[&str] = &[
@@ -110,8 +110,6 @@ struct Diff {
     from: Option<Start>,
     to: Option<Start>,
     measure: Measure,
-    // The place of the operand that names the measure.
-    unit_at: usize,
     holidays: Holidays,
 }
 
@@ -122,6 +120,9 @@ pub(crate) fn answer(asked: &mut Asked<'_>) {
     let measure = asked.measure(in_at);
     asked.reading.takes_clock = true;
     let has_time = in_at > 0 && asked.word(0).text.as_bytes().contains(&b'T');
+    if matches!(measure, Measure::Units) {
+        asked.units = asked.word(in_at.saturating_add(1)).text;
+    }
     asked.none = none_of(measure, has_time);
     let (from, to) = asked.ends(in_at);
     let is_timed = match from.or(to) {
@@ -145,7 +146,6 @@ pub(crate) fn answer(asked: &mut Asked<'_>) {
         from,
         to,
         measure,
-        unit_at: in_at.saturating_add(1),
         holidays,
     };
     match (from, to) {
@@ -279,6 +279,15 @@ fn none_of(measure: Measure, is_timed: bool) -> Reply {
     })
 }
 
+// The key of a number of units, as objects have it.
+pub(crate) fn key_text(measure: Measure) -> &'static str {
+    match measure {
+        Measure::Whole(unit) => key_name(key_of(unit)),
+        Measure::Time(key, _) => key_name(key),
+        _ => "",
+    }
+}
+
 // The key of a number of units.
 fn key_of(unit: Unit) -> Key {
     match unit {
@@ -312,8 +321,8 @@ impl Diff {
             Measure::OpenDays if !self.holidays.knows(first.min(last)) => {
                 return asked.print_nowhere(&Start::Day(first.min(last)), "", UNKNOWN);
             }
-            Measure::OpenDays => match self.holidays.calendar(years_of(first, last)) {
-                Ok(calendar) => Reply::Number(Key::OpenDays, calendar.open_days(first, last)),
+            Measure::OpenDays => match self.holidays.open_days(asked.rt.alloc(), first, last) {
+                Ok(count) => Reply::Number(Key::OpenDays, count),
                 Err(error) => return asked.fail(error),
             },
         };
@@ -323,10 +332,8 @@ impl Diff {
     // How far it is in several units.
     fn answer_units(&self, asked: &mut Asked<'_>, from: Start, to: Start) {
         let mut text = Buffer::new(asked.rt.alloc());
-        let names = asked.word(self.unit_at).text;
-        let (from, to) = (from.timed(), to.timed());
-        match asked.put_apart(&mut text, &from, &to, names) {
-            Some(()) => asked.print_buffer(Key::Duration, &text),
+        match asked.put_apart(&mut text, &from.timed(), &to.timed()) {
+            Some(()) => asked.print_units(&text, ANSWERED),
             None => asked.print(asked.none),
         }
     }

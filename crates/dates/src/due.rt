@@ -1,6 +1,7 @@
 //! When a schedule is due.
 
 use crate::prelude::*;
+use crate::zoned_seconds::SecondPlan;
 use chrono_datetime::Timelike;
 use timed_cron::{Dialect, NumberSet, TimedSchedule, read_timed_schedule};
 use zoned_cron::{Policy, Schedule, ZonedSchedule, read_schedule};
@@ -25,8 +26,10 @@ const MORE: &str = "A CRON is a nickname as @daily, or five fields in one word, 
     with cron.\n\
     With --zone it is due by the zone's clock, and TIME may be its local time.\n\
     What is planned for a time that the clock skips comes right behind the gap,\n\
-    and for one that it shows twice at the first. Where the minute or the hour is\n\
-    *, it follows the clock as it runs.\n\
+    and for one that it shows twice at the first. Where the minute or the hour\n\
+    begins with *, as */5, it follows the clock as it runs. So it does where the\n\
+    clock is set ahead by three hours or back by more. A job of robfig always does,\n\
+    and a trigger of Quartz too, but it takes the second of two showings alone.\n\
     With --dialect seconds a CRON has a field of seconds in front. With quartz it is\n\
     a trigger of Quartz: so too, with weekdays 1-7 from sun on and ? for one of both\n\
     days, and years from 1970 to 2099 may stand behind. With robfig it is a job of\n\
@@ -87,8 +90,9 @@ pub(crate) fn answer(asked: &mut Asked<'_>) {
     let (Some(plan), zone) = (plan, asked.zone.take()) else {
         return;
     };
+    let policy = asked.policy(&plan);
     for _ in 0..count {
-        let Some(due) = due_beside(zone.as_ref(), &plan, last, goes_back) else {
+        let Some(due) = due_beside(zone.as_ref(), &plan, policy, last, goes_back) else {
             return asked.print(asked.none);
         };
         print_due(asked, zone.as_ref(), &due);
@@ -112,13 +116,16 @@ fn print_due(asked: &mut Asked<'_>, zone: Option<&OwnedZone>, due: &Start) {
 fn due_beside(
     zone: Option<&OwnedZone>,
     plan: &Plan,
+    policy: Policy,
     last: Start,
     goes_back: bool,
 ) -> Option<Start> {
     if let (Some(zone), Start::Stamp(stamp)) = (zone, last) {
-        let fired = match plan {
-            Plan::Minutes(schedule) => fired_beside(zone, schedule, stamp, goes_back),
-            Plan::Seconds(timed) => second_beside(zone, timed, stamp, goes_back),
+        let fired = match *plan {
+            Plan::Minutes(schedule) => fired_beside(zone, &schedule, policy, stamp, goes_back),
+            Plan::Seconds(timed) => {
+                second_beside(zone, &SecondPlan { timed, policy }, stamp, goes_back)
+            }
         };
         return Some(Start::Stamp(fired?));
     }
@@ -135,11 +142,12 @@ fn due_beside(
 fn fired_beside(
     zone: &OwnedZone,
     schedule: &Schedule,
+    policy: Policy,
     last: DateTime<FixedOffset>,
     goes_back: bool,
 ) -> Option<DateTime<FixedOffset>> {
     let lent = zone.zone();
-    let zoned = ZonedSchedule::new(*schedule, &lent, Policy::vixie(schedule));
+    let zoned = ZonedSchedule::new(*schedule, &lent, policy);
     let start = last.checked_with_timezone(&&lent)?;
     let due = if goes_back {
         zoned.prev_before(start)
@@ -149,50 +157,23 @@ fn fired_beside(
     Some(due?.fixed_offset())
 }
 
-// The same of a schedule with seconds: another second of the minute at which it is due, or one of the next such minute or the last.
+// The same of a schedule with seconds.
 fn second_beside(
     zone: &OwnedZone,
-    timed: &TimedSchedule,
+    plan: &SecondPlan,
     last: DateTime<FixedOffset>,
     goes_back: bool,
 ) -> Option<DateTime<FixedOffset>> {
-    let time = shown_in(zone, Some(last))?.naive_local().time();
-    let minute = after_seconds(last, -i64::from(time.second()))?.checked_sub_signed(
-        TimeDelta::nanoseconds(i64::from(time.nanosecond())),
-    )?;
-    let before = minute.checked_sub_signed(TimeDelta::nanoseconds(1))?;
-    let is_due = match fired_beside(zone, &timed.schedule, before, false) {
-        Some(due) => due.timestamp() == minute.timestamp(),
-        None => false,
-    };
-    if is_due {
-        if let Some(second) = other_second(timed.seconds, time, goes_back) {
-            return after_seconds(minute, i64::from(second));
-        }
-    }
-    let other = fired_beside(zone, &timed.schedule, minute, goes_back)?;
-    let second = if goes_back {
-        timed.seconds.last_in(0, 60)?
+    let lent = zone.zone();
+    let second = last.timestamp();
+    let due = if !goes_back {
+        plan.next_after(&lent, second)
+    } else if last.naive_utc().time().nanosecond() > 0 {
+        plan.prev_before(&lent, second.saturating_add(1))
     } else {
-        timed.seconds.first_in(0, 60)?
+        plan.prev_before(&lent, second)
     };
-    after_seconds(other, i64::from(second))
-}
-
-// The next of some seconds behind a time of the same minute, or the last before it.
-fn other_second(seconds: NumberSet, time: NaiveTime, goes_back: bool) -> Option<u32> {
-    if !goes_back {
-        seconds.first_in(time.second().saturating_add(1), 60)
-    } else if time.nanosecond() > 0 {
-        seconds.last_in(0, time.second().saturating_add(1))
-    } else {
-        seconds.last_in(0, time.second())
-    }
-}
-
-// The instant so many seconds behind another.
-fn after_seconds(stamp: DateTime<FixedOffset>, seconds: i64) -> Option<DateTime<FixedOffset>> {
-    stamp.checked_add_signed(TimeDelta::try_seconds(seconds)?)
+    instant_at(due?)
 }
 
 impl Asked<'_> {
@@ -234,6 +215,16 @@ impl Asked<'_> {
                 self.wrong_by(word, &error, "");
                 None
             }
+        }
+    }
+
+    // What becomes of what a zone's clock skips or shows twice, in the dialect that is named.
+    fn policy(&self, plan: &Plan) -> Policy {
+        match (self.option("--dialect").text, plan) {
+            ("robfig", _) => Policy::robfig(),
+            ("quartz", _) => Policy::quartz(),
+            (_, Plan::Minutes(schedule)) => Policy::vixie(schedule),
+            (_, Plan::Seconds(timed)) => Policy::vixie(&timed.schedule),
         }
     }
 

@@ -30,6 +30,7 @@ pub(crate) fn last() -> &'static CommandRow {
 }
 
 const MORE: &str = "A PERIOD is week, month, quarter or year. A week begins on Monday.\n\
+    In place of the day a month will do, as 2024-02 or 'Feb 2024', but for a week.\n\
     With - in place of the day it answers each line of standard input. With none it\n\
     does so if something is piped in, and else takes today.";
 
@@ -45,6 +46,7 @@ pub(crate) fn answer(asked: &mut Asked<'_>) {
     let period = asked.choice(asked.word(0), PERIODS);
     let months = MONTHS.get(period).copied().unwrap_or(0);
     let is_last = asked.command.name == LAST;
+    asked.reading.takes_month = months > 0 && !matches!(asked.within, Within::Words);
     let date = asked.day_or_today(1);
     answer_each(asked, date, Asks::End(months, is_last));
 }

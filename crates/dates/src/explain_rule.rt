@@ -6,7 +6,7 @@ use crate::explain::{
 };
 use crate::prelude::*;
 use crate::rule::{SKIP_ALONE, read_rule_and_skip};
-use crate::skip::{Skip, goes_with_skip};
+use crate::skip::{Skip, goes_with_skip, skip_fault};
 use crate::timed_rule::{goes_together, read_rule_in};
 use calendar_rules::{ClockUnit, TimedRule, TimedRuleError};
 use chrono_rules::{End, Frequency, NumberSet, PlaceSet, Rule, RuleError, RuleFault};
@@ -16,6 +16,9 @@ impl Asked<'_> {
     // Puts what a rule says behind a text: one over days, or else one over date-times.
     pub(crate) fn put_rule_of(&mut self, out: &mut Buffer, word: Word<'_>) {
         let text = word.text.as_bytes();
+        if let Some(why) = skip_fault(text) {
+            return self.wrong(word, why);
+        }
         let error = match read_rule_and_skip(self.rt, text) {
             Ok(Ok((rule, skip))) => {
                 if !matches!(skip, Skip::Omit) && !goes_with_skip(&rule) {
@@ -57,7 +60,7 @@ fn put_rule(out: &mut Buffer, rule: &Rule, skip: Skip) {
         rule,
         rule.frequency == Frequency::Daily && rule.interval < 2,
     );
-    out.put(skip.words());
+    put_skip(out, rule, skip);
     match rule.end {
         End::Never => {}
         End::Count(count) => put_count(out, count),
@@ -65,6 +68,18 @@ fn put_rule(out: &mut Buffer, rule: &Rule, skip: Skip) {
             out.put(", until ");
             out.show(&day);
         }
+    }
+}
+
+// Puts where a day goes that a month lacks behind a text.
+fn put_skip(out: &mut Buffer, rule: &Rule, skip: Skip) {
+    let places = rule.month_days_from_end;
+    let lacks = places.contains(29) || places.contains(30) || places.contains(31);
+    if !lacks || !rule.month_days.is_empty() {
+        out.put(skip.words());
+    }
+    if lacks {
+        out.put(skip.words_from_end());
     }
 }
 
@@ -79,7 +94,7 @@ fn put_timed_rule(out: &mut Buffer, rule: &TimedRule, skip: Skip, is_utc: bool) 
         put_every(out, rule.steps.interval, unit_name(rule.steps.unit));
         put_limits(out, &rule.days, true);
     }
-    out.put(skip.words());
+    put_skip(out, &rule.days, skip);
     if !matches!(skip, Skip::Omit) && has_times(rule) {
         out.put(",");
     }

@@ -27,6 +27,11 @@ const ORDER_WANTED: &str =
 const SECONDS_WANTED: &str =
     "expected a day as 2024-02-29; @1709208000 is an instant by the seconds since 1970";
 
+const ORDINAL_WANTED: &str =
+    "expected a day as 2024-02-29, 20240229 or, of seven digits, with a hyphen as 2024-060";
+
+const MONTH_ALONE: &str = "a month; expected a day as 2024-02-29";
+
 const COMMAND: &str = "expected a day as 2024-02-29 or a command; dates --help lists them";
 
 impl Asked<'_> {
@@ -156,17 +161,8 @@ impl Asked<'_> {
     // Ends since a word is no day or time: it is not written as one, or there is none such.
     pub(crate) fn unread(&mut self, word: Word<'_>, error: Unreadable, expected: &str) {
         if error.is_other_form() {
-            let text = word.text.as_bytes();
-            return self.wrong(
-                word,
-                if text.len() > 8 && leading_digits(text) == text.len() {
-                    SECONDS_WANTED
-                } else if has_order(text) {
-                    ORDER_WANTED
-                } else {
-                    expected
-                },
-            );
+            let hint = hint_of(word.text.as_bytes());
+            return self.wrong(word, hint.unwrap_or(expected));
         }
         let mut why = Buffer::new(self.rt.alloc());
         put_unread(&mut why, error);
@@ -271,6 +267,22 @@ impl Asked<'_> {
             }
         }
         Ok(())
+    }
+}
+
+// What is said of a text that was meant for a day and is none, if its form shows how it was meant.
+pub(crate) fn hint_of(text: &[u8]) -> Option<&'static str> {
+    let digits = leading_digits(text);
+    if digits > 8 && digits == text.len() {
+        Some(SECONDS_WANTED)
+    } else if is_of_seven_digits(text) {
+        Some(ORDINAL_WANTED)
+    } else if read_month(text).is_ok() {
+        Some(MONTH_ALONE)
+    } else if has_order(text) {
+        Some(ORDER_WANTED)
+    } else {
+        None
     }
 }
 

@@ -2,31 +2,59 @@
 
 use crate::prelude::*;
 use chrono_business::{
-    Calendar, HolidayRule, england_and_wales, fedwire, france, germany, japan, nyse, target,
-    us_federal, without_weekends,
+    Calendar, HolidayRule, england_and_wales, fedwire, first_known_year, france, germany, japan,
+    nyse, target, us_federal, without_weekends,
 };
 use chrono_datetime::WeekdaySet;
 
 /// The holidays by the options of a command.
 #[derive(Drop)]
 pub(crate) struct Holidays {
-    weekend: WeekdaySet,
-    // The rules that give others.
-    rules: Vec<HolidayRule>,
-    /// Those that the file of the options lists.
+    /// The weekdays that are closed.
+    pub weekend: WeekdaySet,
+    /// The rules that give others.
+    pub rules: Vec<HolidayRule>,
+    /// Those that the file of the options lists, in order and each once.
     pub listed: Vec<NaiveDate>,
     // These and those of the rules in some years, in order and but for those on the weekend.
     days: Vec<NaiveDate>,
     // Those years.
     years: Option<Years>,
-    // The first year of which the rules are known.
-    first: i32,
+    /// The first year of which the rules are known.
+    pub first: i32,
 }
 
 /// That the holidays of a day are not known.
 pub(crate) const UNKNOWN: &str = "before the first year of --calendar";
 
 impl Holidays {
+    // Those of a weekend alone.
+    pub(crate) fn of_weekend(alloc: Global, weekend: WeekdaySet) -> Holidays {
+        Holidays {
+            weekend,
+            rules: Vec::new(alloc),
+            listed: Vec::new(alloc),
+            days: Vec::new(alloc),
+            years: None,
+            first: i32::MIN,
+        }
+    }
+
+    // Whether no weekday is open that is not one of these.
+    pub(crate) fn closes_all_but(&self, weekdays: WeekdaySet) -> bool {
+        self.weekend.union(weekdays).len() == 7
+    }
+
+    // Whether there is no holiday from a day on, or before it if that is asked for.
+    pub(crate) fn ends_before(&self, day: NaiveDate, is_back: bool) -> bool {
+        for listed in self.listed.as_slice() {
+            if *listed == day || (day < *listed) != is_back {
+                return false;
+            }
+        }
+        self.rules.is_empty()
+    }
+
     // The calendar by the options, with the holidays of these years at least.
     pub(crate) fn calendar(&mut self, years: Years) -> io::Result<Calendar<'_>> {
         match self.years {
@@ -81,54 +109,46 @@ fn put_in_order(days: &mut Vec<NaiveDate>, weekend: WeekdaySet) {
     days.truncate(count);
 }
 
-// The first year of which the holidays of all calendars that a text names are known.
-fn first_year(names: &str) -> i32 {
-    let mut first = i32::MIN;
-    for name in names.split(',') {
-        let known = FIRST_YEARS.get(place_of_calendar(name)).copied();
-        first = first.max(known.unwrap_or(first));
-    }
-    first
-}
-
 impl Asked<'_> {
     // The holidays by the options of the command.
     pub(crate) fn holidays(&mut self) -> Holidays {
-        let mut holidays = Holidays {
-            weekend: self.weekend(self.option("--weekend")),
-            rules: Vec::new(self.rt.alloc()),
-            listed: Vec::new(self.rt.alloc()),
-            days: Vec::new(self.rt.alloc()),
-            years: None,
-            first: i32::MIN,
-        };
+        let weekend = self.weekend(self.option("--weekend"));
+        let mut holidays = Holidays::of_weekend(self.rt.alloc(), weekend);
         if let Some(word) = self.value("--calendar") {
-            self.put_calendars(word, &mut holidays.rules);
-            holidays.first = first_year(word.text);
+            self.put_calendars(word, &mut holidays);
         }
         if let Some(word) = self.value("--holidays") {
             let put = self.put_listed(word, &mut holidays.listed);
             self.done(put);
+            holidays.listed.as_mut_slice().sort_unstable();
+            holidays.listed.dedup();
         }
         holidays
     }
 
-    // Puts the rules of the calendars that a word names into a list.
-    fn put_calendars(&mut self, word: Word<'_>, rules: &mut Vec<HolidayRule>) {
+    // Adds the rules of the calendars that a word names.
+    fn put_calendars(&mut self, word: Word<'_>, holidays: &mut Holidays) {
         for name in word.text.split(',') {
-            let put = match place_of_calendar(name) {
-                0 => rules.extend_from_slice(&us_federal()),
-                1 => rules.extend_from_slice(&target()),
-                2 => rules.extend_from_slice(&england_and_wales()),
-                3 => rules.extend_from_slice(&fedwire()),
-                4 => rules.extend_from_slice(&nyse()),
-                5 => rules.extend_from_slice(&germany()),
-                6 => rules.extend_from_slice(&france()),
-                7 => rules.extend_from_slice(&japan()),
+            match place_of_calendar(name) {
+                0 => self.put_rules(&us_federal(), holidays),
+                1 => self.put_rules(&target(), holidays),
+                2 => self.put_rules(&england_and_wales(), holidays),
+                3 => self.put_rules(&fedwire(), holidays),
+                4 => self.put_rules(&nyse(), holidays),
+                5 => self.put_rules(&germany(), holidays),
+                6 => self.put_rules(&france(), holidays),
+                7 => self.put_rules(&japan(), holidays),
                 _ => return self.wrong_choice(word, CALENDARS),
-            };
-            self.kept(put);
+            }
         }
+    }
+
+    // Adds rules, whose first year then is the first one that is known, unless that of others is later.
+    fn put_rules(&mut self, rules: &[HolidayRule], holidays: &mut Holidays) {
+        let put = holidays.rules.extend_from_slice(rules);
+        self.kept(put);
+        let first = first_known_year(rules).unwrap_or(i32::MIN);
+        holidays.first = holidays.first.max(first);
     }
 
     // Puts the days that the file of a word lists into a list.

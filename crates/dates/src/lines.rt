@@ -126,22 +126,17 @@ fn take_lines(
     };
     let mut number: u64 = 1;
     for _ in 0..u64::MAX {
-        match read_record(&mut reader, &mut line, asked.records) {
-            Ok(Taken::Lines(count)) => {
-                asked.line = number;
-                number = number.saturating_add(count);
-            }
-            Ok(Taken::Open) => {
-                asked.line = number;
-                asked.refuse_line("has a quotation mark that is not closed");
-                break;
-            }
-            Ok(Taken::End) => break,
+        let count = match read_record(&mut reader, &mut line, asked.records) {
+            Ok(taken) => asked.lines_taken(taken, number),
             Err(error) => {
                 asked.wrong_by(source, &error, "");
-                break;
+                0
             }
+        };
+        if count == 0 {
+            break;
         }
+        number = number.saturating_add(count);
         asked.end_by(ANSWERED);
         asked.take_parts(command, line.as_slice());
         status = status.max(asked.status);
@@ -153,6 +148,22 @@ fn take_lines(
 }
 
 impl Asked<'_> {
+    // How many lines are answered together, of which that is the number of the first; 0 at the end, and where a field is left open.
+    fn lines_taken(&mut self, taken: Taken, number: u64) -> u64 {
+        match taken {
+            Taken::Lines(count) => {
+                self.line = number;
+                count
+            }
+            Taken::Open => {
+                self.line = number;
+                self.refuse_line("has a quotation mark that is not closed");
+                0
+            }
+            Taken::End => 0,
+        }
+    }
+
     // Ends since the line that is answered is none that can be.
     pub(crate) fn refuse_line(&mut self, why: &str) {
         let mut said = Buffer::new(self.rt.alloc());
@@ -222,6 +233,10 @@ fn beside_day(text: &[u8]) -> Reason {
     let line = text.strip_prefix(b"\xef\xbb\xbf").unwrap_or(text);
     Reason::Other(if text.is_empty() {
         "nothing stands there"
+    } else if read_month(text).is_ok() {
+        "a month, and no day"
+    } else if is_of_seven_digits(text) {
+        "of seven digits: 20240229 has eight, and 2024-060 a hyphen"
     } else if read_day(line.trim_ascii()).is_err() {
         return Reason::Form;
     } else if line.len() < text.len() {

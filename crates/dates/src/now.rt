@@ -29,6 +29,9 @@ pub(crate) fn answer(asked: &mut Asked<'_>) {
     if !is_day {
         asked.none = asked.reading.no_moment();
     }
+    if asked.format.is_some() {
+        asked.take_zone();
+    }
     match asked.shown() {
         Some(stamp) if is_day => asked.print(Reply::Date(stamp.naive_local().date())),
         Some(stamp) => asked.print_start(&Start::Stamp(stamp)),

@@ -38,9 +38,6 @@ pub(crate) const CALENDARS: &[&str] = &[
     "japan",
 ];
 
-/// The first years of which their holidays are known.
-pub(crate) const FIRST_YEARS: &[i32] = &[1971, 1999, 1978, 1971, 1998, 1995, 1982, 2007];
-
 pub(crate) const CALENDAR: Opt = option!(
     "--calendar", "NAMES"; "holidays by rules, several as target,nyse: us-federal\n\
         and fedwire (from 1971), england (1978), france (1982),\n\

@@ -84,6 +84,103 @@ impl<'a> Asked<'a> {
     }
 }
 
+impl Asked<'_> {
+    // The text by the pattern, if there is what the pattern asks for. By a zone's clock %Z is the name of its time.
+    pub(crate) fn text_by_pattern(&self, start: &Start) -> io::Result<Option<String>> {
+        match (&self.zone, start) {
+            (Some(zone), Start::Stamp(stamp)) => {
+                let name = zone.abbreviation(stamp.timestamp()).unwrap_or("");
+                self.text_with_name(start, name)
+            }
+            _ => self.text_with_name(start, ""),
+        }
+    }
+
+    // The same where the time has that name; without a name %Z is the offset.
+    pub(crate) fn text_with_name(&self, start: &Start, name: &str) -> io::Result<Option<String>> {
+        let Some(pattern) = &self.format else {
+            return Ok(None);
+        };
+        if self.words.has(LONG.name) {
+            return self.text_if(delayed_long(start));
+        }
+        if name.is_empty() {
+            return self.text_if(delayed(pattern, start));
+        }
+        let mut named = Buffer::new(self.rt.alloc());
+        put_named(&mut named, self.pattern_text(), name);
+        match Pattern::new(named.text()?.as_bytes()) {
+            Ok(pattern) => self.text_if(delayed(&pattern, start)),
+            Err(_) => Ok(None),
+        }
+    }
+
+    // A text that is put together only now, if there is one.
+    fn text_if(&self, delayed: Option<DelayedFormat<'_>>) -> io::Result<Option<String>> {
+        match delayed {
+            Some(delayed) => Ok(Some(delayed.to_string(self.rt.alloc())?)),
+            None => Ok(None),
+        }
+    }
+
+    // The pattern by which days and date-times are printed, as it is written.
+    fn pattern_text(&self) -> &str {
+        let word = pattern_word(self.command, &self.words, FORMAT);
+        word.unwrap_or(NO_WORD).text
+    }
+
+    // Puts the first specifier of the pattern behind a text that asks for what a day, a date-time or a time of day has not.
+    pub(crate) fn put_lacking(&self, out: &mut Buffer, start: &Start) {
+        if self.words.has(LONG.name) {
+            return;
+        }
+        let text = self.pattern_text();
+        for place in 0..text.len() {
+            if let Some(lacking) = lacking_at(text.get(place..).unwrap_or(""), start) {
+                return put!(out, " by ", lacking);
+            }
+        }
+    }
+}
+
+// The most bytes of a specifier, as %-d, %:z and %3f.
+const MOST_OF_SPECIFIER: usize = 5;
+
+// The specifier at the beginning of a text, if it asks for what a day, a date-time or a time of day has not.
+fn lacking_at<'a>(text: &'a str, start: &Start) -> Option<&'a str> {
+    if !text.starts_with('%') {
+        return None;
+    }
+    for len in 2..=MOST_OF_SPECIFIER {
+        let specifier = text.get(..len)?;
+        if let Ok(pattern) = Pattern::new(specifier.as_bytes()) {
+            return match delayed(&pattern, start) {
+                Some(_) => None,
+                None => Some(specifier),
+            };
+        }
+    }
+    None
+}
+
+// Puts a pattern behind a text, with a name for each %Z.
+fn put_named(out: &mut Buffer, pattern: &str, name: &str) {
+    let mut is_begun = false;
+    for character in pattern.chars() {
+        if !is_begun && character == '%' {
+            is_begun = true;
+            continue;
+        }
+        if is_begun && character == 'Z' {
+            out.put(name);
+        } else {
+            out.put(if is_begun { "%" } else { "" });
+            out.put_char(character);
+        }
+        is_begun = false;
+    }
+}
+
 // What a text names by a pattern: an instant, a date-time, a day or a time of day.
 pub(crate) fn read_by(pattern: &Pattern<'_>, text: &[u8]) -> Result<Start, PatternReadError> {
     if pattern.names_zoned() {

@@ -1,7 +1,7 @@
 //! The instances of a recurrence rule.
 
 use crate::prelude::*;
-use crate::skip::{DaysWanted, Skip, cut_skip, goes_with_skip, print_skipping};
+use crate::skip::{DaysWanted, Skip, cut_skip, goes_with_skip, print_skipping, skip_fault};
 use crate::timed_rule::answer_timed;
 use chrono_rules::{Recurrence, Rule, RuleError, RuleFault, read_rule};
 
@@ -124,6 +124,10 @@ impl Asked<'_> {
 
     // The rule that a word writes, and where it puts a day that a month does not have.
     fn rule_with_skip(&mut self, word: Word<'_>) -> Option<(Rule, Skip)> {
+        if let Some(why) = skip_fault(word.text.as_bytes()) {
+            self.wrong(word, why);
+            return None;
+        }
         match read_rule_and_skip(self.rt, word.text.as_bytes()) {
             Ok(Ok((rule, skip))) if matches!(skip, Skip::Omit) || goes_with_skip(&rule) => {
                 return Some((rule, skip));
@@ -162,7 +166,7 @@ pub(crate) fn read_rule_and_skip(
     let mut others = Vec::new(rt.alloc());
     let skip = cut_skip(text, &mut others)?;
     match read_rule(others.as_slice()) {
-        Ok(rule) => Ok(Ok((rule, skip))),
+        Ok(rule) => Ok(Ok((rule, skip.of_rule(&rule)))),
         Err(error) => Ok(Err(error)),
     }
 }

@@ -2,6 +2,7 @@
 
 use crate::add::open_days_later;
 use crate::diff::like;
+use crate::left_out::{most_left_out, time_behind_day};
 use crate::prelude::*;
 use chrono_datetime::WeekdaySet;
 use dates_answer::sequence_day;
@@ -47,45 +48,111 @@ pub(crate) fn answer(asked: &mut Asked<'_>) {
     let most = asked.amount_if("--count").unwrap_or(u64::MAX);
     let mut holidays = asked.holidays();
     if !asked.is_over {
-        print_sequence(
-            asked,
-            (&from, to.as_ref()),
-            &step,
-            &mut holidays,
-            skip,
-            most,
-        );
+        let mut sequence = Sequence {
+            from,
+            place: 0,
+            to,
+            step,
+        };
+        print_sequence(asked, &mut sequence, &mut holidays, skip, most);
     }
 }
 
-// Prints a sequence from one to another but for some weekdays, and so many of it at most.
+/// A sequence, and how far it has gone.
+#[derive(Clone, Copy)]
+struct Sequence {
+    // The start that is moved, and by how many steps, counted from 0. By open days it is the one that was found last.
+    from: Start,
+    place: u32,
+    // Where it ends, if it does before the calendar.
+    to: Option<Start>,
+    step: Move,
+}
+
+// Prints a sequence but for some weekdays, and so many of it at most. It ends where none but those follow.
 fn print_sequence(
     asked: &mut Asked<'_>,
-    (from, to): (&Start, Option<&Start>),
-    step: &Move,
+    sequence: &mut Sequence,
     holidays: &mut Holidays,
     skip: WeekdaySet,
     most: u64,
 ) {
     asked.end_by(NONE);
     let mut left = most;
-    for place in 0..u32::MAX {
-        let found = match step {
-            Move::OpenDays(count) => open_there(asked, (from, to), *count, holidays, place),
-            _ => there(from, to, *step, place),
-        };
-        let Some(start) = found else {
-            break;
-        };
-        if left == 0 || asked.is_over {
+    let mut passed: u32 = 0;
+    let most_passed = sequence.most_passed(holidays, skip);
+    for _ in 0..u64::MAX {
+        if left == 0 || passed >= most_passed || asked.is_over {
             break;
         }
-        if start.is_clock() || !skip.contains(start.local().date().weekday()) {
+        let Some(start) = sequence.find(asked, holidays) else {
+            break;
+        };
+        if !start.is_clock() && skip.contains(start.local().date().weekday()) {
+            if sequence.repeats_from(&start, holidays) {
+                passed = passed.saturating_add(1);
+            }
+            sequence.pass(&start);
+        } else {
             asked.print_start(&start);
             left = left.saturating_sub(1);
+            passed = 0;
+            sequence.go_on();
         }
     }
     asked.print_none_if_alone();
+}
+
+impl Sequence {
+    // How many in a row may be left out until it is told that all that follow are.
+    fn most_passed(&self, holidays: &Holidays, skip: WeekdaySet) -> u32 {
+        let is_closed = match self.step {
+            Move::OpenDays(_) => holidays.closes_all_but(skip),
+            _ => skip.len() == 7,
+        };
+        if is_closed && !self.from.is_clock() {
+            return 0;
+        }
+        most_left_out(self.step)
+    }
+
+    // What it has come to; nothing past its end.
+    fn find(&mut self, asked: &mut Asked<'_>, holidays: &mut Holidays) -> Option<Start> {
+        let Move::OpenDays(count) = self.step else {
+            return there(&self.from, self.to.as_ref(), self.step, self.place);
+        };
+        let by = if self.place == 0 { 0 } else { count };
+        let date = open_days_later(asked, self.from.local().date(), by, holidays).ok()?;
+        self.from = asked.on(self.from, date)?;
+        not_past(self.from, self.to.as_ref(), count)
+    }
+
+    // Whether it goes on by the same weekdays again and again: by open days no holiday may follow.
+    fn repeats_from(&self, start: &Start, holidays: &Holidays) -> bool {
+        match self.step {
+            Move::OpenDays(count) => holidays.ends_before(start.local().date(), count < 0),
+            _ => true,
+        }
+    }
+
+    // Goes a step on.
+    fn go_on(&mut self) {
+        self.place = self.place.saturating_add(1);
+    }
+
+    // Goes on behind what is left out: by short times to another day at once, and to the end if that is past the calendar's.
+    fn pass(&mut self, start: &Start) {
+        let Some(time) = time_behind_day(start, self.step) else {
+            return self.go_on();
+        };
+        self.place = u32::MAX;
+        if let Some(moment) = start.local().checked_add_signed(time) {
+            if let Some(next) = start.at(moment) {
+                self.from = next;
+                self.place = 0;
+            }
+        }
+    }
 }
 
 // The word of the end and that of the span, each of which may be left out.
@@ -215,20 +282,6 @@ fn there(from: &Start, to: Option<&Start>, step: Move, place: u32) -> Option<Sta
         Move::OpenDays(_) => return None,
     };
     not_past(from.at(moment)?, to, way)
-}
-
-// What stands at a place of a sequence by open days, counted from 0; nothing past its end.
-fn open_there(
-    asked: &mut Asked<'_>,
-    (from, to): (&Start, Option<&Start>),
-    count: i64,
-    holidays: &mut Holidays,
-    place: u32,
-) -> Option<Start> {
-    let first = open_days_later(asked, from.local().date(), 0, holidays).ok()?;
-    let by = count.checked_mul(i64::from(place))?;
-    let found = open_days_later(asked, first, by, holidays).ok()?;
-    not_past(asked.on(*from, found)?, to, count)
 }
 
 // What stands in a sequence, unless it is past the end.

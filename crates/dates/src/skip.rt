@@ -1,17 +1,18 @@
 //! The instances of a rule with SKIP (RFC 7529), which says where a day goes that a month does not have.
 
 use crate::prelude::*;
+use chrono_datetime::Days;
 use chrono_rules::{End, Frequency, Instances, NumberSet, Rule};
-use chrono_text::same_but_for_case;
+use chrono_text::{begins_but_for_case, same_but_for_case};
 
-/// SKIP: where a day goes that a month does not have.
+/// SKIP: where a day goes that a month does not have. A place from the end that it lacks lies before its first day.
 #[derive(Clone, Copy)]
 pub(crate) enum Skip {
     /// Nowhere: it is left out, as in RFC 5545.
     Omit,
-    /// To the last day of the month.
+    /// To the last day of the month, or to that of the month before.
     Backward,
-    /// To the first day of the next month.
+    /// To the first day of the next month, or to that of the month itself.
     Forward,
 }
 
@@ -24,6 +25,50 @@ impl Skip {
             Skip::Forward => ", or the first day after a month that has no such day",
         }
     }
+
+    // What it says of places from the end.
+    pub(crate) fn words_from_end(self) -> &'static str {
+        match self {
+            Skip::Omit => "",
+            Skip::Backward => ", or the last day before a month that has no such day",
+            Skip::Forward => ", or the first day of a month that has no such day",
+        }
+    }
+
+    // What it says of a rule: nothing by days and by weeks, where days of months only limit (RFC 7529, 4.1).
+    pub(crate) fn of_rule(self, rule: &Rule) -> Skip {
+        match rule.frequency {
+            Frequency::Daily | Frequency::Weekly => Skip::Omit,
+            Frequency::Monthly | Frequency::Yearly => self,
+        }
+    }
+}
+
+// What is wrong with RSCALE and SKIP in a rule's text.
+pub(crate) fn skip_fault(text: &[u8]) -> Option<&'static str> {
+    let (mut calendars, mut skips) = (0_u64, 0_u64);
+    for part in text.split(|byte| *byte == b';') {
+        let part = part.strip_prefix(b"RRULE:").unwrap_or(part);
+        if begins_but_for_case(part, b"RSCALE=") {
+            calendars = calendars.saturating_add(1);
+            if !same_but_for_case(part, b"RSCALE=GREGORIAN") {
+                return Some("RSCALE: expected GREGORIAN, the one calendar that is known here");
+            }
+        }
+        if begins_but_for_case(part, b"SKIP=") {
+            skips = skips.saturating_add(1);
+            if skip_named(part).is_none() {
+                return Some("SKIP: expected one of OMIT, BACKWARD and FORWARD");
+            }
+        }
+    }
+    if calendars > 1 {
+        Some("RSCALE: stands twice")
+    } else if skips > 1 {
+        Some("SKIP: stands twice")
+    } else {
+        None
+    }
 }
 
 // Puts the parts of a rule's text behind another, but for SKIP and the calendar of RFC 5545; what SKIP says.
@@ -31,10 +76,11 @@ pub(crate) fn cut_skip(text: &[u8], others: &mut Vec<u8>) -> io::Result<Skip> {
     let mut skip = None;
     let mut gap: &[u8] = b"";
     for part in text.split(|byte| *byte == b';') {
-        if same_but_for_case(part, b"RSCALE=GREGORIAN") {
+        let alone = part.strip_prefix(b"RRULE:").unwrap_or(part);
+        if same_but_for_case(alone, b"RSCALE=GREGORIAN") {
             continue;
         }
-        if let (None, Some(named)) = (skip, skip_named(part)) {
+        if let (None, Some(named)) = (skip, skip_named(alone)) {
             skip = Some(named);
             continue;
         }
@@ -107,11 +153,11 @@ pub(crate) fn print_skipping(
     start: NaiveDate,
     wanted: &mut DaysWanted,
 ) {
-    let mut days = SkipDays::new(rule, skip, start);
-    let mut count = match rule.end {
-        End::Count(count) => u64::from(count),
-        _ => u64::MAX,
+    let (from, mut count) = match rule.end {
+        End::Count(count) => (start, u64::from(count)),
+        _ => (wanted.from, u64::MAX),
     };
+    let mut days = SkipDays::new(rule, skip, start, from);
     for _ in 0..u64::MAX {
         if count == 0 || wanted.most == 0 || asked.is_over {
             break;
@@ -127,7 +173,7 @@ pub(crate) fn print_skipping(
     wanted.print_added(asked, None);
 }
 
-/// The days of a rule with SKIP from its start on, in order, each once. Neither COUNT nor UNTIL ends them.
+/// The days of a rule with SKIP, in order, each once. Neither COUNT nor UNTIL ends them.
 #[derive(Drop)]
 pub(crate) struct SkipDays {
     rule: Rule,
@@ -141,17 +187,19 @@ pub(crate) struct SkipDays {
 }
 
 impl SkipDays {
-    // The days of a rule.
-    pub(crate) fn new(rule: &Rule, skip: Skip, start: NaiveDate) -> SkipDays {
+    // The days of a rule from its start on. Those that lie some weeks before `from` are left out.
+    pub(crate) fn new(rule: &Rule, skip: Skip, start: NaiveDate, from: NaiveDate) -> SkipDays {
         let rule = filled(rule, start);
-        let mut months = months_of(&rule).instances(first_period(&rule, start));
+        // (no month that begins earlier reaches the day, or one of the two before it)
+        let begin = from.checked_sub_days(Days::new(64)).unwrap_or(start);
+        let mut months = months_of(&rule).instances_from(first_period(&rule, start), begin);
         let first = months.next();
         SkipDays {
             rule,
             skip,
             months,
             first,
-            place: 1,
+            place: 0,
             next: start.num_days_from_ce(),
         }
     }
@@ -164,7 +212,7 @@ impl SkipDays {
             self.place = place.saturating_add(1);
             if place > 31 {
                 self.first = self.months.next();
-                self.place = 1;
+                self.place = 0;
                 continue;
             }
             if let Some(day) = landed(&self.rule, first, place, self.skip) {
@@ -221,8 +269,13 @@ fn first_period(rule: &Rule, start: NaiveDate) -> NaiveDate {
     }
 }
 
-// The day at a place of a month, if the rule names it; where SKIP puts it, if the month lacks it.
+// The day at a place of a month, if the rule names it; where SKIP puts it, if the month lacks it. The place 0 is the day before the month.
 fn landed(rule: &Rule, first: NaiveDate, place: u32, skip: Skip) -> Option<NaiveDate> {
+    match skip {
+        Skip::Backward if place == 0 && lacks_from_end(rule, first) => return first.pred_opt(),
+        Skip::Forward if place == 1 && lacks_from_end(rule, first) => return Some(first),
+        _ => {}
+    }
     if let Some(day) = first.with_day(place) {
         return if rule.on_month_day(day) {
             Some(day)
@@ -236,4 +289,15 @@ fn landed(rule: &Rule, first: NaiveDate, place: u32, skip: Skip) -> Option<Naive
         Skip::Forward if is_named => first.last_day_of_month().succ_opt(),
         _ => None,
     }
+}
+
+// Whether the rule names a place from a month's end that the month lacks.
+fn lacks_from_end(rule: &Rule, first: NaiveDate) -> bool {
+    let length = first.last_day_of_month().day();
+    for place in 29..32 {
+        if place > length && rule.month_days_from_end.contains(place) {
+            return true;
+        }
+    }
+    false
 }

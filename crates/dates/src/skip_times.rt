@@ -21,9 +21,14 @@ pub(crate) struct SkipTimes {
 }
 
 impl SkipTimes {
-    // The instances of a rule from a date-time on.
-    pub(crate) fn new(rule: &TimedRule, skip: Skip, start: NaiveDateTime) -> SkipTimes {
-        let mut days = SkipDays::new(&rule.days, skip, start.date());
+    // The instances of a rule from a date-time on. Those that lie some weeks before `from` are left out.
+    pub(crate) fn new(
+        rule: &TimedRule,
+        skip: Skip,
+        start: NaiveDateTime,
+        from: NaiveDate,
+    ) -> SkipTimes {
+        let mut days = SkipDays::new(&rule.days, skip, start.date(), from);
         let day = days.next();
         let time = start.time();
         let times = DayTimes {

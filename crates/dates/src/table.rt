@@ -94,11 +94,12 @@ fn program<'a>(commands: &'a [&'static CommandRow]) -> Program<'a> {
 
 // What stands at the end of the help.
 const MORE: &str = "A DAY is a calendar date, an ordinal date or a week date, as 2024-02-29,\n\
-    2024-060 and 2024-W09-4, also without hyphens; or 'Feb 29, 2024', '29 Feb 2024'\n\
-    or '#738945'. It is printed by its three dates, its weekday, its number from\n\
-    1 January of year 1, which is 1, and the days since 1970-01-01. A date-time has\n\
-    T or a blank and a time behind it, as 2024-02-29T04:30, and maybe an offset, as\n\
-    Z or +01:00; @1709208000 is one by the seconds since 1970.\n\
+    2024-060 and 2024-W09-4, the first and the last also as 20240229 and 2024W094;\n\
+    or 'Feb 29, 2024', '29 Feb 2024' or '#738945'. It is printed by its three dates,\n\
+    its weekday, its number from 1 January of year 1, which is 1, and the days since\n\
+    1970-01-01. A date-time has T or a blank and a time behind it, as\n\
+    2024-02-29T04:30, and maybe an offset, as Z or +01:00; @1709208000 is one by the\n\
+    seconds since 1970.\n\
     \n\
     Where DAY is - or left out, most commands answer each line of standard input.\n\
     dates alone, add, diff, first, format, in, last, open, roll, week and weekday do\n\

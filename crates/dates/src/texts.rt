@@ -10,8 +10,8 @@ use chrono_stamps::parse_from_iso8601;
 use chrono_text::{Text, byte_place, read_decimal};
 use std::str::from_utf8;
 
-// The day that a text names by its calendar date, its ordinal date or its week date, with hyphens or without, or by its calendar date with
-// slashes; else what is wrong by the form that it has.
+// The day that a text names by its calendar date, its ordinal date or its week date, the first and the last also without hyphens, or by its
+// calendar date with slashes; else what is wrong by the form that it has.
 pub(crate) fn read_day(text: &[u8]) -> Result<NaiveDate, ReadError> {
     let other = match read_hyphened(text) {
         Err(error) if error.cause == ReadCause::NotThisForm => error,
@@ -33,7 +33,6 @@ pub(crate) fn read_day(text: &[u8]) -> Result<NaiveDate, ReadError> {
 fn hyphened(text: &[u8]) -> Joined {
     let marks = match text.len() {
         7 if byte_at(text, 4) == b'W' => "dddd-ddd-1",
-        7 => "dddd-ddd",
         8 if byte_at(text, 5) == b'W' => "dddddddd-1",
         8 if byte_at(text, 4) == b'W' => "dddd-ddd-d",
         8 => "dddd-dd-dd",
@@ -41,6 +40,12 @@ fn hyphened(text: &[u8]) -> Joined {
         _ => return Joined::new(),
     };
     spread(text, marks)
+}
+
+// Whether a text is a day of seven digits, which may be an ordinal date or a calendar date without a zero, maybe with a time of day.
+pub(crate) fn is_of_seven_digits(text: &[u8]) -> bool {
+    let behind = byte_at(text, 7);
+    leading_digits(text) == 7 && (text.len() == 7 || behind == b'T' || behind == b' ')
 }
 
 // A text with hyphens for its slashes.
@@ -280,8 +285,11 @@ pub(crate) enum Order {
     Month,
 }
 
+// A day behind which its month is named.
+const DAY_AND_MONTH: &str = "%d %B %Y";
+
 // The patterns of days with the name of a month.
-const SPELLED: &[&str] = &["%d %B %Y", "%B %d, %Y", "%B %d %Y", "%A, %d %B %Y"];
+const SPELLED: &[&str] = &[DAY_AND_MONTH, "%B %d, %Y", "%B %d %Y", "%A, %d %B %Y"];
 
 const DAY_FIRST: &[&str] = &["%d.%m.%Y", "%d/%m/%Y", "%d-%m-%Y"];
 
@@ -307,11 +315,55 @@ pub(crate) fn read_written(
             return Ok(start);
         }
     }
-    let found = match read_by_any(SPELLED, text)? {
+    let found = match read_spelled(SPELLED, text)? {
         None => read_in_order(text, order)?,
         found => found,
     };
     found.ok_or(Unreadable::Form(error))
+}
+
+// The day that a text names by the name of its month and by one of these patterns, if it names one.
+fn read_spelled(patterns: &[&str], text: &[u8]) -> Result<Option<Start>, PatternReadError> {
+    if ends_in_year(text) {
+        read_by_any(patterns, text)
+    } else {
+        Ok(None)
+    }
+}
+
+// Whether a text ends in a year that is apart from the day in front of it: four digits, or four or more behind a sign that a blank, a
+// comma or a point parts from the rest.
+fn ends_in_year(text: &[u8]) -> bool {
+    let front = without_digits(text);
+    let digits = text.len().saturating_sub(front.len());
+    let is_year = match front {
+        [.., before, b'+' | b'-'] => digits >= 4 && b" ,.".contains(before),
+        _ => digits == 4,
+    };
+    is_year && has_digit(front)
+}
+
+// What stands in front of the digits at the end of a text.
+fn without_digits(text: &[u8]) -> &[u8] {
+    let mut len: usize = 0;
+    let mut place: usize = 0;
+    for byte in text {
+        place = place.saturating_add(1);
+        if !byte.is_ascii_digit() {
+            len = place;
+        }
+    }
+    text.get(..len).unwrap_or(text)
+}
+
+// Whether a digit stands in a text.
+fn has_digit(text: &[u8]) -> bool {
+    for byte in text {
+        if byte.is_ascii_digit() {
+            return true;
+        }
+    }
+    false
 }
 
 // The day that a text names by numbers in an order, if it names one.
@@ -476,12 +528,29 @@ fn out_of_range() -> ReadError {
 // A text of one day and one time of day: none that can be read has more bytes.
 type Joined = Text<63>;
 
-// The first day of the month that a text names, as `2024-02`.
+// The first day of the month that a text names, as `2024-02` or `Feb 2024`.
 pub(crate) fn read_month(text: &[u8]) -> Result<NaiveDate, ReadError> {
     let mut day = Joined::new();
     day.push_clipped(text);
     day.push_clipped(b"-01");
-    read_date(day.as_bytes())
+    match (read_date(day.as_bytes()), first_of_spelled(text)) {
+        (Err(_), Some(first)) => Ok(first),
+        (read, _) => read,
+    }
+}
+
+// The first day of the month that a text names by its name and its year.
+fn first_of_spelled(text: &[u8]) -> Option<NaiveDate> {
+    if !byte_at(text, 0).is_ascii_alphabetic() {
+        return None;
+    }
+    let mut day = Joined::new();
+    day.push_clipped(b"1 ");
+    day.push_clipped(text);
+    match read_spelled(&[DAY_AND_MONTH], day.as_bytes()) {
+        Ok(Some(start)) => Some(start.local().date()),
+        _ => None,
+    }
 }
 
 /// By what a day or a date-time is moved, back where the number is below 0.

@@ -2,11 +2,12 @@
 
 use crate::prelude::*;
 use crate::rule::{SKIP_ALONE, put_behind};
-use crate::skip::{Skip, cut_skip, goes_with_skip};
+use crate::skip::{Skip, cut_skip, goes_with_skip, skip_fault};
 use crate::skip_times::SkipTimes;
-use calendar_rules::{ClockPart, ClockUnit, TimedRule, TimedRuleError, read_timed_rule};
+use calendar_rules::{ClockPart, ClockUnit, DayTimes, TimedRule, TimedRuleError, read_timed_rule};
 use chrono_datetime::Timelike;
-use chrono_rules::RulePart;
+use chrono_rules::{Frequency, Rule, RuleFault, RulePart};
+use chrono_text::begins_but_for_case;
 use zoned_rules::{Bound, instant_of};
 
 /// Where a rule begins, and by which clock it recurs: that of a zone, or one that is always so far ahead of UTC.
@@ -132,6 +133,25 @@ impl Begin {
         }
     }
 
+    // How many instances lie before an instant, where each comes equally long after the one before. `None` where that is not known.
+    fn passed_before(&self, rule: &TimedRule, from: DateTime<FixedOffset>) -> Option<u64> {
+        if self.zone.is_some() {
+            return None;
+        }
+        let step = seconds_of_step(rule)?;
+        let start = self.instant(self.start)?;
+        if from <= start {
+            return Some(0);
+        }
+        let seconds = from.timestamp().saturating_sub(start.timestamp());
+        let begun = if from.nanosecond() > 0 { 1 } else { 0 };
+        let last = seconds
+            .unsigned_abs()
+            .saturating_add(begun)
+            .saturating_sub(1);
+        Some(last.checked_div(step)?.saturating_add(1))
+    }
+
     // The search for instances: from the start on where the rule counts them, and else from the first that is wanted.
     fn search(
         &self,
@@ -140,15 +160,25 @@ impl Begin {
         local: NaiveDateTime,
         wanted: &Wanted,
     ) -> Search {
+        let from = match rule.bound {
+            Bound::Count(_) => local.date(),
+            _ => wanted.from.naive_local().date(),
+        };
         let skipping = match skip {
             Skip::Omit => None,
-            _ => Some(SkipTimes::new(rule, skip, local)),
+            _ => Some(SkipTimes::new(rule, skip, local, from)),
         };
         let (bound, count, last) = match rule.bound {
-            Bound::Count(count) => {
-                let first = self.first(wanted.added.as_slice());
-                (Bound::Never, u64::from(count), first)
-            }
+            Bound::Count(count) => match self.passed_before(rule, wanted.from) {
+                Some(passed) => {
+                    let left = u64::from(count).saturating_sub(passed);
+                    (Bound::Never, left, Some(wanted.from))
+                }
+                None => {
+                    let first = self.first(wanted.added.as_slice());
+                    (Bound::Never, u64::from(count), first)
+                }
+            },
             bound => (bound, u64::MAX, Some(wanted.from)),
         };
         Search {
@@ -167,6 +197,24 @@ impl Begin {
             _ => asked.print_start(&Start::DateTime(due.naive_local())),
         }
     }
+}
+
+// How many seconds lie from each instance to the next, by a clock that keeps its offset, if a rule has no part but FREQ, INTERVAL and COUNT.
+fn seconds_of_step(rule: &TimedRule) -> Option<u64> {
+    let plain = Rule {
+        interval: rule.days.interval,
+        ..Rule::new(Frequency::Daily)
+    };
+    if rule.days != plain || rule.times != DayTimes::of_start() {
+        return None;
+    }
+    let (unit, interval) = match rule.steps.unit {
+        ClockUnit::Day => (86_400_u64, rule.days.interval),
+        ClockUnit::Hour => (3_600, rule.steps.interval),
+        ClockUnit::Minute => (60, rule.steps.interval),
+        ClockUnit::Second => (1, rule.steps.interval),
+    };
+    Some(unit.saturating_mul(u64::from(interval.max(1))))
 }
 
 // The next instance by a clock so far ahead of UTC after an instant.
@@ -410,6 +458,10 @@ impl Asked<'_> {
 
     // The rule over date-times that a word writes, and where it puts a day that a month does not have.
     fn timed_rule(&mut self, word: Word<'_>, start: &Start) -> Option<(TimedRule, Skip)> {
+        if let Some(why) = skip_fault(word.text.as_bytes()) {
+            self.wrong(word, why);
+            return None;
+        }
         let is_local = !self.words.has("--zone") && !start.has_offset();
         match read_rule_in(self.rt, word.text.as_bytes(), is_local) {
             Ok(Ok((rule, skip))) if goes_together(&rule, skip) => return Some((rule, skip)),
@@ -422,19 +474,22 @@ impl Asked<'_> {
 
     // Ends since a word is no rule over date-times.
     pub(crate) fn wrong_timed_rule(&mut self, word: Word<'_>, error: TimedRuleError) {
+        let text = word.text.as_bytes();
         match error {
+            TimedRuleError::Days(error) if error.fault == RuleFault::Alone && lists_times(text) => {
+                self.wrong(word, ONE_TIME);
+            }
             TimedRuleError::Days(error) if error.part != Some(RulePart::Freq) => {
                 self.wrong_by(word, &error, "; expected a rule as FREQ=DAILY;BYHOUR=9,17");
             }
-            _ => self.wrong(word, why_no_rule(error)),
+            _ => self.wrong(word, why_no_rule(error, text)),
         }
     }
 }
 
 // Whether a rule has what SKIP asks for.
 pub(crate) fn goes_together(rule: &TimedRule, skip: Skip) -> bool {
-    let is_by_days = matches!(rule.steps.unit, ClockUnit::Day);
-    matches!(skip, Skip::Omit) || is_by_days && goes_with_skip(&rule.days)
+    matches!(skip, Skip::Omit) || goes_with_skip(&rule.days)
 }
 
 // The rule over date-times that a text writes, also behind `RRULE:` and with `;` at its end, and what SKIP says. UNTIL of a rule by local
@@ -461,22 +516,71 @@ pub(crate) fn read_rule_in(
     let mut buffer: Vec<u8> = Vec::new(rt.alloc());
     buffer.resize(full.len().saturating_add(1), 0)?;
     match read_timed_rule(full.as_slice(), buffer.as_mut_slice()) {
-        Ok(rule) => Ok(Ok((rule, skip))),
+        Ok(rule) => Ok(Ok((rule, skip.of_rule(&rule.days)))),
         Err(error) => Ok(Err(error)),
     }
 }
 
-// What UNTIL lacks of a time in UTC: the end of its day, and the mark of UTC.
+// What UNTIL lacks of a time in UTC: the mark of UTC.
 fn end_of_until(part: &[u8]) -> &'static [u8] {
     match part.strip_prefix(b"UNTIL=") {
-        Some(value) if value.len() == 8 => b"T235959Z",
         Some(value) if value.len() == 15 => b"Z",
         _ => b"",
     }
 }
 
+// That BYSETPOS counts days, and no times of day.
+const ONE_TIME: &str = "BYSETPOS: goes with one time a day alone";
+
+// Whether a text has a part that begins so.
+fn has_part(text: &[u8], name: &[u8]) -> bool {
+    for part in text.split(|byte| *byte == b';') {
+        if begins_but_for_case(part.strip_prefix(b"RRULE:").unwrap_or(part), name) {
+            return true;
+        }
+    }
+    false
+}
+
+// Whether it lists times of day.
+fn lists_times(text: &[u8]) -> bool {
+    has_part(text, b"BYHOUR=") || has_part(text, b"BYMINUTE=") || has_part(text, b"BYSECOND=")
+}
+
+// Whether UNTIL is a day in it.
+fn ends_by_day(text: &[u8]) -> bool {
+    for part in text.split(|byte| *byte == b';') {
+        if begins_but_for_case(part, b"UNTIL=") {
+            return part.len() == 14;
+        }
+    }
+    false
+}
+
+// Why UNTIL cannot be read.
+fn why_no_until(text: &[u8]) -> &'static str {
+    if has_part(text, b"COUNT=") {
+        "UNTIL: does not go with COUNT"
+    } else if ends_by_day(text) {
+        "UNTIL: a day, but the start has a time; expected a date-time as 20241231T230000Z"
+    } else {
+        "UNTIL: expected a date-time in UTC as 20241231T230000Z, once"
+    }
+}
+
+// Which parts do not go together.
+fn why_not_together(text: &[u8]) -> &'static str {
+    if has_part(text, b"BYSETPOS=") {
+        ONE_TIME
+    } else if has_part(text, b"BYWEEKNO=") {
+        "BYWEEKNO: does not go with HOURLY, MINUTELY and SECONDLY"
+    } else {
+        "BYDAY: a number does not go with HOURLY, MINUTELY and SECONDLY"
+    }
+}
+
 // Why a text is no rule over date-times.
-fn why_no_rule(error: TimedRuleError) -> &'static str {
+fn why_no_rule(error: TimedRuleError, text: &[u8]) -> &'static str {
     match error {
         TimedRuleError::Part(ClockPart::ByHour) => "BYHOUR: there twice, or out of range",
         TimedRuleError::Part(ClockPart::ByMinute) => "BYMINUTE: there twice, or out of range",
@@ -484,9 +588,7 @@ fn why_no_rule(error: TimedRuleError) -> &'static str {
         TimedRuleError::Frequency | TimedRuleError::Days(_) => {
             "FREQ: expected once one of SECONDLY, MINUTELY, HOURLY, DAILY, WEEKLY, MONTHLY and YEARLY"
         }
-        TimedRuleError::Until => "UNTIL: expected a date-time in UTC as 20241231T230000Z, once",
-        TimedRuleError::NotTogether => {
-            "its parts do not go together: HOURLY with days of the year, or BYSETPOS with BYHOUR"
-        }
+        TimedRuleError::Until => why_no_until(text),
+        TimedRuleError::NotTogether => why_not_together(text),
     }
 }

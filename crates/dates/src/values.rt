@@ -18,6 +18,8 @@ pub(crate) struct Reading<'a> {
     pub is_unix: bool,
     /// Whether a time of day may stand alone.
     pub takes_clock: bool,
+    /// Whether a month, as `2024-02` or `Feb 2024`, stands for its first day.
+    pub takes_month: bool,
     /// How many blanks a text may have: one in front of its time of day, or those of the pattern.
     pub blanks: usize,
 }
@@ -72,6 +74,7 @@ impl Reading<'_> {
             order: Order::None,
             is_unix: false,
             takes_clock: false,
+            takes_month: false,
             blanks: 1,
         }
     }
@@ -90,7 +93,18 @@ impl Reading<'_> {
                 Ok(read_named(now, text)?)
             }
             _ if self.is_unix => Ok(read_instant(text)?),
-            _ => read_written(text, self.order, self.takes_clock),
+            _ => self.read_plain(text),
+        }
+    }
+
+    // What a text names without a pattern, a clock or seconds; the first day of a month, where one is taken.
+    fn read_plain(&self, text: &[u8]) -> Result<Start, Unreadable> {
+        let read = read_written(text, self.order, self.takes_clock);
+        match (read, read_month(text)) {
+            (Err(error), Ok(first)) if error.is_other_form() && self.takes_month => {
+                Ok(Start::Day(first))
+            }
+            (read, _) => read,
         }
     }
 
@@ -216,7 +230,7 @@ impl Asked<'_> {
     pub(crate) fn day_or_command(&mut self, word: Word<'_>) -> NaiveDate {
         match self.reading.read(word.text.as_bytes()) {
             Ok(start) if start.is_day() => return start.local().date(),
-            Err(error) if !error.is_other_form() || has_order(word.text.as_bytes()) => {
+            Err(error) if !error.is_other_form() || hint_of(word.text.as_bytes()).is_some() => {
                 self.unread(word, error, "")
             }
             _ => self.no_command(word),

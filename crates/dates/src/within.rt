@@ -113,13 +113,7 @@ impl Asked<'_> {
             self.held = Some(Buffer::new(self.rt.alloc()));
             self.end_by(ANSWERED);
             command.take_line(self, part_of(line, part));
-            match &self.held {
-                Some(held) if self.status != NONE => {
-                    let kept = self.as_written(held.text()?, part_of(line, part));
-                    self.put_answer(kept.text()?.as_bytes(), line, part, written)?
-                }
-                _ => written.extend_from_slice(part_of(line, part))?,
-            }
+            self.put_held(line, part, written)?;
             status = status.max(self.status);
             from = part.end;
         }
@@ -164,6 +158,17 @@ impl Asked<'_> {
             _ => kept.put(answer),
         }
         kept
+    }
+
+    // Puts the answer that is held in the place of a part, or the part as it stands where there is none.
+    fn put_held(&self, line: &[u8], part: Part, written: &mut Vec<u8>) -> io::Result<()> {
+        match &self.held {
+            Some(held) if self.status != NONE => {
+                let kept = self.as_written(held.text()?, part_of(line, part));
+                self.put_answer(kept.text()?.as_bytes(), line, part, written)
+            }
+            _ => Ok(written.extend_from_slice(part_of(line, part))?),
+        }
     }
 
     // Puts an answer in the place of a part. One that a field cannot have as it stands is quoted, and its quotation marks are doubled.

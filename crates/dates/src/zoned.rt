@@ -41,6 +41,37 @@ pub(crate) const IN_ZONES: &str = zones!(
 // The name of the machine's own zone.
 const LOCAL: &str = "local";
 
+// What stands in front of the names of cities in the time zone database.
+const AREAS: &[&str] = &[
+    "Africa",
+    "America",
+    "Antarctica",
+    "Asia",
+    "Atlantic",
+    "Australia",
+    "Europe",
+    "Indian",
+    "Pacific",
+    "America/Argentina",
+    "America/Indiana",
+    "America/Kentucky",
+    "America/North_Dakota",
+    "Arctic",
+];
+
+// Puts a city behind a text as the time zone database writes it: `_` for a blank, and, if it is written small, words with a capital.
+fn put_as_zone(out: &mut Buffer, city: &str, is_small: bool) {
+    let mut begins = true;
+    for character in city.chars() {
+        out.put_char(match character {
+            ' ' => '_',
+            character if begins && is_small => character.to_ascii_uppercase(),
+            character => character,
+        });
+        begins = character == ' ' || character == '_';
+    }
+}
+
 // The zone of a name.
 fn read_zone(rt: &HostRuntime, name: &str) -> Result<OwnedZone, ZoneError> {
     system_database(rt)?.zone(rt, name)
@@ -55,8 +86,33 @@ impl Asked<'_> {
         match read_zone(self.rt, word.text) {
             Ok(zone) => Some(zone),
             Err(error) => {
-                self.wrong_by(word, &error, "");
+                self.no_zone(word, error);
                 None
+            }
+        }
+    }
+
+    // Ends since a word names no zone, and with the zone of that city, if it is one.
+    fn no_zone(&mut self, word: Word<'_>, error: ZoneError) {
+        let mut meant = Buffer::new(self.rt.alloc());
+        if matches!(error, ZoneError::NoSuchZone | ZoneError::NoName) {
+            self.put_city(&mut meant, word.text);
+        }
+        let meant = self.text(&meant);
+        self.wrong_by(word, &error, meant);
+    }
+
+    // Puts the full name of the zone of a city behind a text, if the database has one.
+    fn put_city(&self, out: &mut Buffer, city: &str) {
+        for is_small in [false, true] {
+            for area in AREAS {
+                let mut name = Buffer::new(self.rt.alloc());
+                put!(name, area, "/");
+                put_as_zone(&mut name, city, is_small);
+                let full = name.text().unwrap_or("");
+                if read_zone(self.rt, full).is_ok() {
+                    return put!(out, "; did you mean ", full, "?");
+                }
             }
         }
     }
@@ -152,14 +208,16 @@ impl Asked<'_> {
             self.print_nowhere(&Start::Stamp(stamp), "", PAST);
             return;
         };
+        let name = zone.abbreviation(stamp.timestamp()).unwrap_or("");
         if self.format.is_some() {
-            return self.print_by_pattern(&Start::Stamp(shown));
+            let start = Start::Stamp(shown);
+            let text = self.text_with_name(&start, name);
+            return self.print_text_of(&start, text);
         }
         if self.held.is_some() {
             return self.print(Reply::Stamp(shown));
         }
         let form = self.form;
-        let name = zone.abbreviation(stamp.timestamp()).unwrap_or("");
         self.print_line(&ClockLine { form, shown, name }, ANSWERED);
     }
 }

@@ -18,7 +18,7 @@ mod wrong_line;
 
 pub use between::distance;
 pub use form::OutputForm;
-pub use line::{DayObject, Key, Reply, ReplyLine};
+pub use line::{DayObject, Key, Reply, ReplyLine, key_name};
 pub use moves::moved;
 pub use names::{DayNames, OrdinalName, WeekName};
 pub use parts::{Parts, parts_between};

@@ -274,9 +274,9 @@ impl fmt::Display for DayNumbers {
     }
 }
 
-// The key's text.
+/// Returns the text of the key, such as `open_days`.
 #[tactic(auto, unfolding(crate::specs::Lines::key_text))]
-pub(crate) fn key_name(key: Key) -> &'static str
+pub fn key_name(key: Key) -> &'static str
     ensures { result.now ≡ key_text key }
 {
     match key {

@@ -4,6 +4,7 @@ mod ColumnLemmas
 mod DigitLemmas
 mod FilledLists
 mod FoundNumbers
+mod KnownAnswers
 mod KnownHolidays
 mod ListedInstants
 mod MomentLemmas

@@ -5,6 +5,7 @@ pub mod Holidays
 pub mod NumberSets
 pub mod OpenDayColumns
 pub mod OpenDays
+pub mod OpenDaysWithin
 pub mod Patterns
 pub mod Rules
 pub mod Schedules

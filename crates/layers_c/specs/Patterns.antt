@@ -1,5 +1,5 @@
 -- Patterns and texts by the numbers of C.
-use Rattle.std.specs.Prelude.{◌≡◌, ℕ, ◌-◌, ◌≤◌, nat_le, if◌then◌else◌, false, List, [], ◌∷◌, length, Option, Some, ℤ, pos}
+use Rattle.std.specs.Prelude.{◌≡◌, ℕ, ◌-◌, ◌≤◌, ◌^◌, nat_le, Bool, if◌then◌else◌, false, List, [], ◌∷◌, length, Option, Some, ℤ, pos}
 use Rattle.std.specs.Option.{option_map}
 use Rattle.chrono_datetime.specs.Moment.{Moment, moment}
 use Rattle.chrono_clock.specs.Time.{time_at}
@@ -12,9 +12,13 @@ use Rattle.chrono_pattern.specs.declared.error.PatternFault.TheVariants.{Cut, Un
 use Rattle.chrono_pattern.specs.declared.error.PatternReadError.{PatternReadError}
 use Rattle.chrono_pattern.specs.declared.error.ReadFault.{ReadFault}
 use Rattle.chrono_pattern.specs.declared.error.ReadFault.TheVariants.{Impossible, Invalid, NotEnough, OutOfRange, TooLong, TooShort}
+use Rattle.chrono_pattern.specs.DateParts.{is_present}
+use Rattle.chrono_pattern.specs.NamedParts.{named_parts}
+use Rattle.numbers_c.specs.DateTimes.{numbers_for_c}
 use Rattle.numbers_c.specs.Texts.{overwritten}
 use Rattle.layers_c.specs.Faults.{numbered}
 use Rattle.layers_c.specs.declared.faults.CalendarFault.{CalendarFault}
+use Rattle.layers_c.specs.declared.patterns.CalendarZoned.{CalendarZoned}
 
 -- what can be wrong with a pattern, numbered from 1
 abbrev pub pattern_faults : List PatternFault
@@ -45,6 +49,18 @@ pub record GoesToEnd (text : List ℕ) (fault : CalendarFault) : Type 0 where
 -- the date at midnight, whose text a pattern without a time of day writes
 abbrev pub midnight_of : ℤ → Moment
 midnight_of date = moment date (time_at 0 0 0 0)
+
+-- the three numbers of a local date-time and of how far its clock is ahead of UTC, and those of none
+abbrev pub zoned_numbers : Moment → ℤ → CalendarZoned
+zoned_numbers m x = record { seconds = (numbers_for_c m).seconds; nanos = m.time.fraction; offset = x }
+
+-- the numbers where there is no date-time
+abbrev pub no_zoned_numbers : CalendarZoned
+no_zoned_numbers = record { seconds = pos 0; nanos = 2 ^ 32 - 1; offset = pos 0 }
+
+-- the pattern reads an offset from UTC
+abbrev pub reads_offset : List ℕ → Bool
+reads_offset pattern = is_present (named_parts pattern).offset
 
 -- a text was written over the first bytes
 pub record IsWritten (text before after : List ℕ) (result : ℤ) : Type 0 where

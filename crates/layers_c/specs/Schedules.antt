@@ -36,6 +36,7 @@ sets_from_c a = record {
     nth_weekdays = set_of_digits a.nth_weekdays;
   };
   either = bit_at a.marks 0 == 1;
+  follows_clock = bit_at a.marks 2 == 1;
 }
 
 -- what is found after a moment: the first at which the schedule is due, and none if there is none

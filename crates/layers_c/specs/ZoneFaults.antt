@@ -1,10 +1,10 @@
 -- Why bytes hold no zone, and the numbers that say so.
-use Rattle.std.specs.Prelude.{◌≡◌, ◌+◌, ◌-◌, ◌≤◌, nat_le, if◌then◌else◌, ℕ, ℤ, Bool, true, false, List, [], ◌∷◌, length, codes, Option, Some}
+use Rattle.std.specs.Prelude.{◌≡◌, ◌+◌, ◌-◌, ◌≤◌, ◌==◌, nat_le, if◌then◌else◌, ℕ, ℤ, Bool, true, false, List, [], ◌∷◌, length, codes, Option, Some}
 use Rattle.zone_file.specs.Kinds.{IsKind}
 use Rattle.zone_file.specs.Tables.{IsRowsError}
 use Rattle.zone_file.specs.ZoneFiles.{IsZoneFile}
 use Rattle.zone_file.specs.declared.error.ZoneFileFault.{ZoneFileFault}
-use Rattle.zone_file.specs.declared.error.ZoneFileFault.TheVariants.{NoHeader, UnknownVersion, CutOff, WrongCounts, LeapSeconds, WrongFooter}
+use Rattle.zone_file.specs.declared.error.ZoneFileFault.TheVariants.{NoHeader, UnknownVersion, CutOff, WrongCounts, LeapSeconds, WrongFooter, OtherVersion}
 use Rattle.zone_file.specs.declared.rows.ZoneRowsError.{ZoneRowsError}
 use Rattle.zone_file.specs.declared.rows.ZoneRowsError.TheVariants.{NoRoom, NoRow}
 use Rattle.zone_rule.specs.declared.rule.ZoneRule.{ZoneRule}
@@ -78,9 +78,12 @@ pub record IsReason (bytes : List ℕ) (why : NoZone) : Type 0 where
   pub file : is_of_file bytes ≡ true → IsFileReason bytes why
   pub text : is_of_file bytes ≡ false → IsTextReason bytes why
 
--- what can be wrong with a file, numbered from 1, and with the text of a rule, numbered from 10
+-- what can be wrong with a file, numbered from 1 but for one at the end, and with the text of a rule, numbered from 10
 abbrev pub file_faults : List ZoneFileFault
 file_faults = NoHeader ∷ UnknownVersion ∷ CutOff ∷ WrongCounts ∷ LeapSeconds ∷ WrongFooter ∷ []
+
+abbrev pub file_fault_from_c : ℕ → Option ZoneFileFault
+file_fault_from_c code = if code == 17 then Some OtherVersion else numbered file_faults code
 
 abbrev pub text_faults : List ZoneTextFault
 text_faults = NoName ∷ NoOffset ∷ OffsetOfDay ∷ NoDays ∷ NoChange ∷ []
@@ -91,7 +94,7 @@ row_number place = (if nat_le place 512 then place else 512) + 1
 
 -- a reason by its number and by that of a row
 abbrev pub IsNumberedReason : ℕ → ℕ → NoZone → Type 0
-IsNumberedReason code row (File error) = (numbered file_faults code ≡ Some error.fault) × (row ≡ 0)
+IsNumberedReason code row (File error) = (file_fault_from_c code ≡ Some error.fault) × (row ≡ 0)
 IsNumberedReason code row FirstKind = (code ≡ 7) × (row ≡ 0)
 IsNumberedReason code row (Rows (NoRow place)) = (code ≡ 8) × (row ≡ row_number place)
 IsNumberedReason code row (Rows (NoRoom _)) = (code ≡ 9) × (row ≡ 0)
@@ -122,4 +125,4 @@ zone_fault_texts =
     ∷ codes "the file counts leap seconds" ∷ codes "the footer is wrong" ∷ codes "no local time is named to begin with" ∷ codes "a row names no local time"
     ∷ codes "more than 512 rows" ∷ codes "a name of three letters or more is missing" ∷ codes "an offset is missing" ∷ codes "the offset is a day or more"
     ∷ codes "the days of daylight time are missing" ∷ codes "no day stands there on which the clock is set" ∷ codes "a row does not follow the one before it"
-    ∷ codes "the rule does not go on from the last row" ∷ []
+    ∷ codes "the rule does not go on from the last row" ∷ codes "the two headers name different versions" ∷ []

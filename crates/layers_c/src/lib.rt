@@ -15,6 +15,7 @@ mod holidays;
 mod number_sets;
 mod open_day_columns;
 mod open_days;
+mod open_days_within;
 mod part_end;
 mod pattern_faults;
 mod pattern_words;

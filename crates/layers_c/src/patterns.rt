@@ -2,24 +2,39 @@
 ghost use Rattle.std.specs.Prelude.{◌≡◌, ◌≢◌, ℤ, true, false, Some, None, length};
 ghost use Rattle.chrono_datetime.specs.Days.{IsDate};
 ghost use Rattle.chrono_datetime.specs.Moment.{Moment};
+ghost use Rattle.chrono_instant.specs.Offsets.{moment_ahead};
+ghost use Rattle.chrono_zoned.specs.Zoned.{Zoned};
 ghost use Rattle.chrono_pattern.specs.DateParts.{names_date};
-ghost use Rattle.chrono_pattern.specs.Parses.{IsDateBy, IsMomentBy, IsParseError};
+ghost use Rattle.chrono_pattern.specs.Parses.{IsDateBy, IsMomentBy, IsParseError, IsZonedBy};
 ghost use Rattle.chrono_pattern.specs.Patterns.{IsPattern, pattern_error, pattern_text};
 ghost use Rattle.chrono_pattern.specs.TimeParts.{IsClockTime};
-ghost use Rattle.chrono_pattern.specs.ZonedParts.{names_moment};
+ghost use Rattle.chrono_pattern.specs.ZonedParts.{IsClockZoned, names_moment, names_zoned};
 ghost use Rattle.chrono_pattern.specs.declared.error.PatternReadError.{PatternReadError};
 ghost use Rattle.numbers_c.specs.Answers.{count_or_none, none_number};
 ghost use Rattle.numbers_c.specs.DateTimes.{moment_from_c, numbers_for_c, numbers_or_none};
 ghost use Rattle.numbers_c.specs.Texts.{length_of, overwritten, text_within};
-ghost use Rattle.layers_c.specs.Patterns.{FitsDate, FitsMoment, GoesToEnd, IsWritten, midnight_of, pattern_error_from_c, pattern_line_from_c, read_error_from_c};
+ghost use Rattle.layers_c.specs.Patterns.{FitsDate, FitsMoment, GoesToEnd, IsWritten, midnight_of, no_zoned_numbers, pattern_error_from_c, pattern_line_from_c, read_error_from_c, reads_offset, zoned_numbers};
 
 use crate::faults::CalendarFault;
 use crate::pattern_faults::{pattern_fault, read_fault};
 use crate::pattern_words::pattern_line;
 use chrono_pattern::Pattern;
+use chrono_zoned::{DateTime, FixedOffset};
 use numbers_c::{
     CalendarDateTime, NONE, date_of, date_time_of, number_or_none, numbers_or_none, write_over,
 };
+
+/// A local date-time, and how far its clock is ahead of UTC.
+#[repr(C)]
+#[derive(Clone, Copy)]
+pub struct CalendarZoned {
+    /// The seconds of the local date-time since 1970, rounded down.
+    pub seconds: i64,
+    /// The nanoseconds after them, below 2,000,000,000. The greatest `u32` says that there is none.
+    pub nanos: u32,
+    /// How many seconds the clock is ahead of UTC.
+    pub offset: i32,
+}
 
 // No text that a pattern writes is longer.
 const LONGEST: usize = 1_000;
@@ -159,5 +174,74 @@ pub extern "C" fn calendar_parse_date_time(
             *fault = pattern_fault(pattern, error);
             numbers_or_none(None)
         }
+    }
+}
+
+/// Returns whether bytes are a pattern that reads an offset from UTC, such as by `%z` or `%+`.
+#[unsafe(no_mangle)]
+pub extern "C" fn calendar_pattern_names_offset(pattern: &[u8]) -> bool
+    ensures right { result ≡ true → IsPattern pattern.now × (reads_offset pattern.now ≡ true) }
+    ensures every { IsPattern pattern.now → reads_offset pattern.now ≡ true → result ≡ true }
+{
+    match Pattern::new(pattern) {
+        Ok(checked) => checked.names_offset(),
+        Err(_) => false,
+    }
+}
+
+/// Returns the local date-time with its offset that a text is of, by a pattern. If there is none, fills in what is wrong with the pattern
+/// or with the text.
+#[unsafe(no_mangle)]
+pub extern "C" fn calendar_parse_zoned(
+    pattern: &[u8],
+    text: &[u8],
+    fault: &mut CalendarFault,
+) -> CalendarZoned
+    ensures zoned { result ≢ no_zoned_numbers → (d : Zoned ℤ) × IsClockZoned d × (result ≡ zoned_numbers (moment_ahead d.utc d.zone) d.zone)
+        × IsPattern pattern.now × IsZonedBy pattern.now text.now (moment_ahead d.utc d.zone) d.zone }
+    ensures every { (d : Zoned ℤ) → IsPattern pattern.now → IsClockZoned d
+        → IsZonedBy pattern.now text.now (moment_ahead d.utc d.zone) d.zone → result ≡ zoned_numbers (moment_ahead d.utc d.zone) d.zone }
+    ensures no_pattern { (IsPattern pattern.now → ⊥) → (result ≡ no_zoned_numbers) × (pattern_error_from_c fault.new ≡ pattern_error pattern.now) }
+    ensures fault { result ≡ no_zoned_numbers → IsPattern pattern.now → (e : PatternReadError)
+        × (read_error_from_c fault.new ≡ Some e) × IsParseError names_zoned pattern.now text.now e }
+    ensures pattern_end { (IsPattern pattern.now → ⊥) → GoesToEnd pattern.now fault.new }
+    ensures text_end { result ≡ no_zoned_numbers → IsPattern pattern.now → GoesToEnd text.now fault.new }
+    ensures no_fault { result ≢ no_zoned_numbers → fault.new ≡ fault.old }
+{
+    match Pattern::new(pattern) {
+        Ok(checked) => match checked.parse_zoned(text) {
+            Ok(moment) => zoned_numbers(moment),
+            Err(error) => {
+                *fault = read_fault(text, error);
+                no_zoned_numbers()
+            }
+        },
+        Err(error) => {
+            *fault = pattern_fault(pattern, error);
+            no_zoned_numbers()
+        }
+    }
+}
+
+// The numbers of a date-time with its offset.
+fn zoned_numbers(moment: DateTime<FixedOffset>) -> CalendarZoned
+    ensures { result ≡ zoned_numbers (moment_ahead moment.utc moment.zone) moment.zone }
+{
+    let CalendarDateTime { seconds, nanos } = numbers_or_none(Some(moment.naive_local()));
+    CalendarZoned {
+        seconds,
+        nanos,
+        offset: moment.offset().local_minus_utc(),
+    }
+}
+
+// The numbers of none.
+fn no_zoned_numbers() -> CalendarZoned
+    ensures { result ≡ no_zoned_numbers }
+{
+    CalendarZoned {
+        seconds: 0,
+        nanos: u32::MAX,
+        offset: 0,
     }
 }

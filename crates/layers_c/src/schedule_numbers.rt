@@ -31,7 +31,8 @@ pub struct CalendarSchedule {
     pub last_weekdays: u64,
     /// `d#k`: the `k`-th day of the month with the weekday `d`, as `7 * (k - 1) + d`.
     pub nth_weekdays: u64,
-    /// The digit for 1 says whether one field of days is enough. That for 2 says whether `LW`, the last workday, counts.
+    /// The digit for 1 says whether one field of days is enough. That for 2 says whether `LW`, the last workday, counts. That for 4 says whether
+    /// the schedule follows the clock of a zone.
     pub marks: u64,
 }
 
@@ -50,6 +51,7 @@ pub(crate) fn schedule_of(numbers: &CalendarSchedule) -> Schedule
             weekdays: set_of(numbers.weekdays),
             month_days: month_days_of(numbers),
             either: is_marked(numbers.marks, 0),
+            follows_clock: is_marked(numbers.marks, 2),
         },
     }
 }
@@ -97,20 +99,25 @@ pub(crate) fn numbers_of(schedule: &Schedule) -> CalendarSchedule
         nearest_workdays: digits_of(named.nearest_workdays),
         last_weekdays: digits_of(named.last_weekdays),
         nth_weekdays: digits_of(named.nth_weekdays),
-        marks: marks_of(sets.either, named.last_workday),
+        marks: marks_of(sets.either, named.last_workday, sets.follows_clock),
     }
 }
 
-// The marks of both.
+// The marks of all three.
 #[inline]
-fn marks_of(either: bool, last_workday: bool) -> u64
+fn marks_of(either: bool, last_workday: bool, follows_clock: bool) -> u64
     ensures either { (bit_at result 0 == 1) ≡ either }
     ensures last_workday { (bit_at result 1 == 1) ≡ last_workday }
+    ensures follows_clock { (bit_at result 2 == 1) ≡ follows_clock }
 {
-    match (either, last_workday) {
-        (false, false) => 0,
-        (true, false) => 1,
-        (false, true) => 2,
-        (true, true) => 3,
+    match (either, last_workday, follows_clock) {
+        (false, false, false) => 0,
+        (true, false, false) => 1,
+        (false, true, false) => 2,
+        (true, true, false) => 3,
+        (false, false, true) => 4,
+        (true, false, true) => 5,
+        (false, true, true) => 6,
+        (true, true, true) => 7,
     }
 }

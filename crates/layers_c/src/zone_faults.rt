@@ -4,7 +4,7 @@ ghost use Rattle.numbers_c.specs.Answers.{count_or_none};
 ghost use Rattle.numbers_c.specs.Texts.{length_of, overwritten, text_within};
 ghost use Rattle.zone.specs.Parts.{ZoneParts};
 ghost use Rattle.layers_c.specs.Zones.{HoldsZone, IsPartOf};
-ghost use Rattle.layers_c.specs.ZoneFaults.{IsNumberedReason, IsPlacedReason, IsReason, HasByteWithin, file_faults, row_number, text_faults, zone_fault_texts};
+ghost use Rattle.layers_c.specs.ZoneFaults.{IsNumberedReason, IsPlacedReason, IsReason, HasByteWithin, file_fault_from_c, row_number, text_faults, zone_fault_texts};
 ghost use Rattle.layers_c.specs.Faults.{IsPartEnd, numbered};
 ghost use Rattle.layers_c.specs.declared.zone_bytes.NoZone.{NoZone};
 
@@ -106,7 +106,7 @@ fn row_number(place: usize) -> u32
 
 // The number of what is wrong with a file.
 fn file_code(fault: ZoneFileFault) -> u32
-    ensures { numbered file_faults result ≡ Some fault }
+    ensures { file_fault_from_c result ≡ Some fault }
 {
     match fault {
         ZoneFileFault::NoHeader => 1,
@@ -115,6 +115,7 @@ fn file_code(fault: ZoneFileFault) -> u32
         ZoneFileFault::WrongCounts => 4,
         ZoneFileFault::LeapSeconds => 5,
         ZoneFileFault::WrongFooter => 6,
+        ZoneFileFault::OtherVersion => 17,
     }
 }
 
@@ -154,6 +155,7 @@ fn sentence_of(code: u32) -> Option<&'static str>
         14 => Some("no day stands there on which the clock is set"),
         15 => Some("a row does not follow the one before it"),
         16 => Some("the rule does not go on from the last row"),
+        17 => Some("the two headers name different versions"),
         _ => None,
     }
 }

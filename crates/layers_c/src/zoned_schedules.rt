@@ -4,7 +4,7 @@ ghost use Rattle.chrono_datetime.specs.Moment.{Moment};
 ghost use Rattle.chrono_zoned.specs.Zoned.{ShowsDate};
 ghost use Rattle.numbers_c.specs.DateTimes.{moment_from_c, numbers_or_none};
 ghost use Rattle.zone.specs.Parts.{ZoneParts, zone_offset};
-ghost use Rattle.zoned_cron.specs.Fires.{FollowsClock, as_shown, once_each};
+ghost use Rattle.zoned_cron.specs.Fires.{FollowsClock, as_planned, as_shown};
 ghost use Rattle.layers_c.specs.Schedules.{sets_from_c};
 ghost use Rattle.layers_c.specs.Zones.{HoldsZone};
 ghost use Rattle.layers_c.specs.ZonedSchedules.{IsLastBy, IsLastFiring, IsNextBy, IsNextFiring};

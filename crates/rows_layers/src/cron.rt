@@ -1,9 +1,9 @@
 //! Rows of calls of a schedule.
 //!
-//! A row is `call minutes hours days months weekdays from_end nearest_workdays last_weekdays nth_weekdays last_workday either day second
+//! A row is `call minutes hours days months weekdays from_end nearest_workdays last_weekdays nth_weekdays last_workday marks day second
 //! fraction = number`. The nine sets are numbers whose binary digits are their members. `last_workday` is 1 where the month's last workday
-//! is named, and `either` where a day of the month or a weekday is enough. The start is a day number, a second of the day and the
-//! nanoseconds past it. The calls are:
+//! is named. `marks` is 1 where a day of the month or a weekday is enough, and 2 more where the schedule follows the clock. The start is a
+//! day number, a second of the day and the nanoseconds past it. The calls are:
 //!
 //! - `next` and `prev`, answered by the number of minutes from day 0 to the moment, or by `none` where there is no moment;
 //! - `due` and `never`, answered by 1 or 0;
@@ -159,9 +159,9 @@ fn arguments_of(text: &str) -> Option<(Schedule, NaiveDateTime)> {
     Some((Schedule { sets }, NaiveDateTime::new(date, time)))
 }
 
-// The sets of a schedule, and whether one field of days is enough.
+// The sets of a schedule, whether one field of days is enough, and whether it follows the clock.
 fn sets_of(words: &mut SplitAsciiWhitespace) -> Option<FieldSets> {
-    Some(FieldSets {
+    let mut sets = FieldSets {
         minutes: set_of(words.next()?)?,
         hours: set_of(words.next()?)?,
         days: set_of(words.next()?)?,
@@ -174,8 +174,13 @@ fn sets_of(words: &mut SplitAsciiWhitespace) -> Option<FieldSets> {
             nth_weekdays: set_of(words.next()?)?,
             last_workday: words.next()? == "1",
         },
-        either: words.next()? == "1",
-    })
+        either: false,
+        follows_clock: false,
+    };
+    let marks: u32 = words.next()?.parse().ok()?;
+    sets.either = marks & 1 == 1;
+    sets.follows_clock = marks & 2 == 2;
+    Some(sets)
 }
 
 // The set whose digits a word writes as a number: that for 2^k says whether k is a member.

@@ -42,6 +42,7 @@ respelled f g s e is =
       weekdays = is.weekdays;
       month_days = is.month_days;
       either = is.either;
+      follows_clock = is.follows_clock;
     }
 
 -- ---- a first word that is no field of minutes

@@ -105,8 +105,3 @@ timed_dues_after-first s start m is end due later least =
     (beginning_of_second-earlier m d end.time.second high))
     (ap (is_timed_due s) here ∙ due)
     ∙ ap (λ x. x ∷ filter (is_timed_due s) (seconds_in_a_row (seconds_left m) (second_number_of m +ℤ pos 1))) here
-
--- none is left after the last moment of the calendar
-pub timed_dues_after-end : (s : TimedSchedule) (m : Moment) → m ≡ moment (pos 95_745_399) (time_at 23 59 59 999_999_999) → timed_dues_after s m ≡ []
-unfolding timed_dues_after seconds_in_a_row
-timed_dues_after-end s m end = rw end refl

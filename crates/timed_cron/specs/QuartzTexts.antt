@@ -180,6 +180,7 @@ schedule_of t d years = record {
       weekdays = d.2.numbers;
       month_days = named_by_both d.0.named d.2.named;
       either = false;
+      follows_clock = false;
     };
   };
   seconds = t.0;

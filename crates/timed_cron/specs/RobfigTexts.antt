@@ -75,6 +75,7 @@ robfig_schedule times days either = record {
       weekdays = days.2;
       month_days = no_month_days;
       either = either;
+      follows_clock = false;
     };
   };
   seconds = with_number no_numbers 0;

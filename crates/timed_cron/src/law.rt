@@ -1,14 +1,28 @@
 //! Known moments, and laws of schedules with seconds. Each is a clause of a function that does nothing.
-ghost use Rattle.std.specs.Prelude.{◌≡◌, ◌<◌, ℕ, [], ◌∷◌, true, false, pos};
+ghost use Rattle.std.specs.Prelude.{◌≡◌, ◌<◌, ℕ, [], ◌∷◌, true, false, pos, codes, None};
 ghost use Rattle.chrono_datetime.specs.Moment.{Moment};
 ghost use Rattle.chrono_sets.specs.FiniteSets.{has, numbers};
 ghost use Rattle.chrono_cron.specs.Due.{is_due};
 ghost use Rattle.chrono_cron.specs.KnownSchedules.{known_moment};
 ghost use Rattle.timed_cron.specs.DueSeconds.{NoSecondAfter, NoSecondBefore, NoSecondBetween, is_due_at_second, second_in_minute};
 ghost use Rattle.timed_cron.specs.KnownSeconds.{leap_day_seconds};
+ghost use Rattle.timed_cron.specs.TimedTexts.{IsSixFieldText};
 ghost use Rattle.timed_cron.specs.declared.timed_schedule.TimedSchedule.{TimedSchedule};
 
 use chrono_cron::law::known_schedules;
+
+/// What a text of six fields says: its first word lists the seconds, and the other five are those of a crontab.
+///
+/// `*/20 30 4 * * 5` is due at seconds 0, 20 and 40 of the minute 4:30, in every year. It has fixed times, since neither its minutes nor its hours
+/// begin with `*`. Five words are no such text.
+pub fn known_six_fields()
+    ensures listed { (s : TimedSchedule) → IsSixFieldText (codes "*/20 30 4 * * 5") s → has s.seconds 40 ≡ true }
+    ensures other { (s : TimedSchedule) → IsSixFieldText (codes "*/20 30 4 * * 5") s → has s.seconds 30 ≡ false }
+    ensures minute { (s : TimedSchedule) → IsSixFieldText (codes "*/20 30 4 * * 5") s → has s.schedule.sets.minutes 30 ≡ true }
+    ensures fixed { (s : TimedSchedule) → IsSixFieldText (codes "*/20 30 4 * * 5") s → s.schedule.sets.follows_clock ≡ false }
+    ensures years { (s : TimedSchedule) → IsSixFieldText (codes "*/20 30 4 * * 5") s → s.years ≡ None }
+    ensures five_words { (s : TimedSchedule) → ¬ IsSixFieldText (codes "30 4 * * 5") s }
+{}
 
 /// With second 0 alone a schedule is due exactly where its five fields are.
 pub fn second_zero_is_the_schedule()

@@ -85,6 +85,7 @@ fn schedule_of(
         weekdays: calendar.2.numbers,
         month_days: named_by_both(&calendar.0.named, &calendar.2.named),
         either: false,
+        follows_clock: false,
     };
     TimedSchedule {
         schedule: Schedule { sets },

@@ -121,6 +121,7 @@ fn schedule_of(
         weekdays: days.2,
         month_days: MonthDays::none(),
         either,
+        follows_clock: false,
     };
     TimedSchedule::new(Schedule { sets }, NumberSet::single(0))
 }

@@ -1,13 +1,13 @@
 //! `TimedDues`: the moments at which a schedule with seconds is due, in order.
-ghost use Rattle.std.specs.Prelude.{◌≡◌, ◌≤◌, pos, length, IfSome, IfNone, IsTrue, Some};
+ghost use Rattle.std.specs.Prelude.{◌≡◌, ◌≤◌, length, IfSome, IfNone, IsTrue, Some};
 ghost use Rattle.std.specs.Iterator.{YieldsFirst, item_count};
-ghost use Rattle.chrono_datetime.specs.Moment.{IsBefore, moment};
-ghost use Rattle.chrono_datetime.specs.Time.{IsPlain, time_at};
+ghost use Rattle.chrono_datetime.specs.Moment.{IsBefore};
+ghost use Rattle.chrono_datetime.specs.Time.{IsPlain};
 ghost use Rattle.timed_cron.specs.DueSeconds.{NoSecondAfter, NoSecondBetween, is_timed_due};
 ghost use Rattle.timed_cron.specs.TimedDueLists.{seconds_left, timed_dues_left};
 
 use crate::timed_schedule::TimedSchedule;
-use chrono_datetime::law::{date_times_exist, last_date_time};
+use chrono_datetime::law::date_times_exist;
 use chrono_datetime::{Datelike, LAST_DAY, NaiveDateTime, SECS_PER_DAY, Timelike};
 use std::iter::FusedIterator;
 
@@ -24,7 +24,6 @@ pub struct TimedDues {
     /// The schedule.
     pub schedule: TimedSchedule,
     /// The moment after which the iterator goes on: first the start, then the last moment that it returned.
-    /// It is [`NaiveDateTime::MAX`] once no moment is left.
     pub last: NaiveDateTime,
 }
 
@@ -49,14 +48,12 @@ impl TimedDues {
         ensures none { IfNone result (NoSecondAfter self.old.schedule self.old.last) }
         ensures kept { self.new.schedule ≡ self.old.schedule }
         ensures moved { IfSome result (λ m. self.new.last ≡ m) }
-        // An ended iterator stays ended.
-        ensures ended { IfNone result (self.new.last ≡ moment (pos 95_745_399) (time_at 23 59 59 999_999_999)) }
+        // Without an answer nothing changes, so an ended iterator stays ended.
+        ensures refused { IfNone result (self.new ≡ self.old) }
         ensures steps { YieldsFirst timed_dues_left self.old result self.new }
     {
         date_times_exist(self.last);
         let Some(next) = self.schedule.next_after(self.last) else {
-            let (end, _) = last_date_time();
-            self.last = end;
             return None;
         };
         date_times_exist(next);
@@ -78,7 +75,6 @@ impl Iterator for TimedDues {
     }
 
     /// Returns 0 and, as the upper bound, the number of seconds that begin after the last moment.
-    /// The upper bound is 0 once no moment is left.
     #[inline]
     fn size_hint(&self) -> (usize, Option<usize>)
         ensures value { result ≡ (0, Some (seconds_left self.now.last)) }

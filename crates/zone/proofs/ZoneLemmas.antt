@@ -16,8 +16,8 @@ use Rattle.zone_table.specs.declared.row.Row.{Row}
 use Rattle.zone_table.proofs.LocalTimes.{mapped_after, seconds_rise, starts_rise}
 use Rattle.zone_table.proofs.SequenceLemmas.{IsRising-le, come_by-Come}
 use Rattle.zone_table.proofs.TableLemmas.{offset_after-some}
-use Rattle.zone.specs.Parts.{IsSetBehind, is_behind, last_row, offset_with}
-use Rattle.zone.specs.Private.{KeepsOffset, ShowAlike}
+use Rattle.zone.specs.Parts.{IsSetBehind, KeepsOffset, is_behind, last_row, offset_with}
+use Rattle.zone.specs.Private.{ShowAlike}
 
 -- clocks that show a local time at the same instants have the same offsets there
 pub mapped_alike : (f g : ℤ → ℤ) (l : ℤ) (m : MappedLocalTime ℤ) → ShowAlike f g l → IsMapped f l m → IsMapped g l m
@@ -89,12 +89,12 @@ show_by_rows first rows r l table some keeps near before u =
     (λ (far : (t +ℤ pos 172_800) <ℤ u).
     let near_here = near u in
     let near_row = near t in
-    let kept = keeps t (omega (arith, ints)) (omega (arith, ints)) in (
+    let kept = keeps t (record { from = omega (arith, ints); to = omega (arith, ints) }) in (
       (λ shows. absurd (omega (arith, ints, shows, held, near_row, kept, far, before))),
       (λ shows. absurd (omega (arith, ints, shows, ruled, near_here, far, before))),
     ))
     (λ (soon : u ≤ℤ (t +ℤ pos 172_800)).
-    same_shows (table_offset first rows) (offset_with first rows (Some r)) l u (held ∙ sym (keeps u come soon) ∙ ruled)))
+    same_shows (table_offset first rows) (offset_with first rows (Some r)) l u (held ∙ sym (keeps u (record { from = come; to = soon })) ∙ ruled)))
 
 -- ---- and one that no clock shows before the last row is the rule's
 

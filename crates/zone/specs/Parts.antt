@@ -1,5 +1,5 @@
 -- A zone: rows that each set the offset of a clock, and the rule that goes on behind them (RFC 9636, section 3.3).
-use Rattle.std.specs.Prelude.{◌≡◌, ◌⊎◌, ◌-◌, ◌<◌, ◌==◌, Bool, true, if◌then◌else◌, ℤ, pos, ◌+ℤ◌, ◌<ℤ◌, List, length, Option, Some, None}
+use Rattle.std.specs.Prelude.{◌≡◌, ◌⊎◌, ◌-◌, ◌<◌, ◌==◌, Bool, true, if◌then◌else◌, ℤ, pos, ◌+ℤ◌, ◌≤ℤ◌, List, length, Option, Some, None}
 use Rattle.zone_rule.specs.Rules.{IsSetAt, rule_offset}
 use Rattle.zone_rule.specs.declared.rule.ZoneRule.{ZoneRule}
 use Rattle.zone_table.specs.Sequence.{come_by}
@@ -40,11 +40,21 @@ IsSetBehind rows (Some r) t = (is_behind rows t ≡ true) × IsSetAt r t
 abbrev pub SetsAt : ZoneParts → ℤ → Type 0
 SetsAt z t = BeginsAt z.rows t ⊎ IsSetBehind z.rows z.rule t
 
+-- the second comes in the two days from a row on
+pub record IsSoonAfter (row : Row) (u : ℤ) : Type 0 where
+  pub from : row.second ≤ℤ u
+  pub to : u ≤ℤ (row.second +ℤ pos 172_800)
+
+-- from the row on, and for two days, the rule shows the row's offset
+abbrev pub KeepsOffset : Row → ZoneRule → Type 0
+KeepsOffset row r = (u : ℤ) → IsSoonAfter row u → rule_offset r u ≡ row.offset
+
 -- the rule goes on from a row: "evaluating the TZ string at the time of the last transition should yield the same time type as was
--- specified in the last transition". A type is an offset here. It sets the clock at no second in the two days behind the row
+-- specified in the last transition". A type is an offset here. The rule keeps it for two days, and may set the clock to it again there, at
+-- a second of 64 bits: one that lasts all year ends as the next begins
 pub record GoesOn (row : Row) (r : ZoneRule) : Type 0 where
-  pub agrees : rule_offset r row.second ≡ row.offset
-  pub apart : (v : ℤ) → row.second <ℤ v → IsSetAt r v → (row.second +ℤ pos 172_800) <ℤ v
+  pub keeps : KeepsOffset row r
+  pub counted : (v : ℤ) → IsSoonAfter row v → IsSetAt r v → v ≤ℤ pos 9_223_372_036_854_775_807
 
 -- the rule, if there is one, goes on from the last row, if there is one
 abbrev pub IsJoined : List Row → Option ZoneRule → Type 0

@@ -1,4 +1,6 @@
 //! `ZoneFault`: why rows and a rule make up no zone.
+ghost use Rattle.std.specs.Prelude.{Some};
+ghost use Rattle.zone.specs.FaultTexts.{zone_fault_text};
 
 use std::fmt;
 
@@ -11,11 +13,15 @@ use std::fmt;
 pub enum ZoneFault {
     /// The row at that place, counted from 0, is the first that does not follow the one before it.
     Unordered(usize),
-    /// The rule shows another offset than the last row, or sets the clock within two days behind it.
+    /// The rule shows another offset than the last row in the two days from it on, or sets the clock there past `i64::MAX`.
     NotJoined,
 }
 
 impl fmt::Display for ZoneFault {
+    ghost output = { λ fault. Some (zone_fault_text fault) };
+
+    /// Writes what is wrong, such as `row 7 does not follow the one before it`.
+    #[tactic(auto, unfolding(crate::specs::FaultTexts::zone_fault_text))]
     fn fmt<W: fmt::Write>(&self, f: &mut fmt::Formatter<W>) -> fmt::Result {
         match self {
             ZoneFault::Unordered(place) => write!(

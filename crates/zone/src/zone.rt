@@ -6,7 +6,7 @@ ghost use Rattle.zone_rule.specs.Rules.{rule_offset};
 ghost use Rattle.zone_table.specs.Sequence.{IsRising};
 ghost use Rattle.zone_table.specs.Table.{IsTable, offset_after, row_second, table_offset};
 ghost use Rattle.zone.specs.Parts.{GoesOn, IsFault, IsJoined, IsZone, SetsAt, is_behind, last_row, offset_with, zone_offset};
-ghost use Rattle.zone.specs.Private.{KeepsOffset, KeepsOn, ShowAlike};
+ghost use Rattle.zone.specs.Private.{ShowAlike};
 
 use crate::fault::ZoneFault;
 use chrono_zoned::{FixedOffset, MappedLocalTime, Stretch};
@@ -14,8 +14,8 @@ use std::marker::Model;
 use zone_rule::ZoneRule;
 use zone_table::{Row, first_unordered};
 
-// The rule sets the clock at no second within two days behind the last row.
-const SECS_APART: i64 = 172_800;
+// The rule keeps the offset of the last row for two days.
+const SECS_KEPT: i64 = 172_800;
 
 /// A time zone: the offset before all rows, the rows of its changes, and the rule that goes on behind them.
 ///
@@ -54,7 +54,7 @@ impl<'a> Zone<'a> {
     /// # Errors
     ///
     /// Returns [`ZoneFault::Unordered`] if a row does not follow the one before it. Otherwise returns [`ZoneFault::NotJoined`] if the
-    /// rule shows another offset than the last row, or sets the clock within two days behind it.
+    /// rule does not keep the offset of the last row for two days. It also does so if the rule sets the clock there past `i64::MAX`.
     ///
     /// ```
     /// let zero = FixedOffset::east_opt(0)?;
@@ -171,8 +171,7 @@ fn last_row(rows: &[Row]) -> Option<Row>
 
 // Whether the rule goes on from the last row, or one of the two is missing.
 fn is_joined(rows: &[Row], rule: &Option<ZoneRule>) -> bool
-    ensures joined { IsTrue result ↔ IsJoined rows.now rule.now }
-    ensures keeps { IsTrue result → KeepsOn rows.now rule.now }
+    ensures { IsTrue result ↔ IsJoined rows.now rule.now }
 {
     match (rule, last_row(rows)) {
         (Some(rule), Some(row)) => goes_on(row, rule),
@@ -190,16 +189,24 @@ fn offsets_by_rule(rule: &ZoneRule, local: i64) -> MappedLocalTime<FixedOffset>
 
 // Whether the rule goes on from a row.
 fn goes_on(row: Row, rule: &ZoneRule) -> bool
-    ensures on { IsTrue result ↔ GoesOn row rule.now }
-    ensures keeps { IsTrue result → KeepsOffset row rule.now }
+    ensures { IsTrue result ↔ GoesOn row rule.now }
 {
-    if rule.offset_of_instant(row.second) != row.offset {
-        return false;
+    let mut at = row.second;
+    let mut left = SECS_KEPT;
+    while rule.offset_of_instant(at) == row.offset {
+        let Some(wait) = rule.seconds_to_change(at) else {
+            return true;
+        };
+        if left < wait {
+            return true;
+        }
+        let Some(next) = at.checked_add(wait) else {
+            return false;
+        };
+        at = next;
+        left -= wait;
     }
-    match rule.seconds_to_change(row.second) {
-        Some(wait) => SECS_APART < wait,
-        None => true,
-    }
+    false
 }
 
 // Whether all rows have begun by the second.
@@ -216,7 +223,7 @@ fn is_behind(rows: &[Row], second: i64) -> bool
 // Whether no clock shows the local second before the last row: neither that of the rows nor the rule's.
 fn is_local_behind(first: FixedOffset, rows: &[Row], rule: &ZoneRule, local: i64) -> bool
     requires table { IsTable first rows.now }
-    requires keeps { 0 < length rows.now → KeepsOffset (last_row rows.now) rule.now }
+    requires keeps { 0 < length rows.now → GoesOn (last_row rows.now) rule.now }
     ensures rule { IsTrue result → ShowAlike (rule_offset rule.now) (offset_with first rows.now (Some rule.now)) local }
     ensures rows { IsFalse result → ShowAlike (table_offset first rows.now) (offset_with first rows.now (Some rule.now)) local }
 {

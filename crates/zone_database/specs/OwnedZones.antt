@@ -38,6 +38,22 @@ pub record IsZoneOfFile (bytes : List ℕ) (zone : ZoneParts) : Type 0 where
   pub rows : AreFileRows version times places kinds (length places) zone.rows
   pub rule : IsFooterOf footer zone.rule
 
+-- The bytes are those of a TZif file. The zone has the offset of its kind 0 at first, and its rows, and no rule.
+pub record IsRowsOfFile (bytes : List ℕ) (zone : ZoneParts) : Type 0 where
+  pub version : ℕ
+  pub times : List ℕ
+  pub places : List ℕ
+  pub kinds : List ℕ
+  pub names : List ℕ
+  pub footer : List ℕ
+  pub file : IsZoneFile bytes version times places kinds names footer
+  pub is_dst : Bool
+  pub first_name : List ℕ
+  pub first : IsKind kinds names 0 zone.first is_dst first_name
+  pub count : length zone.rows ≡ length places
+  pub rows : AreFileRows version times places kinds (length places) zone.rows
+  pub no_rule : zone.rule ≡ None
+
 -- the zone is the rule that the text writes, with no row
 pub record IsZoneOfText (text : List ℕ) (zone : ZoneParts) : Type 0 where
   pub rule : ZoneRule
@@ -60,6 +76,12 @@ pub record IsFileWith (bytes : List ℕ) (P : ℕ → List ℕ → List ℕ → 
 pub record IsFaultyFile (bytes : List ℕ) (fault : ZoneFault) : Type 0 where
   pub zone : ZoneParts
   pub held : IsZoneOfFile bytes zone
+  pub faulty : IsFault zone fault
+
+-- the rows that the bytes hold have the fault
+pub record AreFaultyRows (bytes : List ℕ) (fault : ZoneFault) : Type 0 where
+  pub zone : ZoneParts
+  pub held : IsRowsOfFile bytes zone
   pub faulty : IsFault zone fault
 
 -- the row k is none
@@ -92,6 +114,20 @@ IsFileError bytes NoName = ⊥
 IsFileError bytes NoSuchZone = ⊥
 IsFileError bytes (Unread _) = ⊥
 IsFileError bytes LongFile = ⊥
+
+-- why bytes hold no rows, where memory may be short
+abbrev pub IsRowsFileError : List ℕ → ZoneError → Type 0
+IsRowsFileError bytes (File _) = (version : ℕ) (times places kinds names footer : List ℕ) → ¬ IsZoneFile bytes version times places kinds names footer
+IsRowsFileError bytes NoFirstKind =
+    IsFileWith bytes (λ version times places kinds names footer. (first : ℤ) (is_dst : Bool) (name : List ℕ) → ¬ IsKind kinds names 0 first is_dst name)
+IsRowsFileError bytes (NoRow k) = IsFileWith bytes (λ version times places kinds names footer. IsNoRow version times places kinds k)
+IsRowsFileError bytes (Rule _) = ⊥
+IsRowsFileError bytes (Zone fault) = AreFaultyRows bytes fault
+IsRowsFileError bytes OutOfMemory = Unit {0}
+IsRowsFileError bytes NoName = ⊥
+IsRowsFileError bytes NoSuchZone = ⊥
+IsRowsFileError bytes (Unread _) = ⊥
+IsRowsFileError bytes LongFile = ⊥
 
 -- why a text holds no zone, where memory may be short
 abbrev pub IsTextError : List ℕ → ZoneError → Type 0

@@ -1,4 +1,6 @@
 //! `ZoneError`: why there is no zone.
+ghost use Rattle.std.specs.Prelude.{◌≡◌};
+ghost use Rattle.zone_database.specs.ErrorTexts.{file_fault_text, text_fault_text, zone_error_text};
 
 use std::alloc::AllocError;
 use std::{fmt, io};
@@ -49,6 +51,10 @@ impl From<AllocError> for ZoneError {
 }
 
 impl fmt::Display for ZoneError {
+    ghost output = { λ error. zone_error_text error };
+
+    /// Writes one line, such as `its rule at byte 3: an offset is missing`.
+    #[tactic(auto, unfolding(crate::specs::ErrorTexts::zone_error_text))]
     fn fmt<W: fmt::Write>(&self, f: &mut fmt::Formatter<W>) -> fmt::Result {
         match *self {
             ZoneError::NoName => f.write_str("no time zone has such a name"),
@@ -56,13 +62,13 @@ impl fmt::Display for ZoneError {
             ZoneError::Unread(error) => write!(f, "it cannot be read: {error}"),
             ZoneError::LongFile => f.write_str("its file has more than 1 MiB"),
             ZoneError::File(error) => {
-                let fault = file_fault(error.fault);
+                let fault = file_fault_text(error.fault);
                 write!(f, "its file at byte {}: {fault}", error.byte)
             }
             ZoneError::NoFirstKind => f.write_str("its file names no local time to begin with"),
             ZoneError::NoRow(place) => write!(f, "its file names no local time in row {place}"),
             ZoneError::Rule(error) => {
-                let fault = rule_fault(error.fault);
+                let fault = text_fault_text(error.fault);
                 write!(f, "its rule at byte {}: {fault}", error.byte)
             }
             ZoneError::Zone(fault) => write!(f, "{fault}"),
@@ -72,7 +78,10 @@ impl fmt::Display for ZoneError {
 }
 
 // What is wrong with a file.
-fn file_fault(fault: ZoneFileFault) -> &'static str {
+#[tactic(auto, unfolding(crate::specs::ErrorTexts::file_fault_text))]
+fn file_fault_text(fault: ZoneFileFault) -> &'static str
+    ensures { result.now ≡ file_fault_text fault }
+{
     match fault {
         ZoneFileFault::NoHeader => "no header of a TZif file stands there",
         ZoneFileFault::UnknownVersion => "an unknown version",
@@ -80,11 +89,15 @@ fn file_fault(fault: ZoneFileFault) -> &'static str {
         ZoneFileFault::WrongCounts => "the header's counts are wrong",
         ZoneFileFault::LeapSeconds => "it counts leap seconds",
         ZoneFileFault::WrongFooter => "the footer is wrong",
+        ZoneFileFault::OtherVersion => "the two headers name different versions",
     }
 }
 
 // What is wrong with the text of a rule.
-fn rule_fault(fault: ZoneTextFault) -> &'static str {
+#[tactic(auto, unfolding(crate::specs::ErrorTexts::text_fault_text))]
+fn text_fault_text(fault: ZoneTextFault) -> &'static str
+    ensures { result.now ≡ text_fault_text fault }
+{
     match fault {
         ZoneTextFault::NoName => "a name is missing",
         ZoneTextFault::NoOffset => "an offset is missing",

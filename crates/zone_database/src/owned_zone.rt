@@ -1,9 +1,9 @@
 //! `OwnedZone`: a zone with the memory for its rows and names.
-ghost use Rattle.std.specs.Prelude.{◌≡◌, Option, IfErr, IfNone, IfOk, IfSome, codes, length};
+ghost use Rattle.std.specs.Prelude.{◌≡◌, Option, None, IfErr, IfNone, IfOk, IfSome, codes, length};
 ghost use Rattle.zone_file.specs.Tables.{AreFileRows};
 ghost use Rattle.zone_rule.specs.declared.rule.ZoneRule.{ZoneRule};
 ghost use Rattle.zone.specs.Parts.{IsFault, IsZone};
-ghost use Rattle.zone_database.specs.OwnedZones.{IsFileError, IsFooterOf, IsOwnedRowsError, IsTextError, IsZoneOfFile, IsZoneOfText};
+ghost use Rattle.zone_database.specs.OwnedZones.{IsFileError, IsFooterOf, IsOwnedRowsError, IsRowsFileError, IsRowsOfFile, IsTextError, IsZoneOfFile, IsZoneOfText};
 
 use crate::error::ZoneError;
 use std::alloc::Allocator;
@@ -47,7 +47,8 @@ impl<A: Allocator> OwnedZone<A> {
     /// # Errors
     ///
     /// Returns an error if the bytes are no TZif file, if a row names no kind of local time, or if rows and rule make up no zone.
-    /// Each error is what it says, so no good file is refused unless memory is short.
+    /// Each error is what it says, so no good file is refused unless memory is short. [`from_tzif_rows`](OwnedZone::from_tzif_rows) reads
+    /// the rows of a file whose rule does not go on from them.
     ///
     /// ```
     /// let mut bytes = Vec::new(rt.alloc());
@@ -66,6 +67,37 @@ impl<A: Allocator> OwnedZone<A> {
             first,
             rows,
             rule,
+            source: bytes,
+            is_file: true,
+        })
+    }
+
+    /// Returns the zone of the rows of a TZif file alone. The footer is not looked at, and the last row's offset holds for ever.
+    ///
+    /// It is for a file that [`from_tzif`](OwnedZone::from_tzif) refuses since its rule does not go on from its last row. RFC 9636, section
+    /// 3.3, asks for that. `zic -b slim` writes such a file of `America/Ojinaga`.
+    ///
+    /// # Errors
+    ///
+    /// Returns an error if the bytes are no TZif file, if a row names no kind of local time, or if a row does not follow the one before it.
+    ///
+    /// ```
+    /// let mut bytes = Vec::new(rt.alloc());
+    /// bytes.push(b'?').ok()?;
+    /// OwnedZone::from_tzif_rows(rt.alloc(), bytes).err() // Some(File(ZoneFileError { fault: CutOff, byte: 0 }))
+    /// ```
+    pub fn from_tzif_rows(alloc: A, bytes: Vec<u8, A>) -> Result<OwnedZone<A>, ZoneError>
+        ensures read { IfOk result (λ zone. IsRowsOfFile bytes.items zone) }
+        ensures error { IfErr result (IsRowsFileError bytes.items) }
+    {
+        let (first, rows) = first_and_rows(alloc, bytes.as_slice())?;
+        if let Some(fault) = fault_of(first, rows.as_slice(), &None) {
+            return Err(ZoneError::Zone(fault));
+        }
+        Ok(OwnedZone {
+            first,
+            rows,
+            rule: None,
             source: bytes,
             is_file: true,
         })
@@ -182,6 +214,9 @@ impl<A: Allocator> OwnedZone<A> {
         if !self.is_file {
             return source;
         }
+        if self.rule.is_none() {
+            return b"";
+        }
         match zone_file::read(source) {
             Ok(file) => file.footer,
             Err(_) => b"",
@@ -207,7 +242,7 @@ impl<A: Allocator> OwnedZone<A> {
             return None;
         };
         let begun = rows_begun(self.rows.as_slice(), second);
-        if begun == file.places.len() && !file.footer.is_empty() {
+        if begun == file.places.len() && self.rule.is_some() {
             return kind_of_text(file.footer, second);
         }
         if begun == 0 {
@@ -267,6 +302,26 @@ fn parts_of_file<A: Allocator>(
     };
     let rows = rows_of_file(alloc, &file, kind.offset)?;
     Ok((kind.offset, rows, rule))
+}
+
+// The offset at first and the rows of the bytes of a file.
+fn first_and_rows<A: Allocator>(
+    alloc: A,
+    bytes: &[u8],
+) -> Result<(FixedOffset, Vec<Row, A>), ZoneError>
+    ensures read { IfOk result (λ it. IsRowsOfFile bytes.now (record { first = it.0; rows = it.1.items; rule = None })) }
+    ensures error { IfErr result (IsRowsFileError bytes.now) }
+{
+    let file = match zone_file::read(bytes) {
+        Ok(file) => file,
+        Err(error) => return Err(ZoneError::File(error)),
+    };
+    let offset = match file.kind(0) {
+        Some(kind) => kind.offset,
+        None => return Err(ZoneError::NoFirstKind),
+    };
+    let rows = rows_of_file(alloc, &file, offset)?;
+    Ok((offset, rows))
 }
 
 // The rows of a file. Until they are read, the offset stands in them.

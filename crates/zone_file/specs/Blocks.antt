@@ -6,22 +6,27 @@ use Rattle.std.specs.Int.{from_be_bytes, w32}
 abbrev pub count_in : ℕ → List ℕ → ℕ
 count_in at header = from_be_bytes w32 (take 4 (drop at header))
 
--- how many indicators of UT and of standard time, leap seconds, times and kinds of local time there are, and bytes of names
+-- how many indicators of UT a header counts
 abbrev pub ut_count : List ℕ → ℕ
 ut_count header = count_in 20 header
 
+-- how many indicators of standard time
 abbrev pub standard_count : List ℕ → ℕ
 standard_count header = count_in 24 header
 
+-- how many leap seconds
 abbrev pub leap_count : List ℕ → ℕ
 leap_count header = count_in 28 header
 
+-- how many times of changes
 abbrev pub time_count : List ℕ → ℕ
 time_count header = count_in 32 header
 
+-- how many kinds of local time
 abbrev pub kind_count : List ℕ → ℕ
 kind_count header = count_in 36 header
 
+-- how many bytes of names
 abbrev pub name_bytes : List ℕ → ℕ
 name_bytes header = count_in 40 header
 

@@ -18,6 +18,8 @@ pub enum ZoneFileFault {
     LeapSeconds,
     /// The file goes on, but not with a text between newlines that ends it.
     WrongFooter,
+    /// The second header has another version than the first.
+    OtherVersion,
 }
 
 /// Why bytes are no TZif file, and where.

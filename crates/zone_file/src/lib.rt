@@ -18,6 +18,7 @@
 mod block;
 mod error;
 mod kinds;
+pub mod law;
 mod rows;
 mod zone_file;
 

@@ -29,8 +29,8 @@ pub struct ZoneFile<'a> {
 
 /// Reads the parts of a TZif file of version 1 to 4 (RFC 9636).
 ///
-/// Of a file of a later version than 1, the parts are those of its second block, with times of 64 bits. The kinds, the names and
-/// the text of the footer are not looked into.
+/// Of a file of a later version than 1, the parts are those of its second block, with times of 64 bits. Both blocks name the same
+/// version. The kinds, the names and the text of the footer are not looked into.
 ///
 /// If `bytes` are no such file, returns what is wrong first, and where. A file with leap seconds is an error, since its seconds are
 /// not those of POSIX. The contract does not say which fault is named.
@@ -80,7 +80,7 @@ fn first_version(bytes: &[u8]) -> Result<ZoneFile<'_>, ZoneFileError>
         × (it.kinds.now ≡ kinds) × (it.names.now ≡ names) × (it.footer.now ≡ footer)) }
     ensures error { IfErr result (λ e. e.byte ≤ length bytes.now) }
 {
-    let block = read_data_block(bytes, bytes, 4)?;
+    let block = read_data_block(bytes, bytes, 4, 0)?;
     if !block.rest.is_empty() {
         return Err(error_at(ZoneFileFault::WrongFooter, bytes, block.rest));
     }
@@ -101,14 +101,14 @@ fn later_version<'a>(
     bytes: &'a [u8],
     version: u8,
 ) -> Result<ZoneFile<'a>, ZoneFileError>
-    ensures read { IfOk result (λ it. IsLaterVersion bytes.now it.times.now it.places.now it.kinds.now it.names.now it.footer.now) }
+    ensures read { IfOk result (λ it. IsLaterVersion version bytes.now it.times.now it.places.now it.kinds.now it.names.now it.footer.now) }
     ensures version { IfOk result (λ it. it.version ≡ version) }
-    ensures every { (times places kinds names footer : List ℕ) → IsLaterVersion bytes.now times places kinds names footer
+    ensures every { (times places kinds names footer : List ℕ) → IsLaterVersion version bytes.now times places kinds names footer
         → IsOkAnd result (λ it. (it.version ≡ version) × (it.times.now ≡ times) × (it.places.now ≡ places)
         × (it.kinds.now ≡ kinds) × (it.names.now ≡ names) × (it.footer.now ≡ footer)) }
     ensures error { IfErr result (λ e. e.byte ≤ length whole.now) }
 {
-    let block = read_data_block(whole, bytes, 8)?;
+    let block = read_data_block(whole, bytes, 8, version)?;
     let Some(footer) = footer_text(block.rest) else {
         return Err(error_at(ZoneFileFault::WrongFooter, whole, block.rest));
     };
@@ -122,20 +122,24 @@ fn later_version<'a>(
     })
 }
 
-// The block in front of the end of a file, if a file may have its counts.
+// The block in front of the end of a file, if it is of the version and a file may have its counts.
 fn read_data_block<'a>(
     whole: &[u8],
     bytes: &'a [u8],
     size: usize,
+    version: u8,
 ) -> Result<Block<'a>, ZoneFileError>
     requires { size ≤ 8 }
-    ensures read { IfOk result (λ b. IsDataBlock size bytes.now b.times.now b.places.now b.kinds.now b.names.now b.rest.now) }
-    ensures every { (times places kinds names rest : List ℕ) → IsDataBlock size bytes.now times places kinds names rest
+    ensures read { IfOk result (λ b. IsDataBlock size version bytes.now b.times.now b.places.now b.kinds.now b.names.now b.rest.now) }
+    ensures every { (times places kinds names rest : List ℕ) → IsDataBlock size version bytes.now times places kinds names rest
         → IsOkAnd result (λ b. (b.times.now ≡ times) × (b.places.now ≡ places)
         × (b.kinds.now ≡ kinds) × (b.names.now ≡ names) × (b.rest.now ≡ rest)) }
     ensures error { IfErr result (λ e. e.byte ≤ length whole.now) }
 {
     let block = read_block(whole, bytes, size)?;
+    if block.header[4] != version {
+        return Err(error_at(ZoneFileFault::OtherVersion, whole, bytes));
+    }
     if !are_counts(block.header) {
         return Err(error_at(ZoneFileFault::WrongCounts, whole, bytes));
     }

@@ -1,5 +1,5 @@
 -- Which instants a planned local time takes.
-use Rattle.std.proofs.Common.{true, is_some, ◌≡◌, ◌↔◌, ◌⊎◌, ⊎_elim, inl, inr, ℤ, ◌+ℤ◌, ◌-ℤ◌, ◌≤ℤ◌, ◌<ℤ◌, Option, Some, None, arith, refl, subst, sym, ◌∙◌}
+use Rattle.std.proofs.Common.{true, is_some, ◌≡◌, ◌↔◌, ◌⊎◌, ⊎_elim, inl, inr, ℤ, pos, ◌+ℤ◌, ◌-ℤ◌, ◌≤ℤ◌, ◌<ℤ◌, Option, Some, None, arith, refl, subst, sym, ◌∙◌}
 use Rattle.std.proofs.lemmas.Int.{by_lt_z, ints}
 use Rattle.chrono_instant.specs.Instants.{IsEpochSecond}
 use Rattle.chrono_instant.specs.Offsets.{IsOffset}
@@ -7,12 +7,12 @@ use Rattle.chrono_zoned.specs.declared.mapped_local_time.MappedLocalTime.{Mapped
 use Rattle.chrono_zoned.specs.declared.mapped_local_time.MappedLocalTime.TheVariants.{None as NoInstant, Single, Ambiguous}
 use Rattle.chrono_zoned.specs.Zones.{AreAll, IsAmong, IsMapped, IsOnly, Shows, earliest_of}
 use Rattle.zoned_cron.specs.declared.policy.Fold.{Fold}
-use Rattle.zoned_cron.specs.declared.policy.Fold.TheVariants.{Both, Earlier, Later}
+use Rattle.zoned_cron.specs.declared.policy.Fold.TheVariants.{Both, Earlier, EarlierOfShort, Later}
 use Rattle.zoned_cron.specs.declared.policy.Gap.{Gap}
-use Rattle.zoned_cron.specs.declared.policy.Gap.TheVariants.{FirstAfter, Skip}
+use Rattle.zoned_cron.specs.declared.policy.Gap.TheVariants.{FirstAfter, FirstAfterShort, Skip}
 use Rattle.zoned_cron.specs.declared.policy.Policy.{Policy}
-use Rattle.zoned_cron.specs.Fires.{IsBehindGap, IsFirst, IsGap, IsLast, Takes, TakesShown, TakesSkipped}
-use Rattle.zoned_cron.specs.Private.{EndsGap, IsDated, IsLastIn, TakesDated}
+use Rattle.zoned_cron.specs.Fires.{IsBehindGap, IsFirst, IsFirstOfShort, IsGap, IsLast, IsShortStep, Takes, TakesShown, TakesSkipped}
+use Rattle.zoned_cron.specs.Private.{EndsGap, EndsShortGap, IsDated, IsFirstOrLate, IsLastIn, TakesDated}
 
 -- the values that stand for P's seconds stand for Q's, where the two have the same
 same_all : (P Q : ℤ → Type 0) (found : MappedLocalTime ℤ) → ((u : ℤ) → P u ↔ Q u) → AreAll P (λ u. u) found → AreAll Q (λ u. u) found
@@ -32,10 +32,12 @@ pub shown : (fold : Fold) (ahead : ℤ → ℤ) (l u : ℤ) → TakesShown fold 
 shown Earlier ahead l u h = h.0
 shown Later ahead l u h = h.0
 shown Both ahead l u h = h
+shown EarlierOfShort ahead l u h = h.0
 
 pub behind : (gap : Gap) (ahead : ℤ → ℤ) (l u : ℤ) → TakesSkipped gap ahead l u → IsBehindGap ahead l u
 behind Skip ahead l u h = absurd h
 behind FirstAfter ahead l u h = h
+behind FirstAfterShort ahead l u h = h.0
 
 pub in_gap : (ahead : ℤ → ℤ) (l u : ℤ) → IsBehindGap ahead l u → IsGap ahead l
 in_gap ahead l u h = h.skipped l (omega (arith, ints)) h.later
@@ -53,6 +55,7 @@ pub only_taken : (fold : Fold) (ahead : ℤ → ℤ) (l u : ℤ) → IsOnly (Sho
 only_taken Earlier ahead l u only = ((only u).1 refl, λ v shows. omega (arith, ints, (only v).0 shows))
 only_taken Later ahead l u only = ((only u).1 refl, λ v shows. omega (arith, ints, (only v).0 shows))
 only_taken Both ahead l u only = (only u).1 refl
+only_taken EarlierOfShort ahead l u only = ((only u).1 refl, λ v shows. inl (omega (arith, ints, (only v).0 shows)))
 
 -- where the clock shows a second of dates, and is ahead by an offset, it is so by that offset
 dated : (ahead : ℤ → ℤ) (l o u : ℤ) → IsEpochSecond l → IsOffset o → Shows ahead l u → u ≡ (l -ℤ o) → IsDated ahead u
@@ -137,6 +140,56 @@ taken_both p ahead l x y dates two fold = (
       let each : Shows ahead l u ↔ TakesDated p ahead l u = subst (λ (f : Fold). TakesShown f ahead l u ↔ TakesDated p ahead l u) fold by in
       (λ h. (two.both u).0 (each.1 h), λ e. each.0 ((two.both u).1 e)),
 )
+
+pub late_of_two : (ahead : ℤ → ℤ) (l x y u : ℤ) → AreTwo ahead l x y → IsFirstOfShort ahead l u ↔ IsFirstOrLate x y u
+late_of_two ahead l x y u two = (
+  λ h. ⊎_elim (λ is. inl is)
+      (λ is. inr (is, ⊎_elim (λ le. absurd (omega (arith, ints, is, le, two.order))) (λ late. omega (arith, ints, is, late)) (h.1 x ((two.both x).1 (inl refl)))))
+      ((two.both u).0 h.0),
+  λ h. ⊎_elim
+      (λ is. ((two.both u).1 (inl is), λ v shows. inl (⊎_elim (λ e. omega (arith, ints, e, is)) (λ e. omega (arith, ints, e, is, two.order)) ((two.both v).0 shows))))
+      (λ is. ((two.both u).1 (inr is.0), λ v shows. ⊎_elim (λ e. inr (omega (arith, ints, e, is.0, is.1))) (λ e. inl (omega (arith, ints, e, is.0))) ((two.both v).0 shows)))
+      h,
+)
+
+pub taken_late : (p : Policy) (ahead : ℤ → ℤ) (l x y : ℤ) (found : MappedLocalTime ℤ) → AllDated ahead l → AreTwo ahead l x y → p.fold ≡ EarlierOfShort → AreAll (IsFirstOrLate x y) (λ u. u) found
+    → AreAll (TakesDated p ahead l) (λ u. u) found
+taken_late p ahead l x y found dates two fold are =
+    same_all (IsFirstOrLate x y) (TakesDated p ahead l) found
+    (λ u.
+    let by : TakesShown p.fold ahead l u ↔ TakesDated p ahead l u = by_fold p ahead l x u dates ((two.both x).1 (inl refl)) in
+    let late : IsFirstOfShort ahead l u ↔ TakesDated p ahead l u = subst (λ (f : Fold). TakesShown f ahead l u ↔ TakesDated p ahead l u) fold by in
+    let which = late_of_two ahead l x y u two in
+    (λ h. late.0 (which.1 h), λ h. which.0 (late.1 h)))
+    are
+
+pub taken_behind_short : (p : Policy) (ahead : ℤ → ℤ) {k : ℤ} (l : ℤ) (found : MappedLocalTime ℤ) → AreAll (EndsShortGap ahead k) (λ u. u) found → k ≡ l → IsGap ahead l → p.gap ≡ FirstAfterShort
+    → AreAll (TakesDated p ahead l) (λ u. u) found
+taken_behind_short p ahead {k} l found ends is gap after =
+    let here : AreAll (EndsShortGap ahead l) (λ u. u) found = subst (λ (s : ℤ). AreAll (EndsShortGap ahead s) (λ u. u) found) is ends in
+    same_all (EndsShortGap ahead l) (TakesDated p ahead l) found (λ u. (
+      λ h. (h.0.0, inr (subst (λ (g : Gap). TakesSkipped g ahead l u) (sym after) (h.0.1, h.1))),
+      λ h. let skipped = subst (λ (g : Gap). TakesSkipped g ahead l u) after (if_gap p ahead l u gap h.1) in ((h.0, skipped.0), skipped.1),
+    )) here
+
+pub short_yes : (ahead : ℤ → ℤ) (e x : ℤ) → x ≡ e → IsShortStep ahead e → AreAll (λ u. (u ≡ e) × IsShortStep ahead u) (λ u. u) (Single x)
+short_yes ahead e x same step = λ u. (λ h. h.0 ∙ sym same, λ is. (is ∙ same, subst (λ (y : ℤ). IsShortStep ahead y) (sym (is ∙ same)) step))
+
+pub short_no : (ahead : ℤ → ℤ) (e : ℤ) → ¬ IsShortStep ahead e → AreAll (λ u. (u ≡ e) × IsShortStep ahead u) (λ u. u) NoInstant
+short_no ahead e long = λ u h. long (subst (λ (x : ℤ). IsShortStep ahead x) h.0 h.1)
+
+pub late_both : (x y : ℤ) → x <ℤ y → (x +ℤ pos 10_800) <ℤ y → AreAll (IsFirstOrLate x y) (λ u. u) (Ambiguous x y)
+late_both x y order late = (order, λ u. (λ h. ⊎_elim (λ e. inl e) (λ e. inr e.0) h, λ h. ⊎_elim (λ e. inl e) (λ e. inr (e, late)) h))
+
+pub early_only : (x y : ℤ) → y ≤ℤ (x +ℤ pos 10_800) → AreAll (IsFirstOrLate x y) (λ u. u) (Single x)
+early_only x y le = λ u. (λ h. ⊎_elim (λ e. e) (λ e. absurd (omega (arith, ints, e.1, le))) h, λ e. inl e)
+
+-- of what ends the gap, what does so where the clock is set ahead by little
+pub short_of_one : (ahead : ℤ → ℤ) (k l e x : ℤ) (found : MappedLocalTime ℤ) → k ≡ l → x ≡ e → IsOnly (EndsGap ahead k) e → AreAll (λ u. (u ≡ x) × IsShortStep ahead u) (λ u. u) found
+    → AreAll (EndsShortGap ahead l) (λ u. u) found
+short_of_one ahead k l e x found is same only are =
+    let here : IsOnly (EndsGap ahead l) e = subst (λ (s : ℤ). IsOnly (EndsGap ahead s) e) is only in
+    same_all (λ u. (u ≡ x) × IsShortStep ahead u) (EndsShortGap ahead l) found (λ u. (λ h. ((here u).1 (h.0 ∙ same), h.1), λ h. ((here u).0 h.0 ∙ sym same, h.1))) are
 
 pub taken_skipped : (p : Policy) (ahead : ℤ → ℤ) (l : ℤ) → IsGap ahead l → p.gap ≡ Skip → AreAll (TakesDated p ahead l) (λ u. u) NoInstant
 taken_skipped p ahead l gap skip u h = subst (λ (g : Gap). TakesSkipped g ahead l u) skip (if_gap p ahead l u gap h.1)

@@ -15,10 +15,10 @@ use Rattle.chrono_zoned.proofs.SecondSums.{near}
 use Rattle.chrono_cron.specs.declared.field_sets.FieldSets.{FieldSets}
 use Rattle.chrono_cron.specs.Due.{is_due}
 use Rattle.zoned_cron.specs.declared.policy.Fold.{Fold}
-use Rattle.zoned_cron.specs.declared.policy.Fold.TheVariants.{Both, Earlier, Later}
+use Rattle.zoned_cron.specs.declared.policy.Fold.TheVariants.{Both, Earlier, EarlierOfShort, Later}
 use Rattle.zoned_cron.specs.declared.policy.Policy.{Policy}
 use Rattle.zoned_cron.specs.Fires.{FiresAt, IsBehindGap, IsFirst, IsGap, IsInstant, Takes, TakesShown, as_shown, once_each}
-use Rattle.zoned_cron.proofs.Instants.{AreGaps, AreTwo-mapped, behind, first_of_two, in_gap, last_of_two, only_taken}
+use Rattle.zoned_cron.proofs.Instants.{AreGaps, AreTwo-mapped, behind, first_of_two, in_gap, last_of_two, late_of_two, only_taken}
 use Rattle.zoned_cron.proofs.Windows.{planned_now}
 
 -- ---- a zone of one offset
@@ -151,6 +151,7 @@ two_taken : (fold : Fold) (ahead : ℤ → ℤ) (l a b : ℤ) → IsMapped ahead
 two_taken Earlier ahead l a b h = (l -ℤ a, (first_of_two ahead l (l -ℤ a) (l -ℤ b) (l -ℤ a) (AreTwo-mapped ahead l a b (l -ℤ a) (l -ℤ b) h refl refl)).1 refl)
 two_taken Later ahead l a b h = (l -ℤ b, (last_of_two ahead l (l -ℤ a) (l -ℤ b) (l -ℤ b) (AreTwo-mapped ahead l a b (l -ℤ a) (l -ℤ b) h refl refl)).1 refl)
 two_taken Both ahead l a b h = (l -ℤ a, (h.1 (l -ℤ a)).1 (inl refl))
+two_taken EarlierOfShort ahead l a b h = (l -ℤ a, (late_of_two ahead l (l -ℤ a) (l -ℤ b) (l -ℤ a) (AreTwo-mapped ahead l a b (l -ℤ a) (l -ℤ b) h refl refl)).1 (inl refl))
 
 pub none_missed : (fold : Fold) (ahead : ℤ → ℤ) (l : ℤ) (found : MappedLocalTime ℤ) → IsMapped ahead l found → IsGap ahead l ⊎ ((u : ℤ) × TakesShown fold ahead l u)
 none_missed fold ahead l NoInstant h = inl h

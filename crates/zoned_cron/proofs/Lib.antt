@@ -3,6 +3,7 @@ mod Instants
 mod Windows
 mod TwoStretches
 mod Carried
+mod Corrections
 mod Gaps
 mod Stretches
 mod FirstPlanned

@@ -15,7 +15,7 @@ use Rattle.chrono_zoned.proofs.HeldSecondLemmas.{earlier_second, later_second}
 use Rattle.chrono_cron.specs.declared.field_sets.FieldSets.{FieldSets}
 use Rattle.chrono_cron.specs.Due.{NotDueBefore, NotDueBetween, is_day, is_due, is_minute}
 use Rattle.zoned_cron.specs.declared.policy.Gap.{Gap}
-use Rattle.zoned_cron.specs.declared.policy.Gap.TheVariants.{FirstAfter, Skip}
+use Rattle.zoned_cron.specs.declared.policy.Gap.TheVariants.{FirstAfter, FirstAfterShort, Skip}
 use Rattle.zoned_cron.specs.declared.policy.Policy.{Policy}
 use Rattle.zoned_cron.specs.Fires.{Fires, Takes, TakesSkipped}
 use Rattle.zoned_cron.specs.Private.{CoversBehind, FiresFor, IsAtMost, IsLastIn, TakesDated}
@@ -151,6 +151,13 @@ two_offsets ahead end from change until bound offsets begun holds then long one 
     (λ lt. omega (arith, ints, before, one, holds u late lt))
     (λ ge. omega (arith, ints, before, other, then u ge (omega (arith, ints, before, long)))))
 
+pub one_offset_before : (ahead : ℤ → ℤ) (end from until bound : ℤ) → ((v : ℤ) → IsOffset (ahead v)) → from ≡ (end -ℤ pos 172_800) → HoldsUntil ahead from until → end ≤ℤ until → (end +ℤ ahead from) ≤ℤ bound
+    → (u : ℤ) → u <ℤ end → (u +ℤ ahead u) <ℤ bound
+one_offset_before ahead end from until bound offsets begun holds long one u before =
+    by_lt_z u from
+    (λ early. omega (arith, ints, early, begun, one, near (ahead u) (offsets u), near (ahead from) (offsets from)))
+    (λ late. omega (arith, ints, before, one, holds u late (omega (arith, ints, before, long))))
+
 pub within_day : (ahead : ℤ → ℤ) (end bound : ℤ) → ((v : ℤ) → IsOffset (ahead v)) → bound ≡ (end +ℤ pos 86_400) → (u : ℤ) → u <ℤ end → (u +ℤ ahead u) <ℤ bound
 within_day ahead end bound offsets is u before = omega (arith, ints, is, before, near (ahead u) (offsets u))
 
@@ -169,6 +176,8 @@ before_last s m last is i due =
 later_in_gap : (gap : Gap) (ahead : ℤ → ℤ) (l k u : ℤ) → l ≤ℤ k → k <ℤ (u +ℤ ahead u) → TakesSkipped gap ahead l u → TakesSkipped gap ahead k u
 later_in_gap Skip ahead l k u low high h = h
 later_in_gap FirstAfter ahead l k u low high h = record { later = high; skipped = λ j from end. h.skipped j (omega (arith, ints, low, from)) end; first = h.first }
+later_in_gap FirstAfterShort ahead l k u low high h =
+    (record { later = high; skipped = λ j from end. h.0.skipped j (omega (arith, ints, low, from)) end; first = h.0.first }, h.1)
 
 -- what fires at u is planned for what the clock shows there, or for an earlier time that it skipped
 pub planned_now : (s : FieldSets) (ahead : ℤ → ℤ) (p : Policy) (local : Moment) (u : ℤ) → IsMoment local → local.time.fraction ≡ 0 → epoch_second local ≡ (u +ℤ ahead u) → (f : Fires s ahead p u)

@@ -13,7 +13,7 @@ use Rattle.zoned_cron.specs.declared.policy.Policy.{Policy}
 use Rattle.zoned_cron.specs.declared.schedule.ZonedSchedule.{ZonedSchedule}
 use Rattle.zoned_cron.specs.declared.search.held.Held.{Held}
 use Rattle.zoned_cron.specs.FiringLists.{IsNextFiring}
-use Rattle.zoned_cron.specs.Fires.{FiresAt, IsBehindGap, IsInstant, NotFiringBetween, Takes}
+use Rattle.zoned_cron.specs.Fires.{FiresAt, IsBehindGap, IsInstant, IsShortStep, NotFiringBetween, Takes}
 
 -- the clock shows a date at u, and is ahead by less than a day
 abbrev pub IsDated : (ℤ → ℤ) → ℤ → Type 0
@@ -26,6 +26,14 @@ TakesDated p ahead l u = IsDated ahead u × Takes p ahead l u
 -- there, u is the first instant behind the gap in which l lies
 abbrev pub EndsGap : (ℤ → ℤ) → ℤ → ℤ → Type 0
 EndsGap ahead l u = IsDated ahead u × IsBehindGap ahead l u
+
+-- there, it is so where the clock is set ahead by less than three hours
+abbrev pub EndsShortGap : (ℤ → ℤ) → ℤ → ℤ → Type 0
+EndsShortGap ahead l u = EndsGap ahead l u × IsShortStep ahead u
+
+-- of two instants x and y, u is the first, or the other one if that is more than three hours later
+abbrev pub IsFirstOrLate : ℤ → ℤ → ℤ → Type 0
+IsFirstOrLate x y u = (u ≡ x) ⊎ ((u ≡ y) × ((x +ℤ pos 10_800) <ℤ y))
 
 -- the schedule is due at the local time m, and what is planned for m fires at u
 pub record FiresFor (s : FieldSets) (ahead : ℤ → ℤ) (p : Policy) (m : Moment) (u : ℤ) : Type 0 where

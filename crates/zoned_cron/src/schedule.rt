@@ -24,7 +24,7 @@ use chrono_zoned::{DateTime, InZone, TimeZone};
 /// ```
 /// let schedule = read_schedule(b"30 2 * * *").ok()?;
 /// let zone = FixedOffset::east_opt(3_600)?;
-/// ZonedSchedule::new(schedule, zone, Policy::vixie(&schedule)).policy.fold // Earlier
+/// ZonedSchedule::new(schedule, zone, Policy::vixie(&schedule)).policy.fold // EarlierOfShort
 /// ```
 #[derive(Clone, Copy)]
 pub struct ZonedSchedule<Z: TimeZone> {

@@ -7,7 +7,7 @@ use Rattle.chrono_instant.specs.Instants.{epoch_second}
 use Rattle.zoned_rules.specs.LocalInstants.{HasDates, IsInstantOf}
 use Rattle.zoned_rules.specs.LocalTimes.{LocalParts}
 use Rattle.zoned_rules.specs.Recurs.{RecursFor}
-use Rattle.zoned_rules.specs.Private.{IsListed, IsStoodFor}
+use Rattle.zoned_rules.specs.Private.{IsListedSince, IsStoodFor}
 use Rattle.zoned_rules.proofs.Reached.{listed_of}
 use Rattle.chrono_zoned.proofs.SecondSums.{near}
 use Rattle.zoned_rules.proofs.Standing.{AreOffsets}
@@ -41,7 +41,7 @@ held_local ahead s t l u offsets holds low high (inr h) =
 -- ---- the searches there
 
 -- if the first local time behind a second is l, no instant after that second comes before the one of l
-pub least_held : (r : LocalParts) (ahead : ℤ → ℤ) (s t after from l found : ℤ) → AreOffsets ahead → HoldsUntil ahead s t → (s +ℤ pos 172_800) ≤ℤ after → from ≤ℤ (after +ℤ ahead s +ℤ pos 1) → found ≡ l -ℤ ahead s → found <ℤ t → ((q : Moment) → IsListed r q → from ≤ℤ epoch_second q → l ≤ℤ epoch_second q) → (m : Moment) (u : ℤ) → RecursFor r ahead m u → after <ℤ u → found ≤ℤ u
+pub least_held : (r : LocalParts) (ahead : ℤ → ℤ) (s t after from l found : ℤ) → AreOffsets ahead → HoldsUntil ahead s t → (s +ℤ pos 172_800) ≤ℤ after → from ≤ℤ (after +ℤ ahead s +ℤ pos 1) → found ≡ l -ℤ ahead s → found <ℤ t → ((q : Moment) → IsListedSince r q → from ≤ℤ epoch_second q → l ≤ℤ epoch_second q) → (m : Moment) (u : ℤ) → RecursFor r ahead m u → after <ℤ u → found ≤ℤ u
 least_held r ahead s t after from l found offsets holds low at is high least m u h later =
     by_lt_z u found
     (λ lt.
@@ -50,7 +50,7 @@ least_held r ahead s t after from l found offsets holds low at is high least m u
     (λ ge. ge)
 
 -- if the last local time before one is l, no instant before its own comes after the one of l
-pub greatest_held : (r : LocalParts) (ahead : ℤ → ℤ) (s t end to l found : ℤ) → AreOffsets ahead → HoldsUntil ahead s t → end ≤ℤ t → (end +ℤ ahead s) ≤ℤ to → found ≡ l -ℤ ahead s → (s +ℤ pos 172_800) ≤ℤ found → ((q : Moment) → IsListed r q → epoch_second q <ℤ to → epoch_second q ≤ℤ l) → (m : Moment) (u : ℤ) → RecursFor r ahead m u → u <ℤ end → u ≤ℤ found
+pub greatest_held : (r : LocalParts) (ahead : ℤ → ℤ) (s t end to l found : ℤ) → AreOffsets ahead → HoldsUntil ahead s t → end ≤ℤ t → (end +ℤ ahead s) ≤ℤ to → found ≡ l -ℤ ahead s → (s +ℤ pos 172_800) ≤ℤ found → ((q : Moment) → IsListedSince r q → epoch_second q <ℤ to → epoch_second q ≤ℤ l) → (m : Moment) (u : ℤ) → RecursFor r ahead m u → u <ℤ end → u ≤ℤ found
 greatest_held r ahead s t end to l found offsets holds high at is low greatest m u h earlier =
     by_lt_z found u
     (λ gt.
@@ -59,6 +59,6 @@ greatest_held r ahead s t end to l found offsets holds high at is low greatest m
     (λ le. le)
 
 -- what stands for the instant
-pub held_stood : (r : LocalParts) (ahead : ℤ → ℤ) (s t u : ℤ) (m : Moment) → AreOffsets ahead → HoldsUntil ahead s t → (s +ℤ pos 172_800) ≤ℤ u → u <ℤ t → u ≡ epoch_second m -ℤ ahead s → HasDates ahead u → IsListed r m → IsStoodFor r ahead u
+pub held_stood : (r : LocalParts) (ahead : ℤ → ℤ) (s t u : ℤ) (m : Moment) → AreOffsets ahead → HoldsUntil ahead s t → (s +ℤ pos 172_800) ≤ℤ u → u <ℤ t → u ≡ epoch_second m -ℤ ahead s → HasDates ahead u → IsListedSince r m → IsStoodFor r ahead u
 held_stood r ahead s t u m offsets holds low high is dates h =
-    (m, record { dates = dates; exists = h.exists; listed = h.listed; stands = held_first ahead s t (epoch_second m) u offsets holds low high (omega (arith, ints, is)) })
+    (m, record { dates = dates; exists = h.exists; listed = h.listed; since = h.since; stands = held_first ahead s t (epoch_second m) u offsets holds low high (omega (arith, ints, is)) })

@@ -29,7 +29,7 @@ local_recurs r x u dates from h =
     let start = epoch_second r.start in
     record {
       planned = h.planned;
-      recurs = record { dates = dates; exists = h.exists; listed = h.listed; stands = shown_there x (epoch_second h.planned) u (sym h.second) };
+      recurs = record { dates = dates; exists = h.exists; listed = h.listed; since = omega (arith, ints, from, h.second); stands = shown_there x (epoch_second h.planned) u (sym h.second) };
       begun = λ s there. omega (arith, ints, from, stands_once (λ _. x) start s (start -ℤ x) there (shown_there x start (start -ℤ x) (omega (arith, ints))));
     }
 

@@ -7,11 +7,13 @@ mod CountedUnits
 mod ListedTimes
 mod CandidateDays
 mod WeeklyUnits
+mod SinceStart
 mod Reached
 mod Numbered
 mod InstantLists
 mod PublicCalls
 mod SecondsAgain
 mod Laws
+mod KnownSets
 mod GivenInstances
 mod GivenMembers

@@ -40,6 +40,12 @@ pub record IsListed (r : LocalParts) (m : Moment) : Type 0 where
   pub exists : IsMoment m
   pub listed : is_planned r m ≡ true
 
+-- the same, and it is no earlier than the start by the clock
+pub record IsListedSince (r : LocalParts) (m : Moment) : Type 0 where
+  pub exists : IsMoment m
+  pub listed : is_planned r m ≡ true
+  pub since : epoch_second r.start ≤ℤ epoch_second m
+
 -- a local time of the rule stands for u
 abbrev pub IsStoodFor : LocalParts → (ℤ → ℤ) → ℤ → Type 0
 IsStoodFor r ahead u = (m : Moment) × RecursFor r ahead m u

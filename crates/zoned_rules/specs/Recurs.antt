@@ -13,14 +13,17 @@ use Rattle.zoned_rules.specs.declared.bound.Bound.TheVariants.{Never, Count, Unt
 
 -- The local time `planned` is one of the rule's, and it stands for the instant u. An instance whose local time "does not exist, or occurs more
 -- than once" is "interpreted in the same manner as an explicit DATE-TIME value", which is what `IsInstantOf` says. The same section asks that
--- instances of a "nonexistent local time" be ignored, and so contradicts itself. Here they count.
+-- instances of a "nonexistent local time" be ignored, and so contradicts itself. Here they count. DTSTART is "the start" of the recurrence set: the
+-- local time is no earlier by the clock. So a time that a gap skips before the start is none, though the gap moves it behind the start's instant
 pub record RecursFor (r : LocalParts) (ahead : ℤ → ℤ) (planned : Moment) (u : ℤ) : Type 0 where
   pub dates : HasDates ahead u
   pub exists : IsMoment planned
   pub listed : is_planned r planned ≡ true
+  pub since : epoch_second r.start ≤ℤ epoch_second planned
   pub stands : IsInstantOf ahead (epoch_second planned) u
 
--- the rule recurs at u, if COUNT and UNTIL are left out: one of its local times stands for u, and u is not before the start's instant.
+-- the rule recurs at u, if COUNT and UNTIL are left out: one of its local times from the start on stands for u, and u is not before the start's
+-- instant. The second matters where the clock skips the start: a later local time, behind the gap, may stand for an earlier instant than the start.
 -- Two local times may stand for one instant, since a gap moves one onto another. It is one instant all the same.
 -- DTSTART "always counts as the first occurrence". Here that holds of a start that is one of the rule's local times
 pub record Recurs (r : LocalParts) (ahead : ℤ → ℤ) (u : ℤ) : Type 0 where

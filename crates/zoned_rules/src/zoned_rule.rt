@@ -17,8 +17,8 @@ use chrono_zoned::{DateTime, InZone, TimeZone};
 
 /// A rule in a zone: a rule of local times, the zone whose clock shows them, and COUNT or UNTIL.
 ///
-/// Its instances are the instants that the local times stand for, from the start's instant on. Each is one instance, also where a gap moves
-/// a second local time onto it. A local time of the start's day that is before the start counts if a gap moves it behind the start's instant.
+/// Its instances are the instants that the local times from the start on stand for, from the start's instant on. Each is one instance, also
+/// where a gap moves a second local time onto it. A local time before the start is none, even if a gap moves it behind the start's instant.
 /// The start's instant is an instance only if a local time stands for it.
 #[derive(Clone, Copy)]
 pub struct ZonedRule<Z: TimeZone> {

@@ -5,13 +5,13 @@
  * month, day, week or weekday.
  */
 
-import { closedOf, placeOf, ROLLS } from "./business_calendar.js";
+import { closedOf, otherYear, placeOf, ROLLS } from "./business_calendar.js";
 import { callInPieces, isDetached, readFrom, ROOM_PAGES, same, TEXT, writtenTo } from "./column_room.js";
 import { MODULE } from "./columns_module.js";
 import { instantiate } from "./instantiate.js";
 import { callOnColumns, callOnOpenDays } from "./layers.js";
 import { NONE } from "./library.js";
-import { clipped, integer } from "./numbers.js";
+import { clipped, whole } from "./numbers.js";
 import { PlainDate, setOf } from "./plain_date.js";
 
 /** Stands for no date. */
@@ -66,7 +66,7 @@ function refuseLengths(...columns) {
 }
 
 /** A whole number that moves dates, which is cut to 32 bits: a move beyond them leads to no date. */
-const moveOf = (value, what) => clipped(integer(value, what), -MOST, MOST);
+const moveOf = (value, what) => clipped(whole(value, what), -MOST, MOST);
 
 /** What a function tells of each date, in arrays of some kinds. */
 function asked(dates, choose, ...kinds) {
@@ -243,9 +243,42 @@ export function fromUnixDays(days) {
 
 // ---- open days
 
-/** Whether each element is an open day, as 1 or 0. What is no date is not open. */
+/** The numbers of the first and the last date. */
+const [FIRST_DATE, LAST_DATE] = [-95_746_129, 95_745_399];
+
+const isDate = (number) => FIRST_DATE <= number && number <= LAST_DATE;
+
+/**
+ * Refuses a date of a column by a RangeError, if the calendar has years, and the days that are looked at there do not all lie in them. The
+ * last argument gives the first and the last of these days, of a date and its place.
+ */
+function refuseOtherYears(calendar, dates, lookedAt) {
+  const { years } = closedOf(calendar);
+  if (years === undefined) {
+    return;
+  }
+  const [first, last] = [new PlainDate(years[0], 1, 1).dayNumber, new PlainDate(years[1], 12, 31).dayNumber];
+  for (let place = 0; place < dates.length; place += 1) {
+    const [low, high] = isDate(dates[place]) ? lookedAt(dates[place], place) : [first, last];
+    if (low < first || high > last) {
+      throw otherYear(years);
+    }
+  }
+}
+
+/** The days from a date to another, of which none lies beyond all years. */
+const daysTo = (date, end) => (end === NO_DATE ? [date, Infinity] : [Math.min(date, end), Math.max(date, end)]);
+
+/** The days from one date on and before another, or the other way round; none if they are the same, or the other is no date. */
+const daysBefore = (date, end) => (date === end || !isDate(end) ? [Infinity, -Infinity] : [Math.min(date, end), Math.max(date, end) - 1]);
+
+/**
+ * Whether each element is an open day, as 1 or 0. What is no date is not open. An answer that looks at a year of which the holidays are not
+ * known is a RangeError, here and below.
+ */
 export function isOpen(dates, calendar) {
   const marks = new Uint8Array(datesOf(dates).length);
+  refuseOtherYears(calendar, dates, (date) => [date, date]);
   callOnOpenDays(closedOf(calendar), marks.length, (layers) => layers.calendar_column_is_open_day, readFrom(dates), writtenTo(marks));
   return marks;
 }
@@ -255,6 +288,7 @@ export function addOpenDays(dates, n, calendar) {
   const out = new Int32Array(datesOf(dates).length);
   const days = BigInt(moveOf(n, "open days"));
   callOnOpenDays(closedOf(calendar), out.length, (layers) => layers.calendar_column_add_open_days, readFrom(dates), days, writtenTo(out));
+  refuseOtherYears(calendar, dates, (date, place) => daysTo(date, out[place]));
   return out;
 }
 
@@ -262,6 +296,8 @@ export function addOpenDays(dates, n, calendar) {
 export function openDaysBetween(from, to, calendar) {
   const days = new BigInt64Array(datesOf(from).length);
   const ends = besideOf(from, to);
+  const endOf = to instanceof Int32Array ? (place) => to[place] : () => ends.number;
+  refuseOtherYears(calendar, from, (date, place) => daysBefore(date, endOf(place)));
   callOnOpenDays(closedOf(calendar), days.length, (layers) => layers.calendar_column_open_days_between, readFrom(from), ends, writtenTo(days));
   // (the least number of 64 bits, which stands for no days, becomes that of 32; all others have 32 bits)
   const [halves, out] = [new Int32Array(days.buffer), new Int32Array(days.length)];
@@ -276,5 +312,9 @@ export function roll(dates, name, calendar) {
   const out = new Int32Array(datesOf(dates).length);
   const place = placeOf(name, ROLLS, "roll");
   callOnOpenDays(closedOf(calendar), out.length, (layers) => layers.calendar_column_roll, readFrom(dates), place, writtenTo(out));
+  // (the nearest open day is looked for on both sides)
+  const isNearest = name === "nearestQuantLib";
+  const farther = (date, end) => (isNearest ? daysTo(2 * date - end, end) : daysTo(date, end));
+  refuseOtherYears(calendar, dates, (date, index) => (out[index] === NO_DATE ? daysTo(date, NO_DATE) : farther(date, out[index])));
   return out;
 }

@@ -1,6 +1,6 @@
 /** Durations. */
 
-import { optionsOf, refuseRounding } from "./numbers.js";
+import { optionsOf, refuseRounding, whole } from "./numbers.js";
 import { incrementOf, modeOf, NANOSECONDS, rounded, unitOf } from "./rounding.js";
 
 /** The fields of a duration, from the longest unit on. */
@@ -41,15 +41,6 @@ const BY_FIELDS = Symbol("by fields");
 /** ISO 8601 durations; only seconds have a fraction here. */
 const TEXT =
   /^([+-]?)P(?=\d|T\d)(?:(\d+)Y)?(?:(\d+)M)?(?:(\d+)W)?(?:(\d+)D)?(?:T(?=\d)(?:(\d+)H)?(?:(\d+)M)?(?:(\d+)(?:[.,](\d{1,9}))?S)?)?$/i;
-
-/** A whole number; RangeError for any other value, as Temporal has it for durations. */
-function whole(value, field) {
-  const number = +value;
-  if (!Number.isInteger(number)) {
-    throw new RangeError(`${field} ${value}: no whole number`);
-  }
-  return number + 0;
-}
 
 /** The Number nearest to a fraction of two whole numbers, of which the second is above 0. */
 function nearest(above, below) {

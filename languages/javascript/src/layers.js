@@ -151,7 +151,7 @@ export function dueBetween(schedule, start, until) {
   return Array.from({ length: count }, (_, index) => getMoment(room.view, DUE + MOMENT_SIZE * index));
 }
 
-/** Puts holidays into the room, and answers what a function takes as a calendar. */
+/** Puts holidays into the room, and answers what a function takes as a calendar without years. */
 function putCalendar(room, { weekend, holidays }) {
   holidays.forEach((it, index) => room.view.setInt32(HOLIDAYS + 4 * index, it, true));
   return [weekend, address(room, HOLIDAYS), BigInt(holidays.length)];
@@ -175,33 +175,64 @@ export function holidaysOf(which, firstYear, lastYear, weekend) {
   return count === NONE ? undefined : Int32Array.from({ length: count }, (_, index) => room.view.getInt32(HOLIDAYS + 4 * index, true));
 }
 
+/** The first year of which the holidays of a known calendar are known. */
+export const firstYearOf = (which) => open().layers.calendar_holidays_first_year(which);
+
 /** The number of Easter Sunday of a year; the number of no date if there is no such year. */
 export const easterOf = (year) => open().layers.calendar_easter(year);
 
-/** Whether a date, by its number, is open in a calendar: a set of weekdays, and the numbers of holidays. */
+/**
+ * Whether a date, by its number, is open in a calendar: a set of weekdays, the numbers of holidays, and the years of which these are
+ * known. Undefined if it lies in another year.
+ */
 export function isOpenDay(calendar, date) {
-  const room = open();
-  return room.layers.calendar_is_open_day(...putCalendar(room, calendar), date) !== 0;
+  const found = askedOf(
+    calendar,
+    (layers, ...given) => layers.calendar_is_open_day(...given),
+    (layers, ...given) => layers.calendar_is_open_day_within(...given),
+    date,
+  );
+  return found === NONE ? undefined : Boolean(found);
 }
 
-/** The number of the n-th open day after a date, n being a BigInt; the number of no date if there is none. */
-export function addOpenDays(calendar, date, n) {
+/** What one of two functions answers, of which the second takes the years of a calendar too. */
+function askedOf(calendar, plain, within, ...given) {
   const room = open();
-  return room.layers.calendar_add_open_days(...putCalendar(room, calendar), date, n);
+  const parts = putCalendar(room, calendar);
+  return calendar.years === undefined ? plain(room.layers, ...parts, ...given) : within(room.layers, ...parts, ...calendar.years, ...given);
 }
 
-/** How many days are open from one date on and before another; undefined if the calendar is none. */
+/** The number of the n-th open day after a date, n being a BigInt; the number of no date if there is none, or it looks at another year. */
+export const addOpenDays = (calendar, date, n) =>
+  askedOf(
+    calendar,
+    (layers, ...given) => layers.calendar_add_open_days(...given),
+    (layers, ...given) => layers.calendar_add_open_days_within(...given),
+    date,
+    n,
+  );
+
+/** How many days are open from one date on and before another; undefined if the calendar is none, or one lies in another year. */
 export function openDaysBetween(calendar, from, to) {
-  const room = open();
-  const days = room.layers.calendar_open_days_between(...putCalendar(room, calendar), from, to);
+  const days = askedOf(
+    calendar,
+    (layers, ...given) => layers.calendar_open_days_between(...given),
+    (layers, ...given) => layers.calendar_open_days_between_within(...given),
+    from,
+    to,
+  );
   return days === NO_DAYS ? undefined : Number(days);
 }
 
-/** The number of the date that a date goes to by a roll; the number of no date if there is none. */
-export function rolled(calendar, date, roll) {
-  const room = open();
-  return room.layers.calendar_roll(...putCalendar(room, calendar), date, roll);
-}
+/** The number of the date that a date goes to by a roll; the number of no date if there is none, or it looks at another year. */
+export const rolled = (calendar, date, roll) =>
+  askedOf(
+    calendar,
+    (layers, ...given) => layers.calendar_roll(...given),
+    (layers, ...given) => layers.calendar_roll_within(...given),
+    date,
+    roll,
+  );
 
 /** Calls a function of columns, which `choose` finds, for so many elements. */
 export function callOnColumns(count, choose, ...given) {
@@ -323,6 +354,25 @@ export function parseDateTime(pattern, text) {
     throwPatternFault(room, text, encoded);
   }
   return moment;
+}
+
+/** Whether the texts of a pattern have an offset. */
+export function namesOffset(pattern) {
+  const room = open();
+  return room.layers.calendar_pattern_names_offset(...putPattern(room, pattern)) !== 0;
+}
+
+/** The local date-time that a text has by a pattern, and its offset in seconds; a TextError if there is none. */
+export function parseZoned(pattern, text) {
+  const room = open();
+  const encoded = putText(room, text);
+  const places = [address(room, TEXT), BigInt(encoded.length), address(room, FAULT)];
+  room.layers.calendar_parse_zoned(address(room, ANSWER), ...putPattern(room, pattern), ...places);
+  const local = getMoment(room.view, ANSWER);
+  if (local === undefined) {
+    throwPatternFault(room, text, encoded);
+  }
+  return { local, offset: room.view.getInt32(ANSWER + 12, true) };
 }
 
 /** The zone that lies in the room. */

@@ -13,6 +13,15 @@ export function integer(value, part) {
   return number + 0;
 }
 
+/** The whole number that a value stands for; RangeError if it stands for none, or for a fraction. */
+export function whole(value, part) {
+  const number = +value;
+  if (!Number.isInteger(number)) {
+    throw new RangeError(`${part} ${value}: no whole number`);
+  }
+  return number + 0;
+}
+
 /** The whole number that a value stands for; RangeError unless it lies between the two ends, which both count. */
 export function between(value, part, least, most) {
   const number = integer(value, part);

@@ -1,8 +1,9 @@
 /** Patterns of texts. */
 
-import { checkPattern, formatDate, formatDateTime, parseDate, parseDateTime } from "./layers.js";
+import { checkPattern, formatDate, formatDateTime, namesOffset, parseDate, parseDateTime, parseZoned } from "./layers.js";
 import { PlainDate } from "./plain_date.js";
 import { dateTimeOf, momentOf, PlainDateTime } from "./plain_date_time.js";
+import { atOffset } from "./zoned_date_time.js";
 
 /** The text of a date or a date-time by the bytes of a pattern; undefined if it has none. */
 function written(bytes, value) {
@@ -47,13 +48,32 @@ export class Pattern {
     return PlainDate.fromDayNumber(parseDate(this.#bytes, `${text}`));
   }
 
-  /** The date-time that a text has; a TextError says what is wrong with the text first, and where. */
+  /**
+   * The date-time that a text has; a TextError says what is wrong with the text first, and where. RangeError if the pattern reads an offset:
+   * `parseZonedDateTime` keeps it.
+   */
   parseDateTime(text) {
+    if (namesOffset(this.#bytes)) {
+      throw new RangeError(`${JSON.stringify(this.#text)}: it reads an offset, which parseZonedDateTime keeps`);
+    }
     return dateTimeOf(parseDateTime(this.#bytes, `${text}`));
+  }
+
+  /**
+   * The instant that a text has, in a zone of the offset of the text; a TextError says what is wrong with the text first, and where. The
+   * pattern reads an offset, or seconds since 1970.
+   */
+  parseZonedDateTime(text) {
+    const { local, offset } = parseZoned(this.#bytes, `${text}`);
+    return atOffset(local, offset);
   }
 
   /** The text that it was made of. */
   toString() {
+    return this.#text;
+  }
+
+  toJSON() {
     return this.#text;
   }
 

@@ -2,10 +2,10 @@
 
 import { annotation, ISO8601, refuseArgument, refuseOther, withoutAnnotation } from "./calendar.js";
 import { daysOf, Duration, durationOf } from "./duration.js";
-import { library, NONE, readDate, textOfDate } from "./library.js";
-import { clipped, integer, isInt32, isUint32, largestUnitOf, optionsOf, overflowOf } from "./numbers.js";
+import { dateOf, library, NONE, readDate, readDateTime, textOfDate } from "./library.js";
+import { clipped, integer, isInt32, isUint32, largestUnitOf, optionsOf, overflowOf, whole } from "./numbers.js";
 import { PlainDateTime } from "./plain_date_time.js";
-import { dateText, forTemporal } from "./texts.js";
+import { dateTimeText, forTemporal } from "./texts.js";
 
 /** Tells the constructor that a number follows, which is that of a date. */
 const BY_NUMBER = Symbol("by number");
@@ -60,6 +60,12 @@ export function replaced(value, parts, names) {
   refuseCalendar(parts);
   const kept = names.filter((it) => parts[it] === undefined && (it !== "month" || parts.monthCode === undefined));
   return Object.fromEntries([...kept.map((it) => [it, value[it]]), ...given.map((it) => [it, parts[it]])]);
+}
+
+/** The number of the date that a text has, also in front of a clock, which has to show a time. */
+function dateInText(text) {
+  const moment = readDateTime(dateTimeText(withoutAnnotation(text)));
+  return moment === undefined ? NONE : dateOf(moment);
 }
 
 /** Why there is no such date. */
@@ -119,8 +125,7 @@ export class PlainDate {
     if (typeof item === "string") {
       // (the form that `toString` writes is the library's own)
       const number = item.length === 10 && item[4] === "-" ? readDate(item) : NONE;
-      const found = number === NONE ? readDate(dateText(withoutAnnotation(item))) : number;
-      return PlainDate.#found(found, () => `${JSON.stringify(item)}: no text of a date`);
+      return PlainDate.#found(number === NONE ? dateInText(item) : number, () => `${JSON.stringify(item)}: no text of a date`);
     }
     if (item instanceof PlainDate) {
       return new PlainDate(BY_NUMBER, item.#number);
@@ -147,22 +152,22 @@ export class PlainDate {
 
   /** The date of a day number, in which 1 January of year 1 is 1. */
   static fromDayNumber(number) {
-    const days = integer(number, "day number");
+    const days = whole(number, "day number");
     const isDate = isInt32(days) && library.calendar_year(days) !== NONE;
     return PlainDate.#found(isDate ? days : NONE, () => `day number ${days}: no date`);
   }
 
   /** The date of a year and a day of it from 1 to 366 (ISO 8601 ordinal date). */
   static fromDayOfYear(year, dayOfYear) {
-    const [named, day] = [integer(year, "year"), integer(dayOfYear, "day of the year")];
+    const [named, day] = [whole(year, "year"), whole(dayOfYear, "day of the year")];
     const number = isInt32(named) && isUint32(day) ? library.calendar_from_yo(named, day) : NONE;
     return PlainDate.#found(number, () => `day ${day} of year ${named}: no date`);
   }
 
   /** The date of an ISO year, a week of it and a weekday from 1 for Monday to 7 (ISO 8601 week date). */
   static fromWeek(yearOfWeek, weekOfYear, dayOfWeek) {
-    const [year, week] = [integer(yearOfWeek, "year"), integer(weekOfYear, "week")];
-    const weekday = integer(dayOfWeek, "weekday");
+    const [year, week] = [whole(yearOfWeek, "year"), whole(weekOfYear, "week")];
+    const weekday = whole(dayOfWeek, "weekday");
     const isNamed = isInt32(year) && isUint32(week) && isUint32(weekday);
     const number = isNamed ? library.calendar_from_isoywd(year, week, weekday) : NONE;
     return PlainDate.#found(number, () => `weekday ${weekday} of week ${week} of year ${year}: no date`);
@@ -170,7 +175,7 @@ export class PlainDate {
 
   /** The n-th day of a month with a weekday, counted from 1. */
   static fromWeekdayOfMonth(year, month, dayOfWeek, n) {
-    const [named, ...others] = [year, month, dayOfWeek, n].map((it) => integer(it, "part"));
+    const [named, ...others] = [year, month, dayOfWeek, n].map((it) => whole(it, "part"));
     const isNamed = isInt32(named) && others.every(isUint32);
     const number = isNamed ? library.calendar_from_weekday_of_month(named, ...others) : NONE;
     const [numbered, weekday, count] = others;
@@ -301,7 +306,7 @@ export class PlainDate {
 
   /** The date `index` times so many months later in one move, so that a 31st comes back after a shorter month. */
   everyMonths(months, index) {
-    const [step, count] = [integer(months, "months"), integer(index, "index")];
+    const [step, count] = [whole(months, "months"), whole(index, "index")];
     const number = isInt32(step) && isUint32(count) ? library.calendar_every_months(this.#number, step, count) : NONE;
     return PlainDate.#found(number, () => `${this} moved by ${count} times ${step} months lies beyond the calendar`);
   }
@@ -318,7 +323,7 @@ export class PlainDate {
 
   /** The first day of this date's week, where weeks begin on a weekday from 1 for Monday to 7. */
   firstOfWeek(start = 1) {
-    const weekday = integer(start, "weekday");
+    const weekday = whole(start, "weekday");
     const number = isUint32(weekday) ? library.calendar_week_first_day(this.#number, weekday) : NONE;
     return PlainDate.#found(number, () => `the week of ${this} from weekday ${weekday}: no date`);
   }
@@ -390,7 +395,7 @@ function timeOf(time) {
 /** The set of weekdays as the library has it: one binary digit for each. */
 export function setOf(daysOfWeek) {
   return daysOfWeek.reduce((set, it) => {
-    const weekday = integer(it, "weekday");
+    const weekday = whole(it, "weekday");
     if (weekday < 1 || weekday > 7) {
       throw new RangeError(`weekday ${weekday}: it lies from 1 to 7`);
     }
@@ -400,7 +405,7 @@ export function setOf(daysOfWeek) {
 
 /** Whether a year, which may lie beyond those of dates, has 366 days. */
 export function isLeapYear(year) {
-  const named = integer(year, "year");
+  const named = whole(year, "year");
   if (!isInt32(named)) {
     throw new RangeError(`year ${named}: it has more than 32 bits`);
   }

@@ -3,7 +3,7 @@
 import { annotation, refuseArgument, withoutAnnotation } from "./calendar.js";
 import { Duration, secondsOf } from "./duration.js";
 import { dateOf, dateTimeAt, distance, moved, NONE, readDateTime, secondOfDayOf, textOfDateTime } from "./library.js";
-import { between, clipped, integer, largestUnitOf, optionsOf, overflowOf, refuseRounding } from "./numbers.js";
+import { between, clipped, integer, largestUnitOf, optionsOf, overflowOf, refuseRounding, whole } from "./numbers.js";
 import { PlainDate, replaced } from "./plain_date.js";
 import { incrementOf, modeOf, NANOSECONDS, roundedCount, unitOf } from "./rounding.js";
 import { dateTimeText, forTemporal } from "./texts.js";
@@ -116,8 +116,8 @@ export class PlainDateTime {
    * which 1,000,000,000 and more lie in the leap second that follows.
    */
   static fromUnix(seconds, nanoseconds = 0) {
-    const counted = between(seconds, "seconds", Number.MIN_SAFE_INTEGER, Number.MAX_SAFE_INTEGER);
-    const moment = { seconds: BigInt(counted), nanos: between(nanoseconds, "nanoseconds", 0, 2 * SECOND - 1) };
+    const counted = between(whole(seconds, "seconds"), "seconds", Number.MIN_SAFE_INTEGER, Number.MAX_SAFE_INTEGER);
+    const moment = { seconds: BigInt(counted), nanos: between(whole(nanoseconds, "nanoseconds"), "nanoseconds", 0, 2 * SECOND - 1) };
     const why = () => `${counted} seconds and ${moment.nanos} nanoseconds since 1970: no date-time`;
     return PlainDateTime.#found(dateOf(moment) === NONE ? undefined : moment, why);
   }

@@ -86,6 +86,11 @@ export class Rule {
     return this.#text;
   }
 
+  /** The text and the start, which the constructor takes. */
+  toJSON() {
+    return { text: this.#text, start: this.#start.toJSON() };
+  }
+
   get [Symbol.toStringTag]() {
     return "Rule";
   }

@@ -201,6 +201,12 @@ export class RuleSet {
     }
   }
 
+  /** The four lists, as JSON has their rules and dates. */
+  toJSON() {
+    const lists = { rules: this.#rules, dates: this.#dates, exceptRules: this.#exceptRules, exceptDates: this.#exceptDates };
+    return Object.fromEntries(Object.entries(lists).map(([name, list]) => [name, list.map((it) => it.toJSON())]));
+  }
+
   get [Symbol.toStringTag]() {
     return "RuleSet";
   }

@@ -85,7 +85,7 @@ export class Schedule {
 
   /**
    * The first instant after another at which it fires in a zone; undefined if there is none. A time that the clock skips fires as the gap
-   * ends, and one that it shows twice fires once. But a schedule that lists every minute or every hour goes by what the clock shows.
+   * ends, and one that it shows twice fires once. But a schedule whose minutes or hours begin with * goes by what the clock shows.
    */
   nextInZone(start) {
     const found = startOf(start).timeZone.nextDue(this.#bytes, utcOf(start));

@@ -32,13 +32,7 @@ function yearText(sign, digits) {
   return `${year.length > 4 ? "+" : ""}${year}`;
 }
 
-/** The library's text of the date that a text has, also in front of a clock; the empty text, which names nothing, for another form. */
-export function dateText(text) {
-  const parts = partsOf(text);
-  return parts?.date ?? "";
-}
-
-/** The library's text of the date-time that a text has, midnight if it has no clock; the empty text for another form. */
+/** The library's text of the date-time that a text has, midnight if it has no clock; the empty text, which names nothing, for another form. */
 export function dateTimeText(text) {
   const parts = partsOf(text);
   return parts ? `${parts.date}T${parts.clock ?? "00:00:00"}` : "";

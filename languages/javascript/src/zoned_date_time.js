@@ -68,6 +68,11 @@ function givenOffset(text) {
   return offset;
 }
 
+/** The text of the rule of a clock that is always so many seconds ahead of UTC, such as `<+0100>-01:00`. */
+function ruleOf(offset) {
+  return offset === 0 ? "UTC0" : `<${offsetText(offset).replaceAll(":", "")}>${offsetText(-offset)}`;
+}
+
 /** A local date-time with a leap second as the second 59. */
 function withoutLeap(plain) {
   const { seconds, nanos } = momentOf(plain);
@@ -108,6 +113,12 @@ function instantBy(zone, local, offset, options, isInMinutes = false) {
     throw new RangeError(`${dateTimeOf(local)}: the clock of ${zone} is not ${offsetText(offset)} ahead of UTC`);
   }
   return instantOf(zone, local, disambiguation);
+}
+
+/** The instant of a local moment on a clock that is so many seconds ahead of UTC, in a zone of this offset. */
+export function atOffset(local, offset) {
+  const { seconds, nanos } = withoutLeap(dateTimeOf(local));
+  return new ZonedDateTime((seconds - BigInt(offset)) * SECOND + BigInt(nanos), new Zone(ruleOf(offset)));
 }
 
 /**

@@ -212,11 +212,14 @@ test("read_date", () => {
   for (const [number, text] of DATE_TEXTS) {
     assert.equal(PlainDate.from(text).dayNumber, number);
   }
-  assert.equal(PlainDate.from("+002024-02-29").dayNumber, 738_945);
+  for (const text of ["+002024-02-29", "2024-02-29T23:59:60", "2024-02-29T12", "20240229T235959.123456789[u-ca=iso8601]"]) {
+    assert.equal(PlainDate.from(text).dayNumber, 738_945);
+  }
+  assert.equal(`${PlainDate.from("-262143-01-01T23:59:59.123456789")}`, "-262143-01-01");
   for (const text of [
     "", "2024", "2024-02-2", "2024-02-290", " 2024-02-29", "2024-02-29 ", "2024-02-29\0", "2024-2-29", "2024-02-30", "2023-02-29",
     "2024/02/29", "2024-02-2:", "24-02-29", "+2024-02-29", "-0000-01-01", "-000000-01-01", "02024-02-29", "+10000-01-01",
-    "+262143-01-01", "-262144-12-31", "2024-13-29", "٢٠٢٤-02-29", "2024-02-29é", `2024-02-29${" ".repeat(100)}`, "x".repeat(1_000),
+    "+262143-01-01", "-262144-12-31", "2024-13-29", "2024-02-29T25:61", "2024-02-29T24:00", "2024-02-29T12:60", "2024-02-29T12:00:61", "٢٠٢٤-02-29", "2024-02-29é", `2024-02-29${" ".repeat(100)}`, "x".repeat(1_000),
   ]) {
     refused(() => PlainDate.from(text));
   }
@@ -327,5 +330,19 @@ test("read_date_time", () => {
     "-000000-01-01T00:00:00", "+2024-02-29T00:00:00", "-262143-01-01T00:00:00.0000000010",
   ]) {
     refused(() => PlainDateTime.from(text));
+  }
+});
+
+test("fractions", () => {
+  const leapDay = new PlainDate(2024, 2, 29);
+  for (const call of [
+    (it) => PlainDate.fromDayNumber(it), (it) => PlainDate.fromDayOfYear(2024, it), (it) => PlainDate.fromDayOfYear(it, 1), (it) => PlainDate.fromWeek(2024, it, 1),
+    (it) => PlainDate.fromWeek(2024, 1, it), (it) => PlainDate.fromWeekdayOfMonth(2024, 2, it, 1), (it) => PlainDate.fromWeekdayOfMonth(2024, 2, 1, it),
+    (it) => PlainDateTime.fromUnix(it), (it) => PlainDateTime.fromUnix(0, it), (it) => leapDay.everyMonths(it, 1), (it) => leapDay.everyMonths(1, it),
+    (it) => leapDay.firstOfWeek(it), (it) => leapDay.firstOn(it), (it) => leapDay.add({ days: it }), (it) => isLeapYear(it), (it) => daysUntil(it, 1),
+    (it) => daysUntil(1, it),
+  ]) {
+    assert.throws(() => call(1.5), { name: "RangeError", message: /1\.5: no whole number/ });
+    assert.doesNotThrow(() => call(1));
   }
 });

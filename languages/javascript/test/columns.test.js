@@ -106,6 +106,7 @@ test("column_add_days", () => {
     assert.deepEqual(columns.addDays(SOME.subarray(0, 1), days), Int32Array.of(NO_DATE));
   }
   refused(() => columns.addDays(SOME, NaN));
+  refused(() => columns.addDays(SOME, 1.5));
   assert.throws(() => columns.addDays([1], 1), TypeError);
 });
 
@@ -263,4 +264,25 @@ test("columns whose memory was given away", () => {
   assert.throws(() => new Zone(bytes), { name: "TypeError", message: /given away/ });
   assert.throws(() => new Zone(bytes.buffer), { name: "TypeError", message: /given away/ });
   assert.deepEqual(columns.years(new Int32Array()), new Int32Array());
+});
+
+test("columns of open days in known years", () => {
+  const target = BusinessCalendar.of("target", 2024, 2026);
+  const refusedYear = (call) => assert.throws(call, { name: "RangeError", message: /from 2024 to 2026 alone/ });
+  const [inside, end, behind] = [numbers("2024-01-01", "2026-12-30"), numbers("2026-12-31"), numbers("2027-01-01")];
+  const dates = Int32Array.of(...inside, NO_DATE);
+  assert.deepEqual(columns.isOpen(dates, target), Uint8Array.of(0, 1, 0));
+  refusedYear(() => columns.isOpen(behind, target));
+  assert.deepEqual(columns.addOpenDays(dates, 1, target), Int32Array.of(...numbers("2024-01-02"), ...end, NO_DATE));
+  refusedYear(() => columns.addOpenDays(dates, 2, target));
+  refusedYear(() => columns.addOpenDays(dates, 1e9, target));
+  assert.deepEqual(columns.openDaysBetween(numbers("2026-01-01", "2027-01-01"), "2027-01-01", target), Int32Array.of(256, 0));
+  assert.deepEqual(columns.openDaysBetween(dates, Int32Array.of(NO_DATE, ...end, 1), target), Int32Array.of(NO_DATE, 1, NO_DATE));
+  refusedYear(() => columns.openDaysBetween(inside, "2027-01-02", target));
+  const [one, two] = [2022, 2023].map((it) => new BusinessCalendar({ firstYear: 2022, lastYear: it }));
+  const saturday = numbers("2022-12-31");
+  assert.deepEqual(columns.roll(saturday, "nearestIsda", one), numbers("2022-12-30"));
+  refused(() => columns.roll(saturday, "following", one));
+  refused(() => columns.roll(saturday, "nearestQuantLib", one));
+  assert.deepEqual(columns.roll(saturday, "nearestQuantLib", two), numbers("2022-12-30"));
 });

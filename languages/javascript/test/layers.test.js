@@ -143,6 +143,7 @@ test("add_open_days", () => {
   refused(() => calendar.add("2024-03-28", 1e300));
   refused(() => calendar.add("2024-03-28", 2 ** 32));
   refused(() => calendar.add("2024-03-28", NaN));
+  assert.throws(() => calendar.add("2024-03-28", 1.5), { name: "RangeError", message: "open days 1.5: no whole number" });
   refused(() => new BusinessCalendar({ weekend: [1, 2, 3, 4, 5, 6, 7] }).add("2024-03-28", 0));
 });
 
@@ -209,10 +210,72 @@ test("holidays_of", () => {
   }
 });
 
+test("holidays_first_year", () => {
+  const firsts = { usFederal: 1971, target: 1999, englandAndWales: 1978, fedwire: 1971, nyse: 1998, germany: 1995, france: 1982, japan: 2007 };
+  for (const [name, first] of Object.entries(firsts)) {
+    const { firstYear, lastYear } = BusinessCalendar.of(name, first - 9, first);
+    assert.deepEqual([firstYear, lastYear], [first, first], name);
+  }
+  // (New Year's Day of 2022 was kept on the last day of 2021)
+  assert.equal(BusinessCalendar.of("usFederal", 2021, 2021).isOpen("2021-12-31"), false);
+  assert.equal(BusinessCalendar.of("target", 262_142, 262_142).holidays[0].year, 262_142);
+});
+
+/** What an answer is refused with, which looks at another year than 2024 to 2026. */
+const OTHER_YEAR = { name: "RangeError", message: "the holidays are known from 2024 to 2026 alone, and another year is looked at" };
+
+test("is_open_day_within", () => {
+  const target = BusinessCalendar.of("target", 2024, 2026);
+  assert.deepEqual(["2024-01-01", "2026-12-31"].map((it) => target.isOpen(it)), [false, true]);
+  for (const day of ["2023-12-31", "2027-01-01"]) {
+    assert.throws(() => target.isOpen(day), OTHER_YEAR);
+  }
+  assert.throws(() => BusinessCalendar.of("target", 1990, 1998).isOpen("1998-06-01"), /from 1999 to 1998/);
+  const late = new BusinessCalendar({ firstYear: 2024 });
+  assert.deepEqual([late.firstYear, late.lastYear, late.isOpen("2024-01-01")], [2024, 262_142, true]);
+  refused(() => late.isOpen("2023-12-31"));
+  refused(() => new BusinessCalendar({ firstYear: 300_000 }));
+  refused(() => new BusinessCalendar({ lastYear: 2024.5 }));
+  const written = JSON.stringify(target);
+  assert.equal(JSON.stringify(new BusinessCalendar(JSON.parse(written))), written);
+  assert.match(written, /"firstYear":2024,"lastYear":2026}$/);
+});
+
+test("add_open_days_within", () => {
+  const target = BusinessCalendar.of("target", 2024, 2026);
+  assert.equal(`${target.add("2026-12-30", 1)}`, "2026-12-31");
+  for (const [date, n] of [["2026-12-30", 2], ["2027-01-01", -1], ["2024-01-02", -1], ["2026-12-30", 1e9]]) {
+    assert.throws(() => target.add(date, n), OTHER_YEAR);
+  }
+});
+
+test("open_days_between_within", () => {
+  const target = BusinessCalendar.of("target", 2024, 2026);
+  // (261 days of 2026 are no weekends, and five of them holidays)
+  assert.equal(target.between("2026-01-01", "2027-01-01"), 256);
+  assert.equal(target.between("2027-01-01", "2026-01-01"), -256);
+  assert.equal(target.between("2027-01-01", "2027-01-01"), 0);
+  assert.throws(() => target.between("2026-01-01", "2027-01-02"), OTHER_YEAR);
+  assert.throws(() => target.between("2026-01-01", "2023-12-31"), OTHER_YEAR);
+});
+
+test("roll_within", () => {
+  const [one, two] = [2022, 2023].map((it) => new BusinessCalendar({ firstYear: 2022, lastYear: it }));
+  // (a Saturday)
+  for (const name of ["preceding", "modifiedFollowing", "modifiedPreceding", "nearestIsda"]) {
+    assert.equal(`${one.roll("2022-12-31", name)}`, "2022-12-30", name);
+  }
+  refused(() => one.roll("2022-12-31", "following"));
+  refused(() => one.roll("2022-12-31", "nearestQuantLib"));
+  assert.deepEqual(["following", "nearestQuantLib"].map((it) => `${two.roll("2022-12-31", it)}`), ["2023-01-02", "2022-12-30"]);
+  refused(() => one.roll("2023-01-01", "unadjusted"));
+});
+
 test("easter", () => {
   assert.deepEqual(texts([2024, 2025, 1961, 2038].map((it) => easter(it))), ["2024-03-31", "2025-04-20", "1961-04-02", "2038-04-25"]);
   refused(() => easter(300_000));
   refused(() => easter(2 ** 32 + 2024));
+  refused(() => easter(2024.5));
 });
 
 test("holidays_check", () => {
@@ -230,6 +293,9 @@ test("calendars as values", () => {
   const calendar = new BusinessCalendar({ weekend: [7, 6, 6], holidays: ["2024-04-01", "2024-03-30", "2024-03-29", "2024-04-01", "0001-01-01"] });
   assert.deepEqual([calendar.weekend, texts(calendar.holidays)], [[6, 7], ["0001-01-01", ...EASTER]]);
   assert.equal(Object.prototype.toString.call(calendar), "[object BusinessCalendar]");
+  const written = JSON.stringify(calendar);
+  assert.equal(written, '{"weekend":[6,7],"holidays":["0001-01-01","2024-03-29","2024-04-01"]}');
+  assert.equal(JSON.stringify(new BusinessCalendar(JSON.parse(written))), written);
   const days = Array.from({ length: 1_001 }, (_, index) => PlainDate.fromDayNumber(738_945 + index));
   const most = new BusinessCalendar({ weekend: [], holidays: days.slice(1) });
   assert.equal(most.add(days[1], 0).dayNumber, 739_946);
@@ -242,6 +308,7 @@ test("rule_check", () => {
   const rule = new Rule("FREQ=MONTHLY;BYDAY=-1FR", "2024-01-01");
   assert.equal(`${rule} ${rule.start} ${inspect(rule)}`, "FREQ=MONTHLY;BYDAY=-1FR 2024-01-01 Rule FREQ=MONTHLY;BYDAY=-1FR from 2024-01-01");
   assert.equal(Object.prototype.toString.call(new Rule("freq=daily", rule.start)), "[object Rule]");
+  assert.equal(JSON.stringify({ rule }), '{"rule":{"text":"FREQ=MONTHLY;BYDAY=-1FR","start":"2024-01-01"}}');
   refused(() => new Rule("FREQ=DAILY", "2024-02-30"));
 });
 
@@ -326,6 +393,10 @@ test("sets of rules", () => {
   assert.deepEqual(march.slice(0, -1).map((it) => `${MEETINGS.nextAfter(it)}`), march.slice(1));
   assert.deepEqual(march.slice(1).map((it) => `${MEETINGS.previousBefore(it)}`), march.slice(0, -1));
   assert.equal(MEETINGS.previousBefore("2024-03-01"), undefined);
+  assert.deepEqual(JSON.parse(JSON.stringify(MEETINGS)), {
+    rules: [{ text: "FREQ=WEEKLY;BYDAY=FR", start: "2024-03-01" }, { text: "FREQ=MONTHLY;BYMONTHDAY=-1", start: "2024-03-01" }],
+    dates: ["2024-03-13", "2024-03-31"], exceptRules: [], exceptDates: ["2024-03-29"],
+  });
   const walk = MEETINGS[Symbol.iterator]();
   assert.deepEqual([walk.next(), walk.next()].map((it) => `${it.value}`), march.slice(0, 2));
 });
@@ -396,6 +467,7 @@ const wrongFrom = (start, end, reason) => ({ name: "TextError", start, end, reas
 test("pattern_check", () => {
   const pattern = new Pattern("%d.%m.%Y");
   assert.equal(`${pattern} ${inspect(pattern)} ${Object.prototype.toString.call(pattern)}`, "%d.%m.%Y Pattern %d.%m.%Y [object Pattern]");
+  assert.equal(JSON.stringify({ pattern }), '{"pattern":"%d.%m.%Y"}');
   assert.throws(() => new Pattern("%Y-%Q"), wrongFrom(3, 5, "byte 3: an unknown specifier"));
   assert.throws(() => new Pattern("100%"), wrongFrom(3, 4, "byte 3: the bytes end within a specifier"));
   assert.throws(() => new Pattern("\u{1f600}\ufeff%\u00e9"), { ...wrongFrom(3, 5, "byte 7: an unknown specifier"), text: "\u{1f600}\ufeff%\u00e9" });
@@ -460,6 +532,24 @@ test("parse_date_time", () => {
   assert.equal(`${new Pattern("%s").parseDateTime("0")}`, "1970-01-01T00:00:00");
   assert.throws(() => new Pattern("%F %R").parseDateTime("2024-03-01 25:00"), wrongFrom(11, 16, "byte 11: the field has no such value"));
   assert.throws(() => new Pattern("%F").parseDateTime("2024-03-01"), wrongFrom(0, 10, "byte 0: the fields do not suffice for the value"));
+});
+
+test("parse_zoned", () => {
+  for (const [by, text, wanted] of [
+    ["%F %R %z", "2024-03-01 13:00 +0530", "2024-03-01T13:00:00+05:30"], ["%FT%T%.f%:z", "2024-02-29T12:00:00.5-09:30", "2024-02-29T12:00:00.5-09:30"],
+    ["%+", "2024-03-01T00:00:00Z", "2024-03-01T00:00:00+00:00"], ["%s %z", "0 +0530", "1970-01-01T05:30:00+05:30"], ["%s", "0", "1970-01-01T00:00:00+00:00"],
+  ]) {
+    const found = new Pattern(by).parseZonedDateTime(text);
+    assert.ok(found instanceof ZonedDateTime);
+    assert.equal(found.toString({ timeZoneName: "never" }), wanted);
+  }
+  assert.equal(new Pattern("%F %T %::z").parseZonedDateTime("2024-03-01 13:00:00 -01:00:30").offsetNanoseconds, -3_630e9);
+  // (an instant has no leap second)
+  assert.equal(new Pattern("%F %T %z").parseZonedDateTime("2024-02-29 23:59:60 +0000").epochNanoseconds, 1_709_251_199_000_000_000n);
+  assert.throws(() => new Pattern("%F %R %z").parseDateTime("2024-03-01 13:00 +0530"), { name: "RangeError", message: /^"%F %R %z": it reads an offset/ });
+  assert.equal(`${new Pattern("%F %R %Z").parseDateTime("2024-03-01 13:00 CET")}`, "2024-03-01T13:00:00");
+  assert.throws(() => new Pattern("%F %R %z").parseZonedDateTime("2024-03-01 13:00"), wrongFrom(16, 16, "byte 16: the text ends too soon"));
+  assert.throws(() => new Pattern("%F %R").parseZonedDateTime("2024-03-01 13:00"), wrongFrom(0, 16, "byte 0: the fields do not suffice for the value"));
 });
 
 /** Central Europe by its rule. */

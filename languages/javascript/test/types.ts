@@ -28,4 +28,5 @@ const open: Int32Array = columns.openDaysBetween(columns.roll(column, "following
 export const more = [set, told, open, patterns, ruleDays, known, next, third, seconds, part, place, calendar.add(due, 2).dayNumber];
 const timeZone = new Zone("CET-1CEST,M3.5.0,M10.5.0/3", "Europe/Berlin");
 const nightly: ZonedDateTime | undefined = new Schedule("30 2 * * *").nextInZone(ZonedDateTime.from(due, { timeZone, disambiguation: "later" }));
+export const written: [string, number[]] = [new Rule("FREQ=DAILY", due).toJSON().start, calendar.toJSON().weekend];
 export const zoned = [nightly?.with({ hour: 3 }).offset, ZonedDateTime.from({ year: 2024, month: 2, day: 29, timeZone }).hoursInDay];

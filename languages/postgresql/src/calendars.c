@@ -5,12 +5,14 @@
 #include "catalog/pg_type.h"
 #include "executor/spi.h"
 #include "lib/stringinfo.h"
+#include "miscadmin.h"
 #include "storage/proc.h"
 #include "utils/array.h"
 #include "utils/builtins.h"
 #include "utils/hsearch.h"
 #include "utils/lsyscache.h"
 #include "utils/memutils.h"
+#include "utils/rls.h"
 #include "utils/snapmgr.h"
 
 /* A name has at most so many bytes, as the table demands. */
@@ -66,7 +68,8 @@ static void tidy(OpenDays *calendar)
 /* ---- calendars of the tables
  *
  * What a statement reads is kept while its snapshot sees the same rows: so long as no transaction ends or begins that it could see,
- * and this one changes nothing. The next statement reads anew. */
+ * and this one changes nothing. The next statement reads anew. It is kept for the role that reads it alone. Where policies choose the
+ * rows of a role, they can go by anything, such as a setting, and nothing is kept. */
 
 /* A calendar by the schema of the tables and its name. */
 typedef struct {
@@ -97,10 +100,12 @@ void _PG_init(void)
     RegisterSubXactCallback(count_rollback, NULL);
 }
 
-/* Writes what tells apart snapshots that see different rows. */
+/* Writes what tells apart snapshots that see different rows, and roles that have different rights. */
 static void describe(StringInfo text, Snapshot snapshot)
 {
+    Oid role = GetUserId();
     resetStringInfo(text);
+    appendBinaryStringInfo(text, (char *)&role, sizeof role);
     appendBinaryStringInfo(text, (char *)&MyProc->lxid, sizeof MyProc->lxid);
     appendBinaryStringInfo(text, (char *)&rollbacks, sizeof rollbacks);
     appendBinaryStringInfo(text, (char *)&snapshot->xmin, sizeof snapshot->xmin);
@@ -196,6 +201,13 @@ static OpenDays load(Oid schema, const text *name)
     return calendar;
 }
 
+/* Whether policies choose which rows of a table the role sees. */
+static bool has_policies(Oid schema, const char *table)
+{
+    Oid relation = get_relname_relid(table, schema);
+    return OidIsValid(relation) && check_enable_rls(relation, InvalidOid, true) == RLS_ENABLED;
+}
+
 const OpenDays *calendar_named(FunctionCallInfo fcinfo, int place)
 {
     const text *name = PG_GETARG_TEXT_PP(place);
@@ -206,9 +218,13 @@ const OpenDays *calendar_named(FunctionCallInfo fcinfo, int place)
     memcpy(sought.key.name, VARDATA_ANY(name), length);
     drop_if_changed();
     Named *entry = hash_search(named, &sought.key, HASH_FIND, NULL);
-    if (!entry || VARSIZE_ANY_EXHDR(name) > MOST_NAME) {
+    bool is_chosen = has_policies(sought.key.schema, "business_calendars") || has_policies(sought.key.schema, "business_holidays");
+    if (!entry || is_chosen || VARSIZE_ANY_EXHDR(name) > MOST_NAME) {
         OpenDays calendar = load(sought.key.schema, name);
         entry = hash_search(named, &sought.key, HASH_ENTER, &is_found);
+        if (is_found) {
+            pfree(entry->calendar.holidays);
+        }
         entry->calendar = calendar;
     }
     return &entry->calendar;

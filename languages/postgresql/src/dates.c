@@ -46,7 +46,12 @@ Datum proved_add_months_of_timestamp(PG_FUNCTION_ARGS)
 
 Datum proved_add_months_of_timestamptz(PG_FUNCTION_ARGS)
 {
-    Timestamp moved = moved_by_months(local_of(PG_GETARG_TIMESTAMPTZ(0)), PG_GETARG_INT32(1));
+    TimestampTz instant = PG_GETARG_TIMESTAMPTZ(0);
+    Timestamp moved = moved_by_months(local_of(instant), PG_GETARG_INT32(1));
+    if (PG_GETARG_INT32(1) == 0) {
+        /* (the clock can show the local time twice) */
+        PG_RETURN_TIMESTAMPTZ(instant);
+    }
     return DirectFunctionCall1(timestamp_timestamptz, TimestampGetDatum(moved));
 }
 

@@ -47,7 +47,7 @@ uint32_t number_of_word(const char *what, const text *value, const char *const *
 
 /* ---- instants.c: the clock of the session's zone */
 
-/* The first instant after one at which the zone's clock shows a time at which the schedule is due; whether there is one. */
+/* The first instant after one at which the schedule fires by the zone's clock, as with Vixie's cron; whether there is one. */
 bool next_instant(const calendar_schedule *schedule, TimestampTz after, TimestampTz *due);
 
 /* ---- calendars.c: weekends and holidays */

@@ -4,6 +4,11 @@ SELECT add_months(date '2024-01-31', 1), add_months(date '2024-02-29', -12), add
 SELECT add_months(timestamp '2024-01-31 23:59:59.999999', 1), add_months(timestamp '1999-03-31 00:00', -1);
 -- The time of day stays, so the offset changes.
 SELECT add_months(timestamptz '2024-01-31 12:30-05', 6);
+-- A move by nothing stays in its hour, which this clock shows twice.
+SET timezone = 'Europe/Berlin';
+SELECT add_months(timestamptz '2024-10-27 02:30+02', 0);
+SELECT add_months(timestamptz '2024-10-27 02:30+01', 0);
+SET timezone = 'America/New_York';
 SELECT add_months(date '0001-01-31 BC', 1), add_months(date '4714-11-24 BC', 12 * 4713), add_months(date '262142-12-31', -1);
 SELECT add_months(timestamp '4714-11-24 00:00:00 BC', 1), add_months(timestamp '262142-12-31 12:00', -3145704);
 SELECT iso_week(date '2020-12-31'), iso_week(date '2024-12-30'), iso_week(date '0001-01-01 BC');

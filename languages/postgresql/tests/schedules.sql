@@ -5,7 +5,7 @@ SELECT next_due('30 4 1,15 * fri', timestamp '2024-02-09 04:30'), next_due('@dai
 SELECT next_due('0 0 30 2 *', timestamp '2024-01-01') IS NULL, next_due('@daily', timestamp '0001-12-31 BC');
 SELECT next_due('@daily', timestamp '1969-12-31 12:00');
 SELECT next_due('@daily', timestamp '262142-12-31') IS NULL, next_due('59 23 * * *', timestamp '262142-12-31');
--- The clock shows no 02:30 on 31 March, and two on 27 October.
+-- The clock shows no 02:30 on 31 March, and two on 27 October. What is planned for the one fires as the gap ends, and for the others at the first.
 SELECT next_due('30 2 * * *', timestamptz '2024-03-30 12:00'), next_due('0 3 * * *', timestamptz '2024-03-30 12:00');
 SELECT next_due('30 2 * * *', timestamptz '2024-10-26 12:00'), next_due('30 2 * * *', timestamptz '2024-10-27 02:30+02');
 SELECT next_due('30 2 * * *', timestamptz '2024-10-27 02:30+01'), next_due('0 2 27 10 *', timestamptz '2024-10-27 02:00+02');
@@ -15,6 +15,11 @@ SELECT next_due('@daily', timestamptz '1800-01-01 12:00');
 SET timezone = 'UTC';
 SELECT next_due('30 2 * * *', timestamptz '2024-03-30 12:00'), next_due('@daily', timestamptz '262142-12-31 00:00') IS NULL;
 SET timezone = 'Europe/Berlin';
+SELECT next_due('30 2 * * *', timestamptz '2024-03-30 12:00');
+-- What begins with * in the hours or the minutes goes by what the clock shows.
+SELECT next_due('0 */2 * * *', timestamptz '2024-03-31 00:30');
+SELECT count(*) FROM due_between('*/5 2 * * *', timestamptz '2024-10-26 12:00', timestamptz '2024-10-27 12:00');
+SELECT count(*) FROM due_between('@daily', timestamptz '2000-01-01', timestamptz '2030-01-01');
 SELECT * FROM due_between('*/20 * * * *', timestamp '2024-01-01', timestamp '2024-01-01 01:00');
 SELECT * FROM due_between('*/30 * * * *', timestamptz '2024-03-31 01:00', timestamptz '2024-03-31 04:00');
 SELECT * FROM due_between('*/30 * * * *', timestamptz '2024-10-27 01:30', timestamptz '2024-10-27 03:00');

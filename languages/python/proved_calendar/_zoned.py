@@ -137,6 +137,11 @@ def utc_of(moment: Any) -> Any:
     return type(moment).from_seconds(moment.seconds - (_local_seconds(at) - at), moment.nanosecond)
 
 
+def at_offset(local: Any, seconds: int) -> Any:
+    """The date-time of a clock that is so many seconds ahead of UTC."""
+    return local.replace(tzinfo=datetime.timezone(datetime.timedelta(seconds=seconds)) if seconds else datetime.timezone.utc)
+
+
 def local_zone(utc: Any) -> datetime.timezone:
     """The offset that the clock of this machine has where UTC shows a date-time."""
     it = c_time.localtime(utc.seconds)

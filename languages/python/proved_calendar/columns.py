@@ -357,6 +357,45 @@ def _closed(calendar: Any) -> tuple[int, Any]:
     return _closed_on(calendar)
 
 
+def _are_dates(numbers: Any) -> Any:
+    """Which day numbers are those of dates."""
+    return (numbers >= _calendar.Date.min.number) & (numbers <= _calendar.Date.max.number)
+
+
+@functools.lru_cache(maxsize=16)
+def _known_days(calendar: Any) -> tuple[int, int] | None:
+    """The first and the last day of the years of which the holidays of a calendar are known; None if it has no years."""
+    first, last = calendar.first_year, calendar.last_year
+    if first is None and last is None:
+        return None
+    return NONE if first is None else _calendar.Date(first, 1, 1).number, 2**31 - 1 if last is None else _calendar.Date(last, 12, 31).number
+
+
+def _refuse_unknown(calendar: Any, low: Any, high: Any, is_asked: Any) -> None:
+    """Raises a ValueError if a day from one of `low` to that of `high` is asked for, and lies in another year."""
+    known = _known_days(calendar)
+    if known is not None and (is_asked & ((low < known[0]) | (high > known[1]))).any():
+        ends = (("from", calendar.first_year), ("to", calendar.last_year))
+        years = "".join(f" {word} {year}" for word, year in ends if year is not None)
+        raise ValueError(f"the holidays are known{years} alone, and another year is looked at")
+
+
+def _within_years(calendar: Any, move: Callable[[slice, Any, Any], None], both_sides: bool = False) -> Callable[[slice, Any, Any], None]:
+    """The same move, where a ValueError says that it looks at a year of which the holidays of a calendar are not known."""
+    if _known_days(calendar) is None:
+        return move
+
+    def move_piece(piece: slice, starts: Any, moved: Any) -> None:
+        move(piece, starts, moved)
+        # (a move that leads beyond the calendar leads beyond the years)
+        ends = _np.where(moved == NONE, 2**31, moved.astype(_np.int64))
+        others = 2 * starts.astype(_np.int64) - ends if both_sides else ends
+        low, high = (call(call(ends, others), starts) for call in (_np.minimum, _np.maximum))
+        _refuse_unknown(calendar, low, high, _are_dates(starts))
+
+    return move_piece
+
+
 def _number_of(what: str, name: str, names: tuple[str, ...]) -> int:
     """The number of a name; a ValueError if it is none of them."""
     if not isinstance(name, str):
@@ -367,11 +406,16 @@ def _number_of(what: str, name: str, names: tuple[str, ...]) -> int:
 
 
 def is_open(dates: Any, calendar: Any) -> Any:
-    """Returns whether each element is an open day of a BusinessCalendar, as bool. What is no date is not open."""
+    """Returns whether each element is an open day of a BusinessCalendar, as bool. What is no date is not open.
+
+    As in each function of open days, an answer that looks at a year of which the holidays are not known is a ValueError.
+    """
     column, closed = Dates(dates), _closed(calendar)
     out = _np.empty(column.size, _np.bool_)
     for piece in column.pieces():
-        _call("is_open_day", *closed, column.numbers(piece), out[piece])
+        numbers = column.numbers(piece)
+        _refuse_unknown(calendar, numbers, numbers, _are_dates(numbers))
+        _call("is_open_day", *closed, numbers, out[piece])
     return out.reshape(column.shape)
 
 
@@ -384,10 +428,11 @@ def add_open_days(dates: Any, days: Any, calendar: Any) -> Any:
     column, (weekend, holidays) = Dates(dates), _closed(calendar)
     if not _np.ndim(days):
         number = ctypes.c_int64(whole("days", days))
-        return _moved_by(column, _by_day(column, lambda starts, moved: _call("add_open_days", weekend, holidays, starts, number, moved)))
+        move = _by_day(column, lambda starts, moved: _call("add_open_days", weekend, holidays, starts, number, moved))
+        return _moved_by(column, _within_years(calendar, move))
     steps = small_of("days", days, _np.int64, column.shape)
     closed = weekend, holidays, holidays.size
-    return _moved_by(column, lambda piece, starts, moved: _loop("add_open", *closed, starts, steps(piece), starts.size, moved))
+    return _moved_by(column, _within_years(calendar, lambda piece, starts, moved: _loop("add_open", *closed, starts, steps(piece), starts.size, moved)))
 
 
 def roll(dates: Any, how: str, calendar: Any) -> Any:
@@ -397,7 +442,8 @@ def roll(dates: Any, how: str, calendar: Any) -> Any:
     'nearest_quantlib' or 'unadjusted'. A time of day stays the same.
     """
     column, closed, number = Dates(dates), _closed(calendar), _number_of("roll", how, _ROLLS)
-    return _moved_by(column, _by_day(column, lambda starts, moved: _call("roll", *closed, starts, number, moved)))
+    move = _by_day(column, lambda starts, moved: _call("roll", *closed, starts, number, moved))
+    return _moved_by(column, _within_years(calendar, move, how == "nearest_quantlib"))
 
 
 def open_days_between(dates: Any, ends: Any, calendar: Any) -> Any:
@@ -408,7 +454,10 @@ def open_days_between(dates: Any, ends: Any, calendar: Any) -> Any:
     (column, end), closed = _pair(dates, ends), _closed(calendar)
     out = _np.empty(column.size, _np.int64)
     for piece in column.pieces():
-        _call("open_days_between", *closed, column.numbers(piece), end.numbers(piece), out[piece])
+        starts, ends = column.numbers(piece), end.numbers(piece)
+        is_asked = _are_dates(starts) & _are_dates(ends) & (starts != ends)
+        _refuse_unknown(calendar, _np.minimum(starts, ends), _np.maximum(starts, ends) - 1, is_asked)
+        _call("open_days_between", *closed, starts, ends, out[piece])
     return out.reshape(column.shape)
 
 

@@ -181,7 +181,11 @@ class ProvedSeries:
         _check_held(found, times, series.index, what)
         moved = _pd.Series(found, series.index, name=series.name)
         zone = getattr(series.dtype, "tz", None)
-        return moved if zone is None else moved.dt.tz_localize(zone)
+        if zone is None:
+            return moved
+        # (the clock can show a time twice, and a move by nothing keeps the instant)
+        is_still = found == times
+        return moved.mask(is_still).dt.tz_localize(zone).where(~is_still, series)
 
     def _steps(self, days: Any) -> Any:
         """Each element and the number at its label. (What is missing leads beyond the calendar, and is asked of no element.)"""
@@ -323,8 +327,9 @@ class _Offset(_BaseOffset):  # type: ignore[misc]
 
     def _apply(self, other: Any) -> Any:
         stamp = _pd.Timestamp(other)
-        moved = _pd.Timestamp(self._apply_array(_np.array([stamp.tz_localize(None).to_datetime64()]))[0])
-        return moved if stamp.tz is None else moved.tz_localize(stamp.tz)
+        shown = stamp.tz_localize(None)
+        moved = _pd.Timestamp(self._apply_array(_np.array([shown.to_datetime64()]))[0])
+        return stamp if moved == shown else moved.tz_localize(stamp.tz)
 
     def __add__(self, other: Any) -> Any:
         if other is _pd.NaT:

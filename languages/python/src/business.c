@@ -6,18 +6,27 @@
 
 static PyTypeObject *business_type;
 
-/* A weekend, a set of weekdays, and the day numbers of holidays, which rise, and none of which lies on the weekend. */
+/* The years of which the holidays of a calendar are known. */
+typedef struct {
+    int32_t first, last;
+} Years;
+
+/* A weekend, a set of weekdays, the day numbers of holidays, which rise, and none of which lies on the weekend, and the years. */
 typedef struct {
     PyObject_HEAD
     uint8_t weekend;
     size_t count;
     int32_t *holidays;
+    Years years;
 } BusinessCalendar;
 
 enum { WEEKEND = 32 + 64 };
 
+/* A list of holidays is that of all years, unless others are said. */
+static const Years all_years = {INT32_MIN, INT32_MAX};
+
 static Signature of_parts = {
-    .call = "BusinessCalendar", .count = 2, .needed = 0, .places = 2, .names = {"holidays", "weekend"},
+    .call = "BusinessCalendar", .count = 4, .needed = 0, .places = 4, .names = {"holidays", "weekend", "first_year", "last_year"},
 };
 static Signature of_known = {
     .call = "known", .count = 4, .needed = 3, .places = 4, .names = {"name", "first_year", "last_year", "weekend"},
@@ -111,8 +120,8 @@ static int32_t *numbers_of(PyObject *dates, size_t count)
     return numbers;
 }
 
-/* The calendar of a weekend and of holidays, whose memory it takes. */
-static PyObject *new_business(uint8_t weekend, int32_t *numbers, size_t count)
+/* The calendar of a weekend, of holidays, whose memory it takes, and of the years of which they are known. */
+static PyObject *new_business(uint8_t weekend, int32_t *numbers, size_t count, Years years)
 {
     BusinessCalendar *self = PyObject_New(BusinessCalendar, business_type);
     if (!self) {
@@ -122,11 +131,12 @@ static PyObject *new_business(uint8_t weekend, int32_t *numbers, size_t count)
     self->weekend = weekend;
     self->count = count;
     self->holidays = numbers;
+    self->years = years;
     return (PyObject *)self;
 }
 
-/* The calendar of a weekend and of a list of dates. */
-static PyObject *business_of(uint8_t weekend, PyObject *dates)
+/* The calendar of a weekend, of a list of dates and of the years of which they are all. */
+static PyObject *business_of(uint8_t weekend, PyObject *dates, Years years)
 {
     size_t count = (size_t)PyList_Size(dates);
     int32_t *numbers = numbers_of(dates, count);
@@ -138,7 +148,7 @@ static PyObject *business_of(uint8_t weekend, PyObject *dates)
         PyMem_Free(numbers);
         return PyErr_Format(PyExc_ValueError, "%zu holidays: a calendar has at most %d", count, CALENDAR_MOST_HOLIDAYS);
     }
-    return new_business(weekend, numbers, count);
+    return new_business(weekend, numbers, count, years);
 }
 
 /* Writes the holidays of a known calendar on the days of some years; how many there are, or CALENDAR_NONE. A day of the first days
@@ -176,7 +186,9 @@ static PyObject *business_known(PyObject *kind, PyObject *const *arguments, Py_s
         return PyErr_Format(PyExc_ValueError, "years %S to %S: they have no holidays, or more than %d", parts[1], parts[2],
                             CALENDAR_MOST_HOLIDAYS);
     }
-    return new_business(weekend, numbers, (size_t)found);
+    int32_t begin = calendar_holidays_first_year(which);
+    Years years = {first < begin ? begin : (int32_t)first, (int32_t)last};
+    return new_business(weekend, numbers, (size_t)found, years);
 }
 
 PyObject *easter(PyObject *module, PyObject *it)
@@ -194,16 +206,36 @@ PyObject *easter(PyObject *module, PyObject *it)
     return date_of(date_type, number);
 }
 
+/* Reads a year, if one is given. */
+static bool read_year(PyObject *it, int32_t *year)
+{
+    int64_t number;
+    if (!it || it == Py_None) {
+        return true;
+    }
+    if (!read_whole(it, &number)) {
+        return false;
+    }
+    if (calendar_days_in_month(is_i32(number) ? (int32_t)number : INT32_MAX, 1) == CALENDAR_NONE) {
+        refuse_part("year", number, "the calendar has those from -262143 to 262142");
+        return false;
+    }
+    *year = (int32_t)number;
+    return true;
+}
+
 static PyObject *business_new(PyTypeObject *kind, PyObject *arguments, PyObject *keywords)
 {
     PyObject *parts[PARTS];
     uint8_t weekend = WEEKEND;
+    Years years = all_years;
     (void)kind;
-    if (!take_tuple(&of_parts, arguments, keywords, parts) || (parts[1] && !read_weekday_set(parts[1], &weekend))) {
+    if (!take_tuple(&of_parts, arguments, keywords, parts) || (parts[1] && !read_weekday_set(parts[1], &weekend))
+        || !read_year(parts[2], &years.first) || !read_year(parts[3], &years.last)) {
         return NULL;
     }
     PyObject *dates = parts[0] ? PySequence_List(parts[0]) : PyList_New(0);
-    PyObject *self = dates ? business_of(weekend, dates) : NULL;
+    PyObject *self = dates ? business_of(weekend, dates, years) : NULL;
     Py_XDECREF(dates);
     return self;
 }
@@ -218,21 +250,46 @@ static void business_free(PyObject *self)
 
 /* ---- open days */
 
+static bool has_years(const BusinessCalendar *of)
+{
+    return of->years.first != all_years.first || of->years.last != all_years.last;
+}
+
+/* A ValueError: an answer looks at a year of which the holidays are not known. */
+static PyObject *refuse_years(const BusinessCalendar *of)
+{
+    Years years = of->years;
+    if (years.first == all_years.first) {
+        return PyErr_Format(PyExc_ValueError, "the holidays are known to %d alone, and another year is looked at", years.last);
+    }
+    if (years.last == all_years.last) {
+        return PyErr_Format(PyExc_ValueError, "the holidays are known from %d alone, and another year is looked at", years.first);
+    }
+    return PyErr_Format(PyExc_ValueError, "the holidays are known from %d to %d alone, and another year is looked at", years.first, years.last);
+}
+
 static PyObject *is_open(PyObject *self, PyObject *it)
 {
     BusinessCalendar *of = (BusinessCalendar *)self;
     int32_t date;
-    return take_date(it, &date) ? PyBool_FromLong(calendar_is_open_day(of->weekend, of->holidays, of->count, date)) : NULL;
-}
-
-/* An open day, or an OverflowError if there is none. */
-static PyObject *open_day(int32_t number)
-{
-    if (number == CALENDAR_NONE) {
-        PyErr_SetString(PyExc_OverflowError, "there is no such open day in the calendar");
+    if (!take_date(it, &date)) {
         return NULL;
     }
-    return date_of(date_type, number);
+    int32_t open = calendar_is_open_day_within(of->weekend, of->holidays, of->count, of->years.first, of->years.last, date);
+    return open == CALENDAR_NONE ? refuse_years(of) : PyBool_FromLong(open);
+}
+
+/* An open day; without one a ValueError if the calendar has years, or else an OverflowError. */
+static PyObject *open_day(const BusinessCalendar *of, int32_t number)
+{
+    if (number != CALENDAR_NONE) {
+        return date_of(date_type, number);
+    }
+    if (has_years(of)) {
+        return refuse_years(of);
+    }
+    PyErr_SetString(PyExc_OverflowError, "there is no such open day in the calendar");
+    return NULL;
 }
 
 static PyObject *add_open_days(PyObject *self, PyObject *const *arguments, Py_ssize_t count, PyObject *keywords)
@@ -244,7 +301,8 @@ static PyObject *add_open_days(PyObject *self, PyObject *const *arguments, Py_ss
     if (!take_array(&of_add, arguments, count, keywords, parts) || !take_date(parts[0], &date) || !read_whole(parts[1], &days)) {
         return NULL;
     }
-    return open_day(calendar_add_open_days(of->weekend, of->holidays, of->count, date, days));
+    Years years = of->years;
+    return open_day(of, calendar_add_open_days_within(of->weekend, of->holidays, of->count, years.first, years.last, date, days));
 }
 
 static PyObject *between(PyObject *self, PyObject *const *arguments, Py_ssize_t count, PyObject *keywords)
@@ -255,7 +313,9 @@ static PyObject *between(PyObject *self, PyObject *const *arguments, Py_ssize_t 
     if (!take_array(&of_between, arguments, count, keywords, parts) || !take_date(parts[0], &start) || !take_date(parts[1], &end)) {
         return NULL;
     }
-    return PyLong_FromLongLong(calendar_open_days_between(of->weekend, of->holidays, of->count, start, end));
+    Years years = of->years;
+    int64_t days = calendar_open_days_between_within(of->weekend, of->holidays, of->count, years.first, years.last, start, end);
+    return days == INT64_MIN ? refuse_years(of) : PyLong_FromLongLong(days);
 }
 
 static PyObject *roll(PyObject *self, PyObject *const *arguments, Py_ssize_t count, PyObject *keywords)
@@ -268,7 +328,10 @@ static PyObject *roll(PyObject *self, PyObject *const *arguments, Py_ssize_t cou
         || !READ_WORD(parts[1], "roll", rolls, &how)) {
         return NULL;
     }
-    return open_day(calendar_roll(of->weekend, of->holidays, of->count, date, how));
+    Years years = of->years;
+    /* (the nearest day of all is asked for without years, since these end with the calendar) */
+    return open_day(of, has_years(of) ? calendar_roll_within(of->weekend, of->holidays, of->count, years.first, years.last, date, how)
+                                      : calendar_roll(of->weekend, of->holidays, of->count, date, how));
 }
 
 /* ---- day counts */
@@ -317,20 +380,52 @@ static PyObject *weekend(PyObject *self, void *unused)
     return tuple;
 }
 
+/* A year that bounds what is known; None if it is the one that bounds nothing. */
+static PyObject *year_or_none(int32_t year, int32_t none)
+{
+    return year == none ? Py_NewRef(Py_None) : PyLong_FromLong(year);
+}
+
+static PyObject *first_year(PyObject *self, void *unused)
+{
+    (void)unused;
+    return year_or_none(((BusinessCalendar *)self)->years.first, all_years.first);
+}
+
+static PyObject *last_year(PyObject *self, void *unused)
+{
+    (void)unused;
+    return year_or_none(((BusinessCalendar *)self)->years.last, all_years.last);
+}
+
+/* Appends an argument with its name to a text, and lets go of both; null if one is. */
+static PyObject *with_argument(PyObject *text, const char *name, PyObject *value)
+{
+    PyObject *more = text && value ? PyUnicode_FromFormat("%U, %s=%R", text, name, value) : NULL;
+    Py_XDECREF(text);
+    Py_XDECREF(value);
+    return more;
+}
+
 static PyObject *business_repr(PyObject *self)
 {
+    const BusinessCalendar *of = (BusinessCalendar *)self;
     PyObject *dates = holidays(self, NULL), *list = dates ? PySequence_List(dates) : NULL;
-    PyObject *days = list ? list_of_weekdays(((BusinessCalendar *)self)->weekend) : NULL;
-    PyObject *text = NULL;
-    if (days) {
-        bool is_usual = ((BusinessCalendar *)self)->weekend == WEEKEND;
-        text = is_usual ? PyUnicode_FromFormat("BusinessCalendar(%R)", list)
-                        : PyUnicode_FromFormat("BusinessCalendar(%R, weekend=%R)", list, days);
+    PyObject *text = list ? PyUnicode_FromFormat("BusinessCalendar(%R", list) : NULL;
+    if (of->weekend != WEEKEND) {
+        text = with_argument(text, "weekend", list_of_weekdays(of->weekend));
     }
+    if (of->years.first != all_years.first) {
+        text = with_argument(text, "first_year", first_year(self, NULL));
+    }
+    if (of->years.last != all_years.last) {
+        text = with_argument(text, "last_year", last_year(self, NULL));
+    }
+    PyObject *whole = text ? PyUnicode_FromFormat("%U)", text) : NULL;
     Py_XDECREF(dates);
     Py_XDECREF(list);
-    Py_XDECREF(days);
-    return text;
+    Py_XDECREF(text);
+    return whole;
 }
 
 static PyObject *business_compare(PyObject *left, PyObject *right, int order)
@@ -340,6 +435,7 @@ static PyObject *business_compare(PyObject *left, PyObject *right, int order)
     }
     const BusinessCalendar *one = (BusinessCalendar *)left, *other = (BusinessCalendar *)right;
     bool are_same = one->weekend == other->weekend && one->count == other->count
+        && one->years.first == other->years.first && one->years.last == other->years.last
         && memcmp(one->holidays, other->holidays, one->count * sizeof one->holidays[0]) == 0;
     return PyBool_FromLong(are_same == (order == Py_EQ));
 }
@@ -358,7 +454,8 @@ static Py_hash_t business_hash(PyObject *self)
 static PyObject *business_reduce(PyObject *self, PyObject *unused)
 {
     (void)unused;
-    return Py_BuildValue("(O(NN))", (PyObject *)business_type, holidays(self, NULL), weekend(self, NULL));
+    return Py_BuildValue("(O(NNNN))", (PyObject *)business_type, holidays(self, NULL), weekend(self, NULL), first_year(self, NULL),
+                         last_year(self, NULL));
 }
 
 /* ---- the type */
@@ -366,6 +463,8 @@ static PyObject *business_reduce(PyObject *self, PyObject *unused)
 static PyGetSetDef fields[] = {
     {"holidays", holidays, NULL, "The holidays as a tuple of Dates, in order, without those on the weekend.", NULL},
     {"weekend", weekend, NULL, "The weekdays of the weekend as a tuple of numbers, from 1 for Monday to 7.", NULL},
+    {"first_year", first_year, NULL, "The first year of which the holidays are known, or None.", NULL},
+    {"last_year", last_year, NULL, "The last year of which the holidays are known, or None.", NULL},
     {NULL, NULL, NULL, NULL, NULL},
 };
 
@@ -373,8 +472,8 @@ static PyMethodDef methods[] = {
     {"known", METHOD(business_known), METH_FASTCALL | METH_KEYWORDS | METH_CLASS,
      "known($type, /, name, first_year, last_year, weekend=(6, 7))\n--\n\n"
      "Returns the calendar with the holidays of some years by known rules. They begin in 1971 (us_federal, fedwire), 1978\n"
-     "(england_and_wales), 1982 (france), 1995 (germany), 1998 (nyse), 1999 (target) and 2007 (japan). Before that only the\n"
-     "weekend is closed.\n\n"
+     "(england_and_wales), 1982 (france), 1995 (germany), 1998 (nyse), 1999 (target) and 2007 (japan). An answer that looks at\n"
+     "a year before that, or at one that was not asked for, is a ValueError.\n\n"
      ">>> BusinessCalendar.known('target', 2024, 2024).add(Date(2024, 3, 28), 2)\nDate(2024, 4, 3)\n\n"
      "name is 'us_federal', 'target' (the euro's payment system), 'england_and_wales', 'fedwire', 'nyse' (the New York Stock\n"
      "Exchange), 'germany' (holidays of all its states), 'france' or 'japan' (its banks; with equinoxes up to 2099). Raises\n"
@@ -402,11 +501,12 @@ static PyMethodDef methods[] = {
 };
 
 PyDoc_STRVAR(documentation,
-"BusinessCalendar(holidays=(), weekend=(6, 7))\n--\n\n"
+"BusinessCalendar(holidays=(), weekend=(6, 7), first_year=None, last_year=None)\n--\n\n"
 "Open days: those that are neither on the weekend nor a holiday.\n\n"
 ">>> BusinessCalendar([Date(2024, 3, 29)]).is_open(Date(2024, 3, 29))\nFalse\n\n"
 "holidays are at most 1,000 dates in any order. Those on the weekend and those that come twice are left out. weekend are weekdays,\n"
-"from 1 for Monday. Each date can be a datetime.date too.");
+"from 1 for Monday. Each date can be a datetime.date too. If the holidays are those of some years alone, first_year and last_year say\n"
+"so, and an answer that looks at another year is a ValueError.");
 
 static PyType_Slot slots[] = {
     {Py_tp_doc, (void *)documentation},

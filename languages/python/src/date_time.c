@@ -467,6 +467,10 @@ static PyObject *add_months(PyObject *self, PyObject *it)
     if (!read_whole(it, &months)) {
         return NULL;
     }
+    if (months == 0) {
+        /* (a move by nothing keeps the fold, and so the instant) */
+        return date_time_in(Py_TYPE(self), moment_of(self), zoning_of(self));
+    }
     int32_t number = calendar_add_months(day_of(self), months);
     return reached(self, calendar_date_time_new(number, (uint32_t)second_of(self), moment_of(self).nanos));
 }

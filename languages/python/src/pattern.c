@@ -11,6 +11,8 @@ typedef struct {
     PyObject *text;
     const uint8_t *bytes;
     size_t length;
+    /* Whether its texts have an offset from UTC. */
+    bool has_offset;
 } Pattern;
 
 /* The longest text that the library writes. */
@@ -71,6 +73,7 @@ static PyObject *pattern_new(PyTypeObject *kind, PyObject *arguments, PyObject *
         self->text = Py_NewRef(parts[0]);
         self->bytes = bytes;
         self->length = length;
+        self->has_offset = calendar_pattern_names_offset(bytes, length);
     }
     return (PyObject *)self;
 }
@@ -120,8 +123,22 @@ static PyObject *read_date(const Pattern *of, const uint8_t *bytes, size_t lengt
     return number == CALENDAR_NONE ? NULL : date_of(date_type, number);
 }
 
+/* The date-time in the zone of the text's offset. */
+static PyObject *read_zoned(const Pattern *of, const uint8_t *bytes, size_t length, calendar_fault *fault)
+{
+    calendar_zoned zoned = calendar_parse_zoned(of->bytes, of->length, bytes, length, fault);
+    calendar_date_time local = {.seconds = zoned.seconds, .nanos = zoned.nanos};
+    if (zoned.nanos == CALENDAR_NO_NANOS) {
+        return NULL;
+    }
+    return by_python(ZONED, "at_offset", "(Ni)", date_time_of(date_time_type, local), (int)zoned.offset);
+}
+
 static PyObject *read_date_time(const Pattern *of, const uint8_t *bytes, size_t length, calendar_fault *fault)
 {
+    if (of->has_offset) {
+        return read_zoned(of, bytes, length, fault);
+    }
     calendar_date_time moment = calendar_parse_date_time(of->bytes, of->length, bytes, length, fault);
     return moment.nanos == CALENDAR_NO_NANOS ? NULL : date_time_of(date_time_type, moment);
 }
@@ -195,11 +212,12 @@ static PyMethodDef methods[] = {
      "lacks: a date lacks a time, and both lack an offset.\n\n"
      ">>> Pattern('%-d %b %Y').format(Date(2024, 2, 29))\n'29 Feb 2024'"},
     {"parse_date", parse_date, METH_O,
-     "parse_date($self, text, /)\n--\n\nReturns the date of a text. Raises TextError if there is none.\n\n"
+     "parse_date($self, text, /)\n--\n\nReturns the date of a text, which beside an offset is the local one. Raises TextError if there is none.\n\n"
      ">>> Pattern('%d.%m.%y').parse_date('29.2.24')\nDate(2024, 2, 29)"},
     {"parse_date_time", parse_date_time, METH_O,
-     "parse_date_time($self, text, /)\n--\n\nReturns the date-time of a text. Raises TextError if there is none.\n\n"
-     ">>> print(Pattern('%F %R').parse_date_time('2024-02-29 12:30'))\n2024-02-29T12:30:00"},
+     "parse_date_time($self, text, /)\n--\n\nReturns the date-time of a text. An offset gives a datetime.timezone. Raises TextError if there is none.\n\n"
+     ">>> print(Pattern('%F %R').parse_date_time('2024-02-29 12:30'))\n2024-02-29T12:30:00\n\n"
+     ">>> print(Pattern('%F %R %z').parse_date_time('2024-02-29 12:30 +0100'))\n2024-02-29T12:30:00+01:00"},
     {"__reduce__", pattern_reduce, METH_NOARGS, "__reduce__($self, /)\n--\n\nWhat pickle and copy keep."},
     {NULL, NULL, 0, NULL},
 };

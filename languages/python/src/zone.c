@@ -332,7 +332,7 @@ static PyObject *tz_name(PyObject *self, PyObject *it)
     calendar_date_time moment;
     Zoning zoning;
     if (it == Py_None) {
-        return ((Zone *)self)->key ? Py_NewRef(((Zone *)self)->key) : Py_NewRef(Py_None);
+        Py_RETURN_NONE;
     }
     if (!take_shown(self, it, &moment, &zoning, false)) {
         return NULL;

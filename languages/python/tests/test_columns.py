@@ -342,6 +342,31 @@ class OpenDays(Columns):
         self.assertEqual(columns.open_days_between(numpy.datetime64("2024-04-03"), days, CALENDAR).tolist(), [-2, NAT])
         self.assertEqual(columns.year_fractions(days[0], days, "actual_360").tolist()[0], 0.0)
 
+    def test_years(self):
+        """A ValueError says that an answer looks at a year of which the holidays are not known, as it does of one date."""
+        years = BusinessCalendar(CALENDAR.holidays, first_year=2024, last_year=2024)
+        for array, dates in self.near():
+            inside = array[[it is None or Date.from_number(it).year == 2024 for it in dates]]
+            days = [it for it in dates if it is None or Date.from_number(it).year == 2024]
+            self.assertEqual(columns.is_open(inside, years).tolist(), columns.is_open(inside, CALENDAR).tolist())
+            self.assertRaisesRegex(ValueError, "known from 2024 to 2024 alone", columns.is_open, array, years)
+            for call, single in (
+                *((lambda it, by=by: columns.add_open_days(it, by, years), lambda it, by=by: years.add(it, by)) for by in (0, 1, -1, 20, 10**9)),
+                *((lambda it, how=how: columns.roll(it, how, years), lambda it, how=how: years.roll(it, how)) for how in ROLLS),
+                (lambda it: columns.add_open_days(it, numpy.ones(it.shape, "i4"), years), lambda it: years.add(it, 1)),
+            ):
+                answers = [None if it is None else outcome(single, Date.from_number(it)) for it in days]
+                known = [day is None or it is not None for day, it in zip(days, answers)]
+                found = self.number_array(call(inside[known]))[0]
+                self.assertEqual(found, [number_of(it) for it, is_known in zip(answers, known) if is_known])
+                if not all(known):
+                    self.assertRaises(ValueError, call, inside)
+        year = numpy.array(["2024-01-01", "2025-01-01", "NaT", "2024-01-01"], "M8[D]")
+        ends = numpy.array(["2025-01-01", "2025-01-01", "2023-01-01", "2024-01-01"], "M8[D]")
+        self.assertEqual(columns.open_days_between(year, ends, years).tolist(), columns.open_days_between(year, ends, CALENDAR).tolist())
+        for wrong in ("2023-12-31", "2025-01-02"):
+            self.assertRaises(ValueError, columns.open_days_between, year, numpy.datetime64(wrong), years)
+
     def test_wrong(self):
         days = numpy.array(["2024-03-28"], "M8[D]")
         for empty in (days, days[:0]):

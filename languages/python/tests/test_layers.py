@@ -533,6 +533,36 @@ class OpenDays(unittest.TestCase):
         self.assertRaises(ValueError, BusinessCalendar.known, "mars", 2024, 2024)
         self.assertRaises(TypeError, BusinessCalendar.known, "target", 2024)
 
+    def test_years(self):
+        """An answer that looks at a year of which the holidays are not known is a ValueError that names the years."""
+        target, wednesday, new_year = BusinessCalendar.known("target", 2024, 2026), Date(2026, 12, 30), Date(2027, 1, 1)
+        self.assertEqual((target.first_year, target.last_year, target.add(wednesday, 1)), (2024, 2026, Date(2026, 12, 31)))
+        for call in (
+            lambda: target.add(wednesday, 2), lambda: target.add(new_year, -1), lambda: target.add(Date(2024, 1, 2), -1), lambda: target.is_open(new_year),
+            lambda: target.add(wednesday, 10**10), lambda: target.roll(new_year, "unadjusted"), lambda: target.between(Date(2023, 12, 31), new_year),
+            lambda: target.between(Date(2027, 1, 2), wednesday),
+        ):
+            self.assertRaisesRegex(ValueError, "known from 2024 to 2026 alone", call)
+        # (261 days of 2026 are no weekends, and five of them holidays)
+        self.assertEqual([target.between(Date(2026, 1, 1), new_year), target.between(new_year, Date(2026, 1, 1)), target.between(new_year, new_year)], [256, -256, 0])
+        # (31 December 2022 is a Saturday)
+        saturday, friday = Date(2022, 12, 31), Date(2022, 12, 30)
+        one, two = (BusinessCalendar(first_year=2022, last_year=it) for it in (2022, 2023))
+        for how in ("preceding", "modified_following", "modified_preceding", "nearest_isda"):
+            self.assertEqual(one.roll(saturday, how), friday, how)
+        for how in ("following", "nearest_quantlib"):
+            self.assertRaises(ValueError, one.roll, saturday, how)
+        self.assertEqual([two.roll(saturday, how) for how in ("following", "nearest_quantlib")], [Date(2023, 1, 2), friday])
+        for years, said in (((1990, 2000), "from 1999 to 2000"), ((1990, 1998), "from 1999 to 1998")):
+            self.assertRaisesRegex(ValueError, said, BusinessCalendar.known("target", *years).is_open, Date(1998, 12, 31))
+        self.assertEqual(BusinessCalendar.known("target", 1990, 2000).is_open(Date(1999, 12, 31)), False)
+        self.assertRaisesRegex(ValueError, "known from 2024 alone", BusinessCalendar(first_year=2024).is_open, friday)
+        self.assertRaisesRegex(ValueError, "known to 2021 alone", BusinessCalendar(last_year=2021).is_open, friday)
+        self.assertEqual((EASTER.first_year, EASTER.last_year, BusinessCalendar([], (6, 7), None, 2024).last_year), (None, None, 2024))
+        for wrong in (262143, -262144, 2**40):
+            self.assertRaises(ValueError, BusinessCalendar, first_year=wrong)
+            self.assertRaises(ValueError, BusinessCalendar, last_year=wrong)
+
     def test_easter(self):
         self.assertEqual([easter(it) for it in (1818, 1943, 2024, 2038)],
                          [Date(1818, 3, 22), Date(1943, 4, 25), Date(2024, 3, 31), Date(2038, 4, 25)])
@@ -544,7 +574,7 @@ class OpenDays(unittest.TestCase):
         for call in (
             lambda: EASTER.is_open("2024-03-29"), lambda: EASTER.is_open(DateTime(2024, 3, 29)), lambda: EASTER.add(GOOD_FRIDAY),
             lambda: EASTER.add(GOOD_FRIDAY, 1.0), lambda: EASTER.add(1, 1), lambda: EASTER.between(GOOD_FRIDAY), lambda: EASTER.roll(GOOD_FRIDAY),
-            lambda: EASTER.between(GOOD_FRIDAY, 1), lambda: BusinessCalendar([], [6], 1), lambda: BusinessCalendar(days=[]),
+            lambda: EASTER.between(GOOD_FRIDAY, 1), lambda: BusinessCalendar([], [6], "2024"), lambda: BusinessCalendar([], [6], 2024, 2025, 1), lambda: BusinessCalendar(days=[]),
         ):
             self.assertRaises(TypeError, call)
 
@@ -552,7 +582,11 @@ class OpenDays(unittest.TestCase):
         self.assertEqual(repr(EASTER), "BusinessCalendar([Date(2024, 3, 29), Date(2024, 4, 1)])")
         other = BusinessCalendar([GOOD_FRIDAY], weekend=(7,))
         self.assertEqual(repr(other), "BusinessCalendar([Date(2024, 3, 29)], weekend=[7])")
-        for it in (EASTER, other, BusinessCalendar(), BusinessCalendar(weekend=())):
+        bounded = [BusinessCalendar([GOOD_FRIDAY], first_year=2024), BusinessCalendar([GOOD_FRIDAY], last_year=2024)]
+        bounded.append(BusinessCalendar([GOOD_FRIDAY], first_year=2024, last_year=2024))
+        self.assertEqual(repr(bounded[2]), "BusinessCalendar([Date(2024, 3, 29)], first_year=2024, last_year=2024)")
+        self.assertEqual(len({BusinessCalendar([GOOD_FRIDAY]), *bounded}), 4)
+        for it in (EASTER, other, BusinessCalendar(), BusinessCalendar(weekend=()), *bounded):
             for again in (eval(repr(it)), copy.copy(it), copy.deepcopy(it), pickle.loads(pickle.dumps(it))):
                 self.assertEqual(again, it)
                 self.assertEqual(hash(again), hash(it))
@@ -605,6 +639,23 @@ class Patterns(unittest.TestCase):
         for call in (pattern.parse_date, moment.parse_date_time):
             self.assertRaises(TypeError, call, b"29.2.2024")
             self.assertRaises(UnicodeEncodeError, call, "\ud800")
+
+    def test_offsets(self):
+        text, by = "2024-02-29T12:00:00+0100", "%Y-%m-%dT%H:%M:%S%z"
+        found = Pattern(by).parse_date_time(text)
+        self.assertEqual((found.isoformat(), found.utcoffset()), ("2024-02-29T12:00:00+01:00", datetime.timedelta(hours=1)))
+        self.assertEqual(found, datetime.datetime.strptime(text, by))
+        self.assertIs(type(found.tzinfo), datetime.timezone)
+        self.assertIs(Pattern("%+").parse_date_time("2024-02-29T12:00:00Z").tzinfo, datetime.timezone.utc)
+        for by, text, wanted in (
+            ("%FT%T%.f%:z", "2024-02-29T12:00:00.5-09:30", "2024-02-29T12:00:00.500-09:30"), ("%s %z", "0 +0530", "1970-01-01T05:30:00+05:30"),
+            ("%F %R %::z", "2024-02-29 12:00 +01:00:30", "2024-02-29T12:00:00+01:00:30"), ("%F %R %Z", "2024-02-29 12:00 CET", "2024-02-29T12:00:00"),
+        ):
+            self.assertEqual(Pattern(by).parse_date_time(text).isoformat(), wanted)
+        self.assertEqual(Pattern("%F %z").parse_date("2024-02-29 +0100"), Date(2024, 2, 29))
+        self.wrong(Pattern("%F %R %z").parse_date_time, "2024-02-29 12:00", 16, 16, "the text ends before its pattern")
+        self.wrong(Pattern("%F %R %z").parse_date_time, "2024-02-29 12:00 +2400", 17, 22, "a number that is out of range")
+        self.wrong(Pattern("%F %z").parse_date_time, "2024-02-29 +0100", 0, 16, "too few fields for a day or a time")
 
     def test_wrong_patterns(self):
         self.wrong(Pattern, "%Y-%Q", 3, 5, "no such specifier")

@@ -152,6 +152,19 @@ class Accessor(unittest.TestCase):
             with self.assertRaisesRegex(Exception, "2024-03-10 02:30"):
                 move()
 
+    def test_moves_by_nothing(self):
+        """A move by nothing is the same instant, also where the clock shows the time twice."""
+        hours = pandas.date_range("2024-10-26 23:30", periods=4, freq="60min", tz="UTC")
+        shown = pandas.Series(hours.tz_convert("Europe/Berlin"), list("abcd"), name="due")
+        shown["c"] = pandas.NaT
+        at = shown.proved
+        for still in (at.add_months(0), at.add_days(0), at.roll("unadjusted", CALENDAR), at.add_days(pandas.Series([0] * 4, list("abcd")))):
+            pandas.testing.assert_series_equal(still, shown)
+        self.assertEqual([it + Months(0) for it in shown.dropna()], list(shown.dropna()))
+        self.assertEqual(str(at.add_days(pandas.Series([0, 0, 0, 1], list("abcd")))["d"]), "2024-10-28 03:30:00+01:00")
+        with self.assertRaisesRegex(Exception, "2025-10-26 02:30"):
+            at.add_days(364)
+
     def test_ends(self):
         ends = pandas.Series([pandas.Timestamp.min, pandas.Timestamp.max, pandas.NaT], list("abc"))
         self.assertEqual(ends.proved.add_days(0).tolist(), ends.tolist())

@@ -7,6 +7,7 @@ import itertools
 import os
 import pickle
 import random
+import struct
 import sys
 import time
 import unittest
@@ -177,8 +178,24 @@ class OwnZones(Cases):
             self.assertEqual(pickle.loads(pickle.dumps(moment)), moment)
             self.assertEqual(eval(repr(moment)), moment)
         self.assertFalse(berlin == file or berlin != Zone("Europe/Berlin") or berlin == "Europe/Berlin")
-        self.assertEqual((berlin.utcoffset(None), berlin.tzname(None), tokyo.tzname(None)), (None, "Europe/Berlin", None))
+        self.assertEqual((berlin.utcoffset(None), berlin.tzname(None), tokyo.tzname(None)), (None, None, None))
         self.assertRaises(AttributeError, setattr, berlin, "key", "")
+
+    def test_one_offset(self):
+        """The zone of CPython's test_one_zone_dst: one change from daylight time to daylight time, and a rule that keeps it all year."""
+        blocks = (b"TZif2" + bytes(15) + struct.pack(f">6L{size}BlBB", 0, 0, 0, 1, 1, 4, -3_600, 0, 3_600, 1, 0) + b"DST\0" for size in "lq")
+        zone = Zone.from_tzif(b"".join(blocks) + b"\nSTD0DST-1,0/0,J365/25\n")
+        for year in (1900, 1965, 1970, 2010, 2040):
+            for month in (1, 7, 12):
+                self.assertEqual(DateTime(year, month, 1, tzinfo=zone).utcoffset(), timedelta(hours=1))
+
+    def test_other_version(self):
+        with open(os.path.join(zoneinfo.TZPATH[0], "Europe/Berlin"), "rb") as it:
+            data = it.read()
+        second = data.rindex(b"TZif")
+        with self.assertRaises(ValueError) as caught:
+            Zone.from_tzif(data[: second + 4] + b"\xff" + data[second + 5 :])
+        self.assertEqual(str(caught.exception), "the data: the two headers name different versions")
 
     def test_refused(self):
         for key in ("Europe/Berlim", "", "/etc/passwd", "../zoneinfo/Europe/Berlin", "Europe/../Europe/Berlin", "Europe", "Europe/Berlin\0", "tzdata.zi"):
@@ -322,6 +339,15 @@ class Zones(Cases):
             moved, wanted = ours + length, theirs + length
             self.assertEqual((moved.to_datetime(), moved.fold, moved.tzinfo), (wanted, wanted.fold, wanted.tzinfo))
             self.assertEqual((ours.add_months(1).tzinfo, ours.add_months(1).time), (ours.tzinfo, ours.time))
+
+    def test_months_of_nothing(self):
+        """A move by no months is the same instant, also where the clock shows the time twice."""
+        for ours, _ in self.pairs():
+            still = ours.add_months(0)
+            self.assertEqual((str(still), still.fold, still.tzinfo, still.timestamp()), (str(ours), ours.fold, ours.tzinfo, ours.timestamp()))
+        for zone in (BERLIN, Zone("Europe/Berlin")):
+            second = Moment(2024, 10, 27, 2, 30, tzinfo=zone, fold=1)
+            self.assertEqual((type(second.add_months(0)), str(second.add_months(0)), second.add_months(1).fold), (Moment, "2024-10-27T02:30:00+01:00", 0))
 
     def test_making(self):
         for made in (

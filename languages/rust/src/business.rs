@@ -245,6 +245,7 @@ pub enum KnownCalendar {
 impl KnownCalendar {
     /// The holidays of some years, but for those on the weekend, which are written into a slice. `None` if they do not fit, or the
     /// calendar does not have the years. New Year's Day can be kept in the year before, so ask for one year more.
+    /// [`within`](Self::within) makes a calendar of them that knows its years.
     ///
     /// There are none before the rules begin: in 1971 (`UsFederal`, `Fedwire`), 1978 (`EnglandAndWales`), 1982 (`France`), 1995
     /// (`Germany`), 1998 (`Nyse`), 1999 (`Target`) and 2007 (`Japan`).

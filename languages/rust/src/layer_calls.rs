@@ -36,12 +36,23 @@ pub(crate) struct Quotient {
 }
 
 /// `calendar_offsets`.
+#[cfg(feature = "alloc")]
 #[repr(C)]
 #[derive(Clone, Copy, Debug, PartialEq, Eq, Hash)]
 pub(crate) struct Offsets {
     pub(crate) count: u32,
     pub(crate) earlier: i32,
     pub(crate) later: i32,
+}
+
+/// `calendar_zoned`.
+#[cfg_attr(not(feature = "alloc"), allow(dead_code))]
+#[repr(C)]
+#[derive(Clone, Copy, Debug, PartialEq, Eq, Hash)]
+pub(crate) struct Zoned {
+    pub(crate) seconds: i64,
+    pub(crate) nanos: u32,
+    pub(crate) offset: i32,
 }
 
 // As in `calls`: a function is safe if it takes no pointer but references. Of one that takes a pointer, so many elements have to
@@ -62,25 +73,6 @@ unsafe extern "C" {
         start: Moment,
         until: Moment,
         out: *mut Moment,
-        room: usize,
-    ) -> usize;
-    pub(crate) fn calendar_rule_check(text: *const u8, length: usize, fault: &mut Fault) -> bool;
-    pub(crate) fn calendar_rule_fault_text(fault: &Fault, text: *mut u8, room: usize) -> i32;
-    pub(crate) fn calendar_rule_next(text: *const u8, length: usize, start: i32, day: i32) -> i32;
-    pub(crate) fn calendar_rule_prev(text: *const u8, length: usize, start: i32, day: i32) -> i32;
-    pub(crate) fn calendar_rule_is_instance(
-        text: *const u8,
-        length: usize,
-        start: i32,
-        day: i32,
-    ) -> bool;
-    pub(crate) fn calendar_rule_instances(
-        text: *const u8,
-        length: usize,
-        start: i32,
-        from: i32,
-        until: i32,
-        out: *mut i32,
         room: usize,
     ) -> usize;
     pub(crate) fn calendar_is_open_day(
@@ -124,6 +116,42 @@ unsafe extern "C" {
         weekend: u8,
         out: *mut i32,
         room: usize,
+    ) -> i32;
+    pub(crate) safe fn calendar_holidays_first_year(which: u32) -> i32;
+    pub(crate) fn calendar_is_open_day_within(
+        weekend: u8,
+        holidays: *const i32,
+        count: usize,
+        first_year: i32,
+        last_year: i32,
+        date: i32,
+    ) -> i32;
+    pub(crate) fn calendar_add_open_days_within(
+        weekend: u8,
+        holidays: *const i32,
+        count: usize,
+        first_year: i32,
+        last_year: i32,
+        date: i32,
+        n: i64,
+    ) -> i32;
+    pub(crate) fn calendar_open_days_between_within(
+        weekend: u8,
+        holidays: *const i32,
+        count: usize,
+        first_year: i32,
+        last_year: i32,
+        from: i32,
+        to: i32,
+    ) -> i64;
+    pub(crate) fn calendar_roll_within(
+        weekend: u8,
+        holidays: *const i32,
+        count: usize,
+        first_year: i32,
+        last_year: i32,
+        date: i32,
+        roll: u32,
     ) -> i32;
     pub(crate) safe fn calendar_easter(year: i32) -> i32;
     pub(crate) fn calendar_column_is_open_day(
@@ -178,6 +206,31 @@ unsafe extern "C" {
         days: *mut i32,
         days_length: usize,
     ) -> bool;
+    pub(crate) safe fn calendar_day_count(kind: u32, from: i32, to: i32) -> Quotient;
+}
+
+// What only types with texts and lists call.
+#[cfg(feature = "alloc")]
+unsafe extern "C" {
+    pub(crate) fn calendar_rule_check(text: *const u8, length: usize, fault: &mut Fault) -> bool;
+    pub(crate) fn calendar_rule_fault_text(fault: &Fault, text: *mut u8, room: usize) -> i32;
+    pub(crate) fn calendar_rule_next(text: *const u8, length: usize, start: i32, day: i32) -> i32;
+    pub(crate) fn calendar_rule_prev(text: *const u8, length: usize, start: i32, day: i32) -> i32;
+    pub(crate) fn calendar_rule_is_instance(
+        text: *const u8,
+        length: usize,
+        start: i32,
+        day: i32,
+    ) -> bool;
+    pub(crate) fn calendar_rule_instances(
+        text: *const u8,
+        length: usize,
+        start: i32,
+        from: i32,
+        until: i32,
+        out: *mut i32,
+        room: usize,
+    ) -> usize;
     pub(crate) fn calendar_pattern_check(
         pattern: *const u8,
         length: usize,
@@ -211,8 +264,15 @@ unsafe extern "C" {
         text_length: usize,
         fault: &mut Fault,
     ) -> Moment;
+    pub(crate) fn calendar_pattern_names_offset(pattern: *const u8, length: usize) -> bool;
+    pub(crate) fn calendar_parse_zoned(
+        pattern: *const u8,
+        length: usize,
+        text: *const u8,
+        text_length: usize,
+        fault: &mut Fault,
+    ) -> Zoned;
     pub(crate) fn calendar_pattern_fault_text(fault: &Fault, text: *mut u8, room: usize) -> i32;
-    pub(crate) safe fn calendar_day_count(kind: u32, from: i32, to: i32) -> Quotient;
     pub(crate) fn calendar_zone_check(zone: *const u8, length: usize, fault: &mut Fault) -> bool;
     pub(crate) fn calendar_zone_fault_text(fault: &Fault, text: *mut u8, room: usize) -> i32;
     pub(crate) fn calendar_zone_offset_at(zone: *const u8, length: usize, second: i64) -> i32;

@@ -7,6 +7,7 @@ extern crate alloc;
 #[cfg(feature = "std")]
 extern crate std;
 
+mod bounded_calendar;
 mod business;
 #[cfg(feature = "alloc")]
 mod calendar_text;
@@ -44,6 +45,7 @@ mod zone;
 #[cfg(any(feature = "chrono", feature = "time"))]
 mod conversion_error;
 
+pub use bounded_calendar::{BoundedCalendar, YearsError};
 pub use business::{
     easter, BusinessCalendar, DayCount, Fraction, HolidaysError, KnownCalendar, Roll,
 };

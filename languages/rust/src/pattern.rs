@@ -4,6 +4,7 @@ use alloc::string::String;
 use core::fmt;
 use core::str::{from_utf8, FromStr};
 
+use crate::calls::Moment;
 use crate::layer_calls::*;
 use crate::text_error::{Kind, TextError};
 use crate::{Date, DateTime};
@@ -84,7 +85,8 @@ impl Pattern {
         Date::from_number(number).ok_or(error(fault))
     }
 
-    /// The date-time that a text is of. The error has the place in the text.
+    /// The date-time that a text is of. The error has the place in the text. A pattern with an offset is refused: [`Pattern::parse_zoned`]
+    /// keeps it.
     ///
     /// ```
     /// use proved_calendar::Pattern;
@@ -95,9 +97,56 @@ impl Pattern {
     pub fn parse_date_time(&self, text: &str) -> Result<DateTime, TextError> {
         let (pattern, length) = (self.text.as_ptr(), self.text.len());
         let (bytes, count, mut fault) = (text.as_ptr(), text.len(), Fault::NONE);
+        if self.has_offset() {
+            return Err(TextError {
+                fault: Fault {
+                    end: count,
+                    ..fault
+                },
+                kind: Kind::Offset,
+            });
+        }
         // SAFETY: the pattern and the text have as many bytes as their lengths say.
         let moment = unsafe { calendar_parse_date_time(pattern, length, bytes, count, &mut fault) };
         DateTime::found(moment).ok_or(error(fault))
+    }
+
+    /// The local date-time that a text is of, and how many seconds its clock is ahead of UTC. The error has the place in the text.
+    ///
+    /// The pattern has an offset, or `%s`, whose seconds are of UTC.
+    ///
+    /// ```
+    /// use proved_calendar::Pattern;
+    /// let pattern: Pattern = "%F %R %z".parse().unwrap();
+    /// let (local, offset) = pattern.parse_zoned("2024-02-29 13:30 +0530").unwrap();
+    /// assert_eq!((local.to_string(), offset), ("2024-02-29T13:30:00".into(), 19_800));
+    /// assert!(pattern.parse_date_time("2024-02-29 13:30 +0530").is_err());
+    /// ```
+    pub fn parse_zoned(&self, text: &str) -> Result<(DateTime, i32), TextError> {
+        let (pattern, length) = (self.text.as_ptr(), self.text.len());
+        let (bytes, count, mut fault) = (text.as_ptr(), text.len(), Fault::NONE);
+        // SAFETY: the pattern and the text have as many bytes as their lengths say.
+        let zoned = unsafe { calendar_parse_zoned(pattern, length, bytes, count, &mut fault) };
+        let Zoned {
+            seconds,
+            nanos,
+            offset,
+        } = zoned;
+        let local = DateTime::found(Moment { seconds, nanos }).ok_or(error(fault))?;
+        Ok((local, offset))
+    }
+
+    /// Whether its texts have an offset from UTC, as by `%z` or `%+`.
+    ///
+    /// ```
+    /// use proved_calendar::Pattern;
+    /// let [local, zoned] = ["%F %R", "%F %R %z"].map(|it| it.parse::<Pattern>().unwrap());
+    /// assert_eq!([local.has_offset(), zoned.has_offset()], [false, true]);
+    /// ```
+    #[must_use]
+    pub fn has_offset(&self) -> bool {
+        // SAFETY: the pattern has as many bytes as its length says.
+        unsafe { calendar_pattern_names_offset(self.text.as_ptr(), self.text.len()) }
     }
 
     /// The text that it was read from.

@@ -28,6 +28,7 @@ pub(crate) enum Kind {
     /// A [`crate::Schedule`].
     Schedule,
     /// A rule.
+    #[cfg(feature = "alloc")]
     Rule,
     /// A zone.
     #[cfg(feature = "alloc")]
@@ -35,6 +36,9 @@ pub(crate) enum Kind {
     /// A pattern, or a text that a pattern reads.
     #[cfg(feature = "alloc")]
     Pattern,
+    /// A text with no offset, which a pattern reads.
+    #[cfg(feature = "alloc")]
+    Offset,
     /// A text of a calendar.
     #[cfg(feature = "alloc")]
     Calendar,
@@ -84,15 +88,22 @@ impl TextError {
 
 impl fmt::Display for TextError {
     fn fmt(&self, f: &mut fmt::Formatter<'_>) -> fmt::Result {
+        #[cfg(feature = "alloc")]
+        if self.kind == Kind::Offset {
+            return f.pad("the pattern reads an offset, which parse_zoned keeps");
+        }
         // SAFETY: the room has as many bytes as its length says.
         write_sentence(f, |room, count| unsafe {
             match self.kind {
                 Kind::Schedule => calendar_schedule_fault_text(&self.fault, room, count),
+                #[cfg(feature = "alloc")]
                 Kind::Rule => calendar_rule_fault_text(&self.fault, room, count),
                 #[cfg(feature = "alloc")]
                 Kind::Zone => calendar_zone_fault_text(&self.fault, room, count),
                 #[cfg(feature = "alloc")]
-                Kind::Pattern => calendar_pattern_fault_text(&self.fault, room, count),
+                Kind::Pattern | Kind::Offset => {
+                    calendar_pattern_fault_text(&self.fault, room, count)
+                }
                 #[cfg(feature = "alloc")]
                 Kind::Calendar => calendar_text_fault_text(&self.fault, room, count),
                 #[cfg(feature = "alloc")]

@@ -401,8 +401,8 @@ impl fmt::Display for ZonedDateTime<'_> {
 impl Schedule {
     /// The first instant after `start` at which the schedule fires in a zone; `None` if there is none. It needs the feature `alloc`.
     ///
-    /// A time that the clock skips fires as the gap ends, and one that it shows twice fires once. But a schedule that lists every minute
-    /// or every hour goes by what the clock shows. So do Vixie's cron and cronie.
+    /// A time that the clock skips fires as the gap ends, and one that it shows twice fires once. But a schedule whose minutes or
+    /// hours begin with `*` goes by what the clock shows. So do Vixie's cron and cronie.
     ///
     /// ```
     /// use proved_calendar::{DateTime, Schedule, Zone};

@@ -2,8 +2,9 @@
 //! function, named after it, and then what Rust adds.
 
 use proved_calendar::{
-    columns, BusinessCalendar, CalendarText, Date, DateTime, DayCount, Dialect, KnownCalendar,
-    LocalOffsets, Pattern, Roll, Rule, RuleSet, Schedule, TimedSchedule, Weekday, WeekdaySet, Zone,
+    columns, BoundedCalendar, BusinessCalendar, CalendarText, Date, DateTime, DayCount, Dialect,
+    KnownCalendar, LocalOffsets, Pattern, Roll, Rule, RuleSet, Schedule, TimedSchedule, Weekday,
+    WeekdaySet, Zone,
 };
 use std::time::{Duration, Instant};
 use Weekday::{Fri, Sat, Sun};
@@ -384,6 +385,84 @@ fn parse_date() {
     }
 }
 
+/// Texts by a pattern with an offset, and the local date-time and the offset that they have.
+const ZONED: [(&str, &str, &str, i32); 4] = [
+    (
+        "%F %R %z",
+        "2024-03-01 13:00 +0530",
+        "2024-03-01T13:00:00",
+        19_800,
+    ),
+    (
+        "%FT%T%.f%:z",
+        "2024-02-29T23:59:60.5-09:30",
+        "2024-02-29T23:59:60.500",
+        -34_200,
+    ),
+    ("%+", "2024-03-01T00:00:00Z", "2024-03-01T00:00:00", 0),
+    ("%s %z", "1709298000 +0100", "2024-03-01T14:00:00", 3_600),
+];
+
+#[test]
+fn pattern_names_offset() {
+    for (by, named) in [
+        ("%F %T %z", true),
+        ("%s", false),
+        ("%F %Z", false),
+        ("%d.%m.%Y", false),
+    ] {
+        assert_eq!(pattern(by).has_offset(), named, "{by}");
+    }
+}
+
+#[test]
+fn parse_zoned() {
+    for (by, of, wanted, offset) in ZONED {
+        assert!(pattern(by).has_offset(), "{by}");
+        assert_eq!(
+            pattern(by).parse_zoned(of),
+            Ok((moment(wanted), offset)),
+            "{by}"
+        );
+        let lost = pattern(by).parse_date_time(of).unwrap_err();
+        assert_eq!(
+            lost.to_string(),
+            "the pattern reads an offset, which parse_zoned keeps"
+        );
+        assert_eq!(
+            (lost.start(), lost.end(), lost.field()),
+            (0, of.len(), None)
+        );
+    }
+    assert_eq!(
+        pattern("%s").parse_zoned("0"),
+        Ok((moment("1970-01-01T00:00:00"), 0))
+    );
+    assert!(!pattern("%s").has_offset() && !pattern("%F %Z").has_offset());
+    for (by, of, start, sentence) in [
+        (
+            "%F %R",
+            "2024-03-01 13:00",
+            0,
+            "the fields do not suffice for the value",
+        ),
+        ("%F %R %z", "2024-03-01 13:00", 16, "the text ends too soon"),
+        (
+            "%F %R %z",
+            "2024-03-01 13:00 +2400",
+            17,
+            "the field has no such value",
+        ),
+    ] {
+        let wrong = pattern(by).parse_zoned(of).unwrap_err();
+        assert_eq!(
+            wrong.to_string(),
+            format!("byte {start}: {sentence}"),
+            "{by}"
+        );
+    }
+}
+
 #[test]
 fn parse_date_time() {
     for (by, of, wanted) in [
@@ -568,6 +647,112 @@ fn holidays_of() {
     assert_eq!(
         KnownCalendar::Target.holidays(300_000..=300_000, weekend(), &mut out),
         None
+    );
+}
+
+#[test]
+fn holidays_first_year() {
+    for (calendar, first) in [
+        (KnownCalendar::UsFederal, 1971),
+        (KnownCalendar::Target, 1999),
+        (KnownCalendar::EnglandAndWales, 1978),
+        (KnownCalendar::Fedwire, 1971),
+        (KnownCalendar::Nyse, 1998),
+        (KnownCalendar::Germany, 1995),
+        (KnownCalendar::France, 1982),
+        (KnownCalendar::Japan, 2007),
+    ] {
+        assert_eq!(calendar.first_year(), first, "{calendar:?}");
+        let mut out = [Date::MIN; 50];
+        let known = calendar.within(first - 9..=first, weekend(), &mut out);
+        assert_eq!(known.unwrap().years(), first..=first);
+    }
+}
+
+#[test]
+fn is_open_day_within() {
+    let mut out = [Date::MIN; 30];
+    let target = KnownCalendar::Target
+        .within(2024..=2026, weekend(), &mut out)
+        .unwrap();
+    assert_eq!(target.is_open(date("2026-12-31")), Ok(true));
+    assert_eq!(target.is_open(date("2024-01-01")), Ok(false));
+    for day in ["2023-12-31", "2027-01-01"] {
+        let wrong = target.is_open(date(day)).unwrap_err();
+        assert_eq!(wrong.years(), 2024..=2026);
+        assert_eq!(
+            wrong.to_string(),
+            "the holidays are known from 2024 to 2026 alone, and another year is looked at"
+        );
+    }
+    assert_eq!(
+        target.calendar().holidays().last(),
+        Some(&date("2026-12-25"))
+    );
+    let mut out = [Date::MIN; 30];
+    let federal = KnownCalendar::UsFederal
+        .within(2021..=2021, weekend(), &mut out)
+        .unwrap();
+    assert_eq!(federal.is_open(date("2021-12-31")), Ok(false));
+    for years in [2024..=300_000, 300_000..=300_001] {
+        assert_eq!(
+            KnownCalendar::Target.within(years, weekend(), &mut out),
+            None
+        );
+    }
+}
+
+#[test]
+fn add_open_days_within() {
+    let mut out = [Date::MIN; 30];
+    let target = KnownCalendar::Target
+        .within(2024..=2026, weekend(), &mut out)
+        .unwrap();
+    let wednesday = date("2026-12-30");
+    assert_eq!(target.add_open_days(wednesday, 1), Ok(date("2026-12-31")));
+    assert!(target.add_open_days(wednesday, 2).is_err());
+    assert!(target.add_open_days(wednesday, i64::MAX).is_err());
+    assert!(target.add_open_days(date("2027-01-01"), -1).is_err());
+    assert!(target.add_open_days(date("2024-01-02"), -1).is_err());
+}
+
+#[test]
+fn open_days_between_within() {
+    let mut out = [Date::MIN; 30];
+    let target = KnownCalendar::Target
+        .within(2024..=2026, weekend(), &mut out)
+        .unwrap();
+    // (261 days of 2026 are no weekends, and five of them holidays)
+    let [first, end] = ["2026-01-01", "2027-01-01"].map(date);
+    assert_eq!(target.open_days(first, end), Ok(256));
+    assert_eq!(target.open_days(end, first), Ok(-256));
+    assert_eq!(target.open_days(end, end), Ok(0));
+    assert!(target.open_days(first, date("2027-01-02")).is_err());
+    assert!(target.open_days(date("2023-12-31"), first).is_err());
+}
+
+#[test]
+fn roll_within() {
+    let calendar = BusinessCalendar::new(weekend(), &[]).unwrap();
+    let [one, two] = [2022, 2023].map(|last| BoundedCalendar::new(calendar, 2022..=last));
+    // (a Saturday)
+    let last = date("2022-12-31");
+    for roll in [
+        Roll::Preceding,
+        Roll::ModifiedFollowing,
+        Roll::ModifiedPreceding,
+        Roll::NearestIsda,
+    ] {
+        assert_eq!(one.roll(last, roll), Ok(date("2022-12-30")), "{roll:?}");
+    }
+    for roll in [Roll::Following, Roll::NearestQuantLib] {
+        assert!(one.roll(last, roll).is_err(), "{roll:?}");
+    }
+    assert_eq!(one.roll(last, Roll::Unadjusted), Ok(last));
+    assert_eq!(two.roll(last, Roll::Following), Ok(date("2023-01-02")));
+    assert_eq!(
+        two.roll(last, Roll::NearestQuantLib),
+        Ok(date("2022-12-30"))
     );
 }
 

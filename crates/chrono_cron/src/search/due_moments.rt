@@ -1,14 +1,14 @@
 //! `Dues`: the moments at which a schedule is due, in order.
-ghost use Rattle.std.specs.Prelude.{◌≡◌, ◌≤◌, pos, length, IfSome, IfNone, IsTrue, Some};
+ghost use Rattle.std.specs.Prelude.{◌≡◌, ◌≤◌, length, IfSome, IfNone, IsTrue, Some};
 ghost use Rattle.std.specs.Iterator.{YieldsFirst, item_count};
-ghost use Rattle.chrono_datetime.specs.Moment.{IsBefore, moment};
-ghost use Rattle.chrono_datetime.specs.Time.{IsPlain, time_at};
+ghost use Rattle.chrono_datetime.specs.Moment.{IsBefore};
+ghost use Rattle.chrono_datetime.specs.Time.{IsPlain};
 ghost use Rattle.chrono_cron.specs.Due.{NotDueAfter, NotDueBetween, is_due};
 ghost use Rattle.chrono_cron.specs.DueMoments.{dues_left, minutes_left};
 
 use crate::schedule::Schedule;
 use crate::search::minutes::{MINUTES_PER_DAY, SECONDS};
-use chrono_datetime::law::{date_times_exist, last_date_time};
+use chrono_datetime::law::date_times_exist;
 use chrono_datetime::{Datelike, LAST_DAY, NaiveDateTime, Timelike};
 use std::iter::FusedIterator;
 
@@ -25,7 +25,6 @@ pub struct Dues {
     /// The schedule.
     pub schedule: Schedule,
     /// The moment after which the iterator goes on: first the start, then the last moment that it returned.
-    /// It is [`NaiveDateTime::MAX`] once no moment is left.
     pub last: NaiveDateTime,
 }
 
@@ -50,14 +49,12 @@ impl Dues {
         ensures none { IfNone result (NotDueAfter self.old.schedule.sets self.old.last) }
         ensures kept { self.new.schedule ≡ self.old.schedule }
         ensures moved { IfSome result (λ m. self.new.last ≡ m) }
-        // An ended iterator stays ended.
-        ensures ended { IfNone result (self.new.last ≡ moment (pos 95_745_399) (time_at 23 59 59 999_999_999)) }
+        // Without an answer nothing changes, so an ended iterator stays ended.
+        ensures refused { IfNone result (self.new ≡ self.old) }
         ensures steps { YieldsFirst dues_left self.old result self.new }
     {
         date_times_exist(self.last);
         let Some(next) = self.schedule.next_after(self.last) else {
-            let (end, _) = last_date_time();
-            self.last = end;
             return None;
         };
         date_times_exist(next);
@@ -79,7 +76,6 @@ impl Iterator for Dues {
     }
 
     /// Returns 0 and, as the upper bound, the number of minutes that begin after the last moment.
-    /// The upper bound is 0 once no moment is left.
     #[inline]
     fn size_hint(&self) -> (usize, Option<usize>)
         ensures value { result ≡ (0, Some (minutes_left self.now.last)) }

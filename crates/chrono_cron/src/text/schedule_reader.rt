@@ -1,5 +1,5 @@
 //! The reading of whole texts of schedules.
-ghost use Rattle.std.specs.Prelude.{◌≡◌, ◌≢◌, ◌↔◌, ◌∷◌, [], not, ◌&&◌, ◌==◌, ◌<◌, ◌≤◌, ℕ, List, length, Some, None, Ok, IfSome, IfNone, IfOk, IfErr, IsErr};
+ghost use Rattle.std.specs.Prelude.{◌≡◌, ◌≢◌, ◌↔◌, ◌∷◌, [], not, ◌&&◌, ◌||◌, ◌==◌, ◌<◌, ◌≤◌, ℕ, List, length, Some, None, Ok, IfSome, IfNone, IfOk, IfErr, IsErr};
 ghost use Rattle.chrono_cron.specs.PlacedWords.{placed_words};
 ghost use Rattle.chrono_cron.specs.ScheduleErrors.{IsScheduleRead, schedule_error_at, first_wrong, front_or, schedule_error, wrong_field};
 ghost use Rattle.chrono_cron.specs.ScheduleTexts.{IsScheduleText, begins_with_star, fields_of};
@@ -43,6 +43,9 @@ use std::str::FromStr;
 ///
 /// Days follow the rule of POSIX and cronie. If neither field of days begins with `*`, a day needs to be in only one of them. Otherwise it has
 /// to be in both.
+///
+/// Where the minutes or the hours begin with `*`, as in `*/5 2 * * *`, the schedule follows the clock of a zone: see
+/// [`FieldSets::follows_clock`](crate::FieldSets).
 pub fn read_schedule(text: &[u8]) -> Result<Schedule, ScheduleError>
     ensures read { IfOk result (λ s. IsScheduleText text.now s.sets) }
     // Whatever sets the text lists are the answer's: no text is refused, and none has two meanings.
@@ -97,6 +100,7 @@ fn read_fields(fields: &Fields) -> Result<Schedule, ScheduleField>
             weekdays: weekdays.numbers,
             month_days: named_days(days.named, weekdays.named),
             either: is_either_enough(day, weekday),
+            follows_clock: is_starred_in_time(fields.minute.text, fields.hour.text),
         },
     })
 }
@@ -152,6 +156,13 @@ fn is_either_enough(day: &[u8], weekday: &[u8]) -> bool
     ensures { (not (begins_with_star day.now) && not (begins_with_star weekday.now)) ≡ result }
 {
     !begins_with_star(day) && !begins_with_star(weekday)
+}
+
+// Whether the minutes or the hours begin with `*`.
+fn is_starred_in_time(minute: &[u8], hour: &[u8]) -> bool
+    ensures { (begins_with_star minute.now || begins_with_star hour.now) ≡ result }
+{
+    begins_with_star(minute) || begins_with_star(hour)
 }
 
 // Whether a text begins with `*`.

@@ -3,9 +3,9 @@ ghost use Rattle.std.specs.Prelude.{◌≡◌, ◌+◌, ◌-◌, ◌*◌, ◌<�
 ghost use Rattle.std.specs.Str.{byte};
 ghost use Rattle.chrono_text.specs.Lists.{each_behind, list_text};
 ghost use Rattle.chrono_cron.specs.declared.text.schedule_writer.DayName.TheVariants.{FromEnd, NthWeekday};
-ghost use Rattle.chrono_cron.specs.WrittenTexts.{are_all, day_field_items, is_starred_by_day, is_starred_by_weekday, name_text, names_from, number_items, plain_text, range_text, ranges_from, schedule_text, weekday_field_items};
+ghost use Rattle.chrono_cron.specs.WrittenTexts.{are_all, day_field_items, is_starred_by_day, is_starred_by_hour, is_starred_by_minute, is_starred_by_weekday, name_text, names_from, number_items, plain_text, range_text, ranges_from, schedule_text, weekday_field_items};
 
-use crate::field_sets::FieldSets;
+use crate::field_sets::{FieldSets, MINUTES};
 use crate::schedule::Schedule;
 use chrono_sets::NumberSet;
 use chrono_text::Text;
@@ -16,7 +16,9 @@ const LONGEST: usize = 1_000;
 
 const LONGEST_FIELD: usize = 420;
 
-// The days of a week.
+// The hours of a day, and the days of a week.
+const HOURS: u32 = 24;
+
 const WEEK: u32 = 7;
 
 // How days of a month are named by a number.
@@ -46,13 +48,20 @@ impl Schedule {
         ensures text { text.new ≡ text.old ++ schedule_text self.now.sets }
         ensures fits { length text.new ≤ length text.old + 1000 }
     {
-        put_plain(text, self.sets.minutes, 0, 60);
+        let sets = &self.sets;
+        put_plain(text, is_starred_by_minute(sets), sets.minutes, 0, MINUTES);
         text.push(b' ');
-        put_plain(text, self.sets.hours, 0, 24);
+        put_plain(text, is_starred_by_hour(sets), sets.hours, 0, HOURS);
         text.push(b' ');
         put_days(text, &self.sets);
         text.push(b' ');
-        put_plain(text, self.sets.months, 1, 13);
+        put_plain(
+            text,
+            lists_all(self.sets.months, 1, 13),
+            self.sets.months,
+            1,
+            13,
+        );
         text.push(b' ');
         put_weekdays(text, &self.sets);
     }
@@ -65,16 +74,22 @@ impl fmt::Display for Schedule {
 
     /// Writes the five fields with a space between each two, such as `0 9-17 * * 1-5`.
     ///
-    /// A field that lists all its numbers is `*`.
+    /// A field of months that lists all its numbers is `*`.
     /// Any other has its numbers, rising, in ranges that are as long as possible.
     /// After them come `L`, `L-3`, `LW`, `15W`, `5L` and `5#2`.
     ///
     /// If either field of days is enough, neither begins with `*`. So all days are `1-31`.
     /// If both have to match, one begins with `*`. So `*/31,1,15 * 5` is the 1st and the 15th where they are Fridays.
     ///
-    /// Two kinds of schedules are written but not read back. One kind lists nothing in a field.
-    /// In the other both fields of days have to match, but neither the 1st nor Sunday is listed.
+    /// If the schedule follows the clock, its minutes or its hours begin with `*`. Each that lists all its numbers is `*`.
+    /// If neither does, `*/24` stands in front of hours that list 0, and else `*/60` in front of the minutes.
+    /// So `*/5 2 * * *` is written `*/60,0,5,10,15,20,25,30,35,40,45,50,55 2 * * *`.
+    /// If it does not follow the clock, neither begins with `*`. So all hours are `0-23`.
+    ///
+    /// Three kinds of schedules are written but not read back. One kind lists nothing in a field.
+    /// In another both fields of days have to match, but neither the 1st nor Sunday is listed.
     /// Then neither of these two fields begins with `*`.
+    /// The third follows the clock, but lists neither the hour 0 nor the minute 0. Then neither the minutes nor the hours begin with `*`.
     ///
     /// A width, a fill, an alignment, a sign or a precision makes no difference.
     fn fmt<W: fmt::Write>(&self, f: &mut fmt::Formatter<W>) -> fmt::Result {
@@ -84,16 +99,16 @@ impl fmt::Display for Schedule {
     }
 }
 
-// Puts a field of minutes, hours or months: the numbers from `low` to before `end`.
-fn put_plain<const N: usize>(text: &mut Text<N>, set: NumberSet, low: u32, end: u32)
+// Puts a field of minutes, hours or months: the numbers from `low` to before `end`, with `*` in front or without.
+fn put_plain<const N: usize>(text: &mut Text<N>, starred: bool, set: NumberSet, low: u32, end: u32)
     requires order { low ≤ end }
     requires end { end ≤ 60 }
     requires room { length text.old + (3 * (end - low) + 5) ≤ N }
-    ensures text { text.new ≡ text.old ++ plain_text set (end - low) low }
+    ensures text { text.new ≡ text.old ++ plain_text starred set (end - low) low }
     ensures fits { length text.new ≤ length text.old + (3 * (end - low) + 5) }
 {
     let mut items = Text::<LONGEST_FIELD>::new();
-    put_numbers(&mut items, lists_all(set, low, end), set, low, end);
+    put_numbers(&mut items, starred, set, low, end);
     put_field(text, &items);
 }
 
@@ -152,6 +167,27 @@ fn put_weekdays<const N: usize>(text: &mut Text<N>, sets: &FieldSets)
         5 * WEEK,
     );
     put_field(text, &items);
+}
+
+// Whether the field of minutes begins with `*`.
+#[tactic(auto, unfolding(crate::specs::WrittenTexts::is_starred_by_minute))]
+fn is_starred_by_minute(sets: &FieldSets) -> bool
+    ensures { result ≡ is_starred_by_minute sets.now }
+{
+    let all_minutes = lists_all(sets.minutes, 0, MINUTES);
+    let all_hours = lists_all(sets.hours, 0, HOURS);
+    sets.follows_clock
+        && (all_minutes || (!all_hours && (!sets.hours.contains(0) && sets.minutes.contains(0))))
+}
+
+// Whether the field of hours does.
+#[tactic(auto, unfolding(crate::specs::WrittenTexts::is_starred_by_hour))]
+fn is_starred_by_hour(sets: &FieldSets) -> bool
+    ensures { result ≡ is_starred_by_hour sets.now }
+{
+    let all_minutes = lists_all(sets.minutes, 0, MINUTES);
+    let all_hours = lists_all(sets.hours, 0, HOURS);
+    sets.follows_clock && (all_hours || (!all_minutes && sets.hours.contains(0)))
 }
 
 // Whether the field of days begins with `*`.

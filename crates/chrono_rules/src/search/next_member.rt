@@ -41,6 +41,9 @@ impl Rule {
         ensures least { IfSome result (λ e. PassedOver (is_member self.now start) date e) }
         ensures none { IfNone result (NoDateFrom (is_member self.now start) date end) }
     {
+        if self.names_no_place() {
+            return None;
+        }
         let last = self.end_before(end);
         let first = self.period_of_start(start);
         let mut day = later_of(start, date);

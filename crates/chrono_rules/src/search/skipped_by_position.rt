@@ -1,5 +1,5 @@
 //! What a search passes over by BYSETPOS.
-ghost use Rattle.std.specs.Prelude.{◌≡◌, ◌≤◌, ◌<◌, ◌+◌, ◌-◌, ◌&&◌, ◌||◌, nat_lt, ◌≤ℤ◌, ◌<ℤ◌, ◌+ℤ◌, ℕ, ℤ, pos, true, false, if◌then◌else◌, IfSome};
+ghost use Rattle.std.specs.Prelude.{◌≡◌, ◌≤◌, ◌<◌, ◌+◌, ◌-◌, ◌&&◌, ◌||◌, nat_lt, ◌≤ℤ◌, ◌<ℤ◌, ◌+ℤ◌, ℕ, ℤ, pos, true, false, if◌then◌else◌, IfSome, IsTrue};
 ghost use Rattle.chrono_datetime.specs.Days.{IsDate};
 ghost use Rattle.chrono_datetime.specs.Recurrence.{count_between};
 ghost use Rattle.chrono_datetime.specs.PassedOver.{PassedOver};
@@ -66,6 +66,31 @@ impl Rule {
             return None;
         }
         Some(passed + 1)
+    }
+
+    // Whether BYSETPOS names only places that no period has. A day, a week and a month have no more places than days.
+    pub(crate) fn names_no_place(&self) -> bool
+        ensures { IsTrue result → (start : ℤ) (d : ℤ) → is_member self.now start d ≡ false }
+    {
+        match self.frequency {
+            Frequency::Daily => self.names_none_up_to(1),
+            Frequency::Weekly => self.names_none_up_to(7),
+            Frequency::Monthly => self.names_none_up_to(31),
+            Frequency::Yearly => false,
+        }
+    }
+
+    // Whether it names places, but none from the front or from the back up to a number.
+    fn names_none_up_to(&self, most: u32) -> bool
+        requires { most < 64 }
+        ensures named { IsTrue result → lacks_positions self.now ≡ false }
+        ensures front { IsTrue result → (k : ℕ) → k ≤ most → has self.now.positions k ≡ false }
+        ensures back { IsTrue result → (k : ℕ) → k ≤ most → has self.now.positions_from_end k ≡ false }
+    {
+        if self.lacks_positions() || self.positions.gap_up(0) <= most {
+            return false;
+        }
+        self.positions_from_end.gap_up(0) > most
     }
 
     // Whether BYSETPOS names a place from the front, or one from the back.

@@ -75,8 +75,11 @@ impl<Z: TimeZone> DateTime<Z> {
     /// ```
     #[inline]
     pub fn checked_add_days(self, days: Days) -> Option<DateTime<Z>>
-        ensures { IsOnlyLocalIf Z.ahead self.zone
+        ensures only { IsOnlyLocalIf Z.ahead self.zone
             (moment_on (date_of_day ((local_at (Z.ahead self.zone) self.utc).date +ℤ pos days)) (local_at (Z.ahead self.zone) self.utc).time) result }
+        ensures date { IfSome result (λ d. (local_at (Z.ahead d.zone) d.utc).date ≡ (local_at (Z.ahead self.zone) self.utc).date +ℤ pos days) }
+        ensures time { IfSome result (λ d. (local_at (Z.ahead d.zone) d.utc).time ≡ (local_at (Z.ahead self.zone) self.utc).time) }
+        ensures zone { IfSome result (λ d. d.zone ≡ self.zone) }
     {
         only_local(self.naive_local().checked_add_days(days), self.timezone())
     }
@@ -108,8 +111,11 @@ impl<Z: TimeZone> DateTime<Z> {
     /// ```
     #[inline]
     pub fn checked_sub_days(self, days: Days) -> Option<DateTime<Z>>
-        ensures { IsOnlyLocalIf Z.ahead self.zone
+        ensures only { IsOnlyLocalIf Z.ahead self.zone
             (moment_on (date_of_day ((local_at (Z.ahead self.zone) self.utc).date -ℤ pos days)) (local_at (Z.ahead self.zone) self.utc).time) result }
+        ensures date { IfSome result (λ d. (local_at (Z.ahead d.zone) d.utc).date ≡ (local_at (Z.ahead self.zone) self.utc).date -ℤ pos days) }
+        ensures time { IfSome result (λ d. (local_at (Z.ahead d.zone) d.utc).time ≡ (local_at (Z.ahead self.zone) self.utc).time) }
+        ensures zone { IfSome result (λ d. d.zone ≡ self.zone) }
     {
         only_local(self.naive_local().checked_sub_days(days), self.timezone())
     }
@@ -141,8 +147,11 @@ impl<Z: TimeZone> DateTime<Z> {
     /// ```
     #[inline]
     pub fn checked_add_months(self, months: Months) -> Option<DateTime<Z>>
-        ensures { IsOnlyLocalIf Z.ahead self.zone
+        ensures only { IsOnlyLocalIf Z.ahead self.zone
             (moment_on (month_move (local_at (Z.ahead self.zone) self.utc).date (pos months)) (local_at (Z.ahead self.zone) self.utc).time) result }
+        ensures date { IfSome result (λ d. month_move (local_at (Z.ahead self.zone) self.utc).date (pos months) ≡ Some (local_at (Z.ahead d.zone) d.utc).date) }
+        ensures time { IfSome result (λ d. (local_at (Z.ahead d.zone) d.utc).time ≡ (local_at (Z.ahead self.zone) self.utc).time) }
+        ensures zone { IfSome result (λ d. d.zone ≡ self.zone) }
     {
         only_local(
             self.naive_local().checked_add_months(months),
@@ -180,8 +189,11 @@ impl<Z: TimeZone> DateTime<Z> {
     /// ```
     #[inline]
     pub fn checked_sub_months(self, months: Months) -> Option<DateTime<Z>>
-        ensures { IsOnlyLocalIf Z.ahead self.zone
+        ensures only { IsOnlyLocalIf Z.ahead self.zone
             (moment_on (month_move (local_at (Z.ahead self.zone) self.utc).date (neg_ℤ (pos months))) (local_at (Z.ahead self.zone) self.utc).time) result }
+        ensures date { IfSome result (λ d. month_move (local_at (Z.ahead self.zone) self.utc).date (neg_ℤ (pos months)) ≡ Some (local_at (Z.ahead d.zone) d.utc).date) }
+        ensures time { IfSome result (λ d. (local_at (Z.ahead d.zone) d.utc).time ≡ (local_at (Z.ahead self.zone) self.utc).time) }
+        ensures zone { IfSome result (λ d. d.zone ≡ self.zone) }
     {
         only_local(
             self.naive_local().checked_sub_months(months),

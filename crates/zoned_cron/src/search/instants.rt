@@ -4,8 +4,8 @@ ghost use Rattle.chrono_datetime.specs.Moment.{IsMoment};
 ghost use Rattle.chrono_instant.specs.Instants.{IsEpochSecond, LiesIn, epoch_second};
 ghost use Rattle.chrono_zoned.specs.Offsets.{IsOffset};
 ghost use Rattle.chrono_zoned.specs.Zones.{AreAll, IsAmong, Shows};
-ghost use Rattle.zoned_cron.specs.Fires.{Fires, IsGap};
-ghost use Rattle.zoned_cron.specs.Private.{BeginsBefore, EndsGap, IfTwo, IsHeld, IsInTwo, IsLastIn, IsNearADate, IsOnceIn, IsOnceInTwo, IsSettledAt, TakesDated};
+ghost use Rattle.zoned_cron.specs.Fires.{Fires, IsGap, IsShortStep};
+ghost use Rattle.zoned_cron.specs.Private.{BeginsBefore, EndsGap, EndsShortGap, IfTwo, IsFirstOrLate, IsHeld, IsInTwo, IsLastIn, IsNearADate, IsOnceIn, IsOnceInTwo, IsSettledAt, TakesDated};
 
 use crate::policy::{Fold, Gap};
 use crate::schedule::ZonedSchedule;
@@ -22,6 +22,9 @@ pub(crate) const LAST_SECOND: i64 = 8_210_266_876_799;
 
 // The seconds of a day. A clock is ahead of UTC, or behind it, by less.
 pub(crate) const DAY: i64 = 86_400;
+
+// The seconds of three hours. To Vixie's cron, a clock that is set ahead by as much, or back by more, has been corrected.
+const THREE_HOURS: i32 = 10_800;
 
 impl<Z: TimeZone> ZonedSchedule<Z> {
     // Whether the schedule fires at a second from 1 January 1970.
@@ -55,6 +58,7 @@ impl<Z: TimeZone> ZonedSchedule<Z> {
             MappedLocalTime::None => match self.policy.gap {
                 Gap::Skip => MappedLocalTime::None,
                 Gap::FirstAfter => end_of_gap(self.zone, second),
+                Gap::FirstAfterShort => end_of_short_gap(self.zone, second),
             },
             MappedLocalTime::Single(offset) => MappedLocalTime::Single(before(second, offset)),
             MappedLocalTime::Ambiguous(first, last) => {
@@ -64,6 +68,7 @@ impl<Z: TimeZone> ZonedSchedule<Z> {
                     Fold::Earlier => MappedLocalTime::Single(earlier),
                     Fold::Later => MappedLocalTime::Single(later),
                     Fold::Both => MappedLocalTime::Ambiguous(earlier, later),
+                    Fold::EarlierOfShort => first_or_late(earlier, later),
                 }
             }
         }
@@ -121,6 +126,53 @@ fn end_of_gap<Z: TimeZone>(zone: Z, gap: i64) -> MappedLocalTime<i64>
         MappedLocalTime::Single(first)
     } else {
         MappedLocalTime::None
+    }
+}
+
+// The same, where the clock is set ahead there by less than three hours.
+fn end_of_short_gap<Z: TimeZone>(zone: Z, gap: i64) -> MappedLocalTime<i64>
+    requires date { IsEpochSecond gap }
+    requires gap { IsGap (Z.ahead zone) gap }
+    ensures { AreAll (EndsShortGap (Z.ahead zone) gap) (λ u. u) result }
+{
+    match end_of_gap(zone, gap) {
+        MappedLocalTime::None => MappedLocalTime::None,
+        MappedLocalTime::Single(end) => if_short(zone, end),
+        MappedLocalTime::Ambiguous(_, _) => MappedLocalTime::None,
+    }
+}
+
+// The instant, if the clock is set ahead there by less than three hours.
+fn if_short<Z: TimeZone>(zone: Z, end: i64) -> MappedLocalTime<i64>
+    requires { IsNearADate end }
+    ensures { AreAll (λ u. (u ≡ end) × IsShortStep (Z.ahead zone) u) (λ u. u) result }
+{
+    let before = zone.stretch_from(end - 1);
+    let behind = zone.stretch_from(end);
+    if is_short(before.offset, behind.offset) {
+        MappedLocalTime::Single(end)
+    } else {
+        MappedLocalTime::None
+    }
+}
+
+// Whether a clock is set ahead by less than three hours, from one offset to another.
+fn is_short(before: FixedOffset, behind: FixedOffset) -> bool
+    ensures { IsTrue result ↔ (behind <ℤ (before +ℤ pos 10_800)) }
+{
+    behind.local_minus_utc() < before.local_minus_utc() + THREE_HOURS
+}
+
+// The first of two instants, and the other one if that is more than three hours later.
+fn first_or_late(first: i64, other: i64) -> MappedLocalTime<i64>
+    requires order { first <ℤ other }
+    requires first { IsNearADate first }
+    ensures { AreAll (IsFirstOrLate first other) (λ u. u) result }
+{
+    if first + i64::from(THREE_HOURS) < other {
+        MappedLocalTime::Ambiguous(first, other)
+    } else {
+        MappedLocalTime::Single(first)
     }
 }
 

@@ -121,14 +121,17 @@ fn is_behind(local: NaiveDateTime, second: i64) -> bool
     second < local.timestamp()
 }
 
-// A local second that the clock shows at no instant before the end, and neither any later one. It is that of the end, by the greater of two
-// offsets, or a day behind the end if there are more offsets in the two days before.
+// A local second that the clock shows at no instant before the end, and neither any later one. It is that of the end, by the offset before it. If
+// there are two offsets in the two days before, it is by the greater of them, or a day behind the end if there are more offsets in the two days before.
 fn unshown_before<Z: TimeZone>(zone: Z, end: i64) -> i64
     requires low { neg_ℤ (pos 8_334_601_228_800) ≤ℤ end }
     requires high { end ≤ℤ pos 8_210_266_876_800 }
     ensures { (u : ℤ) → u <ℤ end → (u +ℤ Z.ahead zone u) <ℤ result }
 {
     let first = zone.stretch_from(end - 2 * DAY);
+    if end <= first.until {
+        return shown_at_most(end, first.offset);
+    }
     let next = zone.stretch_from(first.until);
     if next.until < end {
         return end + DAY;
@@ -136,6 +139,16 @@ fn unshown_before<Z: TimeZone>(zone: Z, end: i64) -> i64
     let before = i64::from(first.offset.local_minus_utc());
     let after = i64::from(next.offset.local_minus_utc());
     (end + before.max(after)).max(FIRST_SECOND)
+}
+
+// The same, where the clock keeps its offset for the two days before the end.
+fn shown_at_most(end: i64, offset: FixedOffset) -> i64
+    requires low { neg_ℤ (pos 8_334_601_228_800) ≤ℤ end }
+    requires high { end ≤ℤ pos 8_210_266_876_800 }
+    ensures { (end +ℤ offset) ≤ℤ result }
+{
+    let ahead = i64::from(offset.local_minus_utc());
+    (end + ahead).max(FIRST_SECOND)
 }
 
 // The later of two instants, if there is one.

@@ -1,18 +1,18 @@
 //! The first local time of a rule from a second of a day on, and the last before one.
 //!
 //! A rule by the clock may have no time on a day that its rule of days has. Then the search goes on to the next day.
-ghost use Rattle.std.specs.Prelude.{◌≡◌, ◌≤◌, ◌<◌, ◌+◌, true, pos, neg_ℤ, ◌≤ℤ◌, ◌<ℤ◌, IfNone, IfSome};
+ghost use Rattle.std.specs.Prelude.{◌≡◌, ◌⊎◌, ◌≤◌, ◌<◌, ◌+◌, true, pos, neg_ℤ, ◌≤ℤ◌, ◌<ℤ◌, IfNone, IfSome};
 ghost use Rattle.chrono_datetime.specs.Moment.{IsMoment, Moment, moment};
 ghost use Rattle.chrono_datetime.specs.PassedOver.{PassedNumbers};
 ghost use Rattle.chrono_instant.specs.Instants.{epoch_second};
 ghost use Rattle.zoned_rules.specs.LocalTimes.{is_planned, is_planned_on};
-ghost use Rattle.zoned_rules.specs.Private.{IsListed, second_on};
+ghost use Rattle.zoned_rules.specs.Private.{IsListed, IsListedSince, second_on};
 
 use crate::clock_steps::DAY;
 use crate::local_rule::LocalRule;
-use chrono_datetime::law::{date_times_exist, first_date, last_date};
+use chrono_datetime::law::{date_times_exist, last_date};
 use chrono_datetime::{NaiveDate, NaiveDateTime, NaiveTime, Timelike};
-use chrono_instant::FromTimestamp;
+use chrono_instant::{FromTimestamp, Timestamp};
 
 impl LocalRule {
     // The first local time of a day from a second on, as a second of the day.
@@ -114,35 +114,59 @@ impl LocalRule {
 }
 
 impl LocalRule {
-    // The first local time that begins no earlier than a local second.
+    // The first local time from the start on that begins no earlier than a local second.
     pub(crate) fn first_since(&self, second: i64) -> Option<NaiveDateTime>
         requires { second ≤ℤ pos 8_210_266_876_799 }
-        ensures listed { IfSome result (IsListed self.now) }
+        ensures listed { IfSome result (IsListedSince self.now) }
         ensures not_before { IfSome result (λ m. second ≤ℤ epoch_second m) }
-        ensures least { IfSome result (λ m. (q : Moment) → IsListed self.now q → second ≤ℤ epoch_second q → epoch_second m ≤ℤ epoch_second q) }
-        ensures none { IfNone result ((q : Moment) → IsListed self.now q → epoch_second q <ℤ second) }
+        ensures least { IfSome result (λ m. (q : Moment) → IsListedSince self.now q → second ≤ℤ epoch_second q → epoch_second m ≤ℤ epoch_second q) }
+        ensures none { IfNone result ((q : Moment) → IsListedSince self.now q → epoch_second q <ℤ second) }
     {
+        let from = self.start_or_later(second);
+        self.first_from(from.date(), from.num_seconds_from_midnight())
+    }
+
+    // The start, or the beginning of a local second if that is later.
+    fn start_or_later(&self, second: i64) -> NaiveDateTime
+        requires { second ≤ℤ pos 8_210_266_876_799 }
+        ensures start { epoch_second self.now.start ≤ℤ epoch_second result }
+        ensures later { second ≤ℤ epoch_second result }
+        ensures either { (epoch_second result ≡ second) ⊎ (epoch_second result ≡ epoch_second self.now.start) }
+    {
+        if second <= self.start.timestamp() {
+            return self.start;
+        }
         match NaiveDateTime::from_timestamp(second, 0) {
-            Some(local) => self.first_from(local.date(), local.num_seconds_from_midnight()),
-            None => {
-                let (first, _) = first_date();
-                self.first_from(first, 0)
-            }
+            Some(local) => local,
+            None => self.start,
         }
     }
 
-    // The first local time after another.
+    // The first local time after one that is no earlier than the start.
     pub(crate) fn first_behind(&self, local: NaiveDateTime) -> Option<NaiveDateTime>
-        ensures listed { IfSome result (IsListed self.now) }
+        requires { IsListedSince self.now local }
+        ensures listed { IfSome result (IsListedSince self.now) }
         ensures later { IfSome result (λ m. epoch_second local <ℤ epoch_second m) }
-        ensures least { IfSome result (λ m. (q : Moment) → IsListed self.now q → epoch_second local <ℤ epoch_second q → epoch_second m ≤ℤ epoch_second q) }
-        ensures none { IfNone result ((q : Moment) → IsListed self.now q → epoch_second q ≤ℤ epoch_second local) }
+        ensures least { IfSome result (λ m. (q : Moment) → IsListedSince self.now q → epoch_second local <ℤ epoch_second q → epoch_second m ≤ℤ epoch_second q) }
+        ensures none { IfNone result ((q : Moment) → IsListedSince self.now q → epoch_second q ≤ℤ epoch_second local) }
     {
         self.first_from(local.date(), local.num_seconds_from_midnight() + 1)
     }
 
-    // The last local time that begins before a local second.
+    // The last local time from the start on that begins before a local second.
     pub(crate) fn last_until(&self, second: i64) -> Option<NaiveDateTime>
+        requires { neg_ℤ (pos 8_334_601_228_800) ≤ℤ second }
+        ensures listed { IfSome result (IsListedSince self.now) }
+        ensures before { IfSome result (λ m. epoch_second m <ℤ second) }
+        ensures greatest { IfSome result (λ m. (q : Moment) → IsListedSince self.now q → epoch_second q <ℤ second → epoch_second q ≤ℤ epoch_second m) }
+        ensures none { IfNone result ((q : Moment) → IsListedSince self.now q → second ≤ℤ epoch_second q) }
+    {
+        let last = self.last_listed(second)?;
+        self.if_begun(last)
+    }
+
+    // The last local time that begins before a local second, be it before the start.
+    fn last_listed(&self, second: i64) -> Option<NaiveDateTime>
         requires { neg_ℤ (pos 8_334_601_228_800) ≤ℤ second }
         ensures listed { IfSome result (IsListed self.now) }
         ensures before { IfSome result (λ m. epoch_second m <ℤ second) }
@@ -158,14 +182,28 @@ impl LocalRule {
         }
     }
 
-    // The last local time before another.
+    // The last local time before another, from the start on.
     pub(crate) fn last_in_front(&self, local: NaiveDateTime) -> Option<NaiveDateTime>
-        ensures listed { IfSome result (IsListed self.now) }
+        ensures listed { IfSome result (IsListedSince self.now) }
         ensures earlier { IfSome result (λ m. epoch_second m <ℤ epoch_second local) }
-        ensures greatest { IfSome result (λ m. (q : Moment) → IsListed self.now q → epoch_second q <ℤ epoch_second local → epoch_second q ≤ℤ epoch_second m) }
-        ensures none { IfNone result ((q : Moment) → IsListed self.now q → epoch_second local ≤ℤ epoch_second q) }
+        ensures greatest { IfSome result (λ m. (q : Moment) → IsListedSince self.now q → epoch_second q <ℤ epoch_second local → epoch_second q ≤ℤ epoch_second m) }
+        ensures none { IfNone result ((q : Moment) → IsListedSince self.now q → epoch_second local ≤ℤ epoch_second q) }
     {
-        self.last_before(local.date(), local.num_seconds_from_midnight())
+        let last = self.last_before(local.date(), local.num_seconds_from_midnight())?;
+        self.if_begun(last)
+    }
+
+    // A local time if it is no earlier than the start.
+    fn if_begun(&self, local: NaiveDateTime) -> Option<NaiveDateTime>
+        requires { IsListed self.now local }
+        ensures listed { IfSome result (IsListedSince self.now) }
+        ensures same { IfSome result (λ m. m ≡ local) }
+        ensures none { IfNone result (epoch_second local <ℤ epoch_second self.now.start) }
+    {
+        if local.timestamp() < self.start.timestamp() {
+            return None;
+        }
+        Some(local)
     }
 }
 

@@ -9,7 +9,7 @@ ghost use Rattle.chrono_datetime.specs.Moment.{Moment};
 ghost use Rattle.chrono_instant.specs.Instants.{IsEpochSecond, epoch_second};
 ghost use Rattle.zoned_rules.specs.LocalInstants.{HasDates, IsInstantOf};
 ghost use Rattle.zoned_rules.specs.Recurs.{Recurs, RecursFor};
-ghost use Rattle.zoned_rules.specs.Private.{IsListed, IsReached, IsReachedBack, IsStoodFor};
+ghost use Rattle.zoned_rules.specs.Private.{IsListedSince, IsReached, IsReachedBack, IsStoodFor};
 
 use crate::bound::{BEFORE_FIRST_SECOND, LAST_SECOND};
 use crate::local_instant::{DAY, offsets_are_small, second_of};
@@ -35,7 +35,7 @@ impl<Z: TimeZone> ZonedRule<Z> {
         self.first_stood_for(later_of(start, begun - 1))
     }
 
-    // The first second after another that a local time stands for, be it before the start.
+    // The first second after another that a local time from the start on stands for, be it before the instant of the start.
     fn first_stood_for(&self, after: i64) -> Option<i64>
         requires low { neg_ℤ (pos 8_334_601_400_000) ≤ℤ after }
         requires high { after ≤ℤ pos 8_210_266_963_199 }
@@ -98,7 +98,7 @@ impl<Z: TimeZone> ZonedRule<Z> {
 
     // The second that a local time stands for, if it lies after another, and UTC and the clock have a date there.
     fn instant_after(&self, local: NaiveDateTime, after: i64) -> Option<i64>
-        requires { IsListed self.now.local local }
+        requires { IsListedSince self.now.local local }
         ensures recurs { IfSome result (λ c. (after <ℤ c) × IsStoodFor self.now.local (Z.ahead self.now.zone) c) }
         ensures only { (m : Moment) (u : ℤ) → RecursFor self.now.local (Z.ahead self.now.zone) m u → epoch_second m ≡ epoch_second local → after <ℤ u → IsReached result u }
     {
@@ -125,7 +125,7 @@ impl<Z: TimeZone> ZonedRule<Z> {
         Some(last)
     }
 
-    // The last second before another that a local time stands for, be it before the start.
+    // The last second before another that a local time from the start on stands for, be it before the instant of the start.
     fn last_stood_for(&self, end: i64) -> Option<i64>
         requires low { neg_ℤ (pos 8_334_601_228_800) ≤ℤ end }
         requires high { end ≤ℤ pos 8_210_266_876_800 }
@@ -191,7 +191,7 @@ impl<Z: TimeZone> ZonedRule<Z> {
 
     // The second that a local time stands for, if it lies before another, and UTC and the clock have a date there.
     fn instant_before(&self, local: NaiveDateTime, end: i64) -> Option<i64>
-        requires { IsListed self.now.local local }
+        requires { IsListedSince self.now.local local }
         ensures recurs { IfSome result (λ c. (c <ℤ end) × IsStoodFor self.now.local (Z.ahead self.now.zone) c) }
         ensures only { (m : Moment) (u : ℤ) → RecursFor self.now.local (Z.ahead self.now.zone) m u → epoch_second m ≡ epoch_second local → u <ℤ end → IsReachedBack result u }
     {

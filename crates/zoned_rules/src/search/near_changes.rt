@@ -6,7 +6,7 @@ ghost use Rattle.std.specs.Prelude.{◌≡◌, ◌⊎◌, ℤ, pos, neg_ℤ, ◌
 ghost use Rattle.chrono_datetime.specs.Moment.{Moment};
 ghost use Rattle.chrono_instant.specs.Instants.{epoch_second};
 ghost use Rattle.zoned_rules.specs.Recurs.{RecursFor};
-ghost use Rattle.zoned_rules.specs.Private.{ComesAfter, ComesBefore, IsListed, IsStoodFor};
+ghost use Rattle.zoned_rules.specs.Private.{ComesAfter, ComesBefore, IsListedSince, IsStoodFor};
 
 use crate::bound::{BEFORE_FIRST_SECOND, LAST_SECOND};
 use crate::local_instant::second_of;
@@ -86,7 +86,7 @@ impl<Z: TimeZone> ZonedRule<Z> {
 
     // The candidate at which a clock with the offset would show a local time.
     fn candidate_at(&self, local: NaiveDateTime, offset: FixedOffset) -> Candidate
-        requires { IsListed self.now.local local }
+        requires { IsListedSince self.now.local local }
         ensures second { (result.second +ℤ offset) ≡ epoch_second local }
         ensures low { neg_ℤ (pos 8_334_601_315_200) ≤ℤ result.second }
         ensures high { result.second ≤ℤ pos 8_210_266_963_199 }
@@ -102,7 +102,7 @@ impl<Z: TimeZone> ZonedRule<Z> {
 
     // Whether a local time stands for a second, and UTC and the clock have a date there.
     fn stands_for(&self, local: NaiveDateTime, second: i64) -> bool
-        requires { IsListed self.now.local local }
+        requires { IsListedSince self.now.local local }
         ensures yes { IsTrue result → IsStoodFor self.now.local (Z.ahead self.now.zone) second }
         ensures no { IsFalse result → (m : Moment) → epoch_second m ≡ epoch_second local → ¬ RecursFor self.now.local (Z.ahead self.now.zone) m second }
     {

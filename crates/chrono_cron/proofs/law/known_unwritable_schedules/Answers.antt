@@ -10,3 +10,7 @@ returns-clause-day_0 c = λ is. omega (arith, (is.days 0 refl).0)
 pub returns-clause-unstarred : goal.returns-clause-unstarred
 unfolding has
 returns-clause-unstarred c = λ is. false≢true (is.starred refl)
+
+pub returns-clause-untimed : goal.returns-clause-untimed
+unfolding has
+returns-clause-untimed c = λ is. false≢true (is.timed refl)

@@ -44,7 +44,7 @@ returns-in-Some-clause-rows c = λ no.
     let asked : to_z w128 (of_z w128 c.from.result) ≡ c.from.result = to_z-of_z w128 c.from.result (record { sfits = c.from.type_inv }) in
     let before = is_later-fact (to_z w128 (of_z w128 c.local_of.result)) (to_z w128 (of_z w128 c.from.result)) no in
     let near : c.max-most.result <ℤ pos 86_400 = omega (arith, ints, int_max_is (to_z w32 (of_z w32 c.rows_most.result)) (to_z w32 (of_z w32 c.rule_most.result)), c.max-most.ensures.value, of_rows, of_rule, c.rows_most.ensures.in_range, c.rule_most.ensures.in_range) in
-    show_by_rows c.args.first rows c.args.rule.now c.args.local c.requires.table some (c.requires.keeps some) c.rule_most.ensures.near
+    show_by_rows c.args.first rows c.args.rule.now c.args.local c.requires.table some (c.requires.keeps some).keeps c.rule_most.ensures.near
     (omega (arith, ints, before, shown, asked, c.local_of.ensures, c.from.ensures, here, local, most, last, near))
 
 pub returns-in-None-clause-rule : goal.returns-in-None-clause-rule

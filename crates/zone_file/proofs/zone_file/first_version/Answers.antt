@@ -17,7 +17,7 @@ pub returns-clause-read : goal.returns-clause-read
 returns-clause-read c =
     let nothing : c.in_ok-block.block.rest.now ≡ [] = nil_from_length c.in_ok-block.block.rest.now (eqb-true (length c.in_ok-block.block.rest.now) 0 (sym c.is_empty.ensures ∙ c.if-not-is_empty.false)) in
     record {
-      block = subst (λ (l : List ℕ). IsDataBlock 4 c.args.bytes.now c.in_ok-block.block.times.now c.in_ok-block.block.places.now c.in_ok-block.block.kinds.now c.in_ok-block.block.names.now l) nothing c.in_ok-block.ensures.read;
+      block = subst (λ (l : List ℕ). IsDataBlock 4 0 c.args.bytes.now c.in_ok-block.block.times.now c.in_ok-block.block.places.now c.in_ok-block.block.kinds.now c.in_ok-block.block.names.now l) nothing c.in_ok-block.ensures.read;
       no_footer = nothing;
     }
 

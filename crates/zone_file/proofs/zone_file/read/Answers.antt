@@ -34,5 +34,7 @@ returns-clause-every c = λ version times places kinds names footer is.
     elim is.parts [
       | inl p ↦ absurd (omega (arith, seen, p.0, c.if-version-eq0.false))
       | inr p ↦ subst (λ (v : ℕ). IsOkAnd c.later_version.result (λ it. (it.version ≡ v) × (it.times.now ≡ times) × (it.places.now ≡ places) × (it.kinds.now ≡ kinds) × (it.names.now ≡ names) × (it.footer.now ≡ footer))) seen
-          (c.later_version.ensures.every times places kinds names footer (subst (λ (l : List ℕ). IsLaterVersion l times places kinds names footer) (sym first.5) p.1))
+          (c.later_version.ensures.every times places kinds names footer
+          (subst (λ (v : ℕ). IsLaterVersion v c.in_ok-first.first.rest.now times places kinds names footer) (sym seen)
+          (subst (λ (l : List ℕ). IsLaterVersion version l times places kinds names footer) (sym first.5) p.1)))
     ]

@@ -55,4 +55,5 @@ returns-clause-read c = λ text written. record {
   weekdays = λ k. sym (c.read_weekdays.ensures.numbers k) ∙ ap (option_map (λ (s : DayItems). has s.numbers k)) c.in-Some-read_weekdays.is;
   month_days = c.named_days.ensures c.args.fields.now.day.text.now c.args.fields.now.weekday.text.now c.in-Some-read_days.ensures.named c.in-Some-read_weekdays.ensures.named;
   either = c.is_either_enough.ensures;
+  follows_clock = c.is_starred_in_time.ensures;
 }

@@ -12,6 +12,9 @@ loop-start-init c = (
   λ d low high. before_start c.args.self.now c.args.start d (c.later_of-day.ensures.before d low high),
 )
 
+pub returns-then-names_no_place-clause-none : goal.returns-then-names_no_place-clause-none
+returns-then-names_no_place-clause-none c = λ d low less date. c.names_no_place.ensures c.if-names_no_place.true c.args.start d
+
 pub returns-in_err-counted-clause-none : goal.returns-in_err-counted-clause-none
 returns-in_err-counted-clause-none c =
     rw c.from_residual.ensures

@@ -4,7 +4,7 @@ use Rattle.std.proofs.lemmas.Int.{int_max_is, ints, to_z-of_z}
 use Rattle.chrono_datetime.proofs.Signed.{casts, signed}
 use Rattle.chrono_zoned.specs.Zones.{HoldsUntil}
 use Rattle.chrono_zoned.proofs.SecondSums.{IsNearDates, fits_by, near, offset_carried}
-use Rattle.zoned_cron.proofs.Windows.{two_offsets, within_day}
+use Rattle.zoned_cron.proofs.Windows.{one_offset_before, two_offsets, within_day}
 use Rattle.zoned_cron.proofs.search.previous.unshown_before.Goals as goal
 
 begun_is : (stop : ℤ) → SFits w64 stop → neg_ℤ (pos 8_334_601_228_800) ≤ℤ stop → stop ≤ℤ pos 8_210_266_876_800 → to_z w64 (of_z w64 (to_z w64 (of_z w64 stop) -ℤ pos 172_800)) ≡ (stop -ℤ pos 172_800)
@@ -31,8 +31,27 @@ sum_fits stop most fits small low high least greatest =
     let there = to_z-of_z w64 most small in
     fits_by (to_z w64 (of_z w64 stop) +ℤ to_z w64 (of_z w64 most)) (stop +ℤ most) (omega (arith, ints, here, there)) (near_end stop most low high least greatest)
 
+reaches_end : (stop e a o bound x : ℤ) → e ≡ stop → o ≡ a → bound ≡ x → (e +ℤ o) ≤ℤ x → (stop +ℤ a) ≤ℤ bound
+reaches_end stop e a o bound x is_end is_o is le = omega (arith, ints, is_end, is_o, is, le)
+
 reaches_bound : (stop a o m bound x : ℤ) → bound ≡ x → o ≡ a → o ≤ℤ m → (stop +ℤ m) ≤ℤ x → (stop +ℤ a) ≤ℤ bound
 reaches_bound stop a o m bound x is is_o le sum = omega (arith, ints, is, is_o, le, sum)
+
+pub returns-then-end-first : goal.returns-then-end-first
+returns-then-end-first g c =
+    let ahead = g.Z.TimeZone.ahead c.args.zone in
+    let stop = c.args.end in
+    let here : to_z w64 (of_z w64 stop) ≡ stop = to_z-of_z w64 stop c.ranges.end in
+    let first = c.stretch_from-first in
+    let from : ℤ = to_z w64 (of_z w64 (to_z w64 (of_z w64 stop) -ℤ pos 172_800)) in
+    let begun : from ≡ (stop -ℤ pos 172_800) = begun_is stop c.ranges.end c.requires.low c.requires.high in
+    let until_fits : SFits w64 first.result.until = search rules in
+    let is_until : to_z w64 (of_z w64 first.result.until) ≡ first.result.until = to_z-of_z w64 first.result.until until_fits in
+    let long : stop ≤ℤ first.result.until = omega (arith, ints, here, is_until, c.if-end-first.true) in
+    let bound : ℤ = to_z w64 (of_z w64 c.shown_at_most.result) in
+    let is_bound : bound ≡ c.shown_at_most.result = to_z-of_z w64 c.shown_at_most.result (record { sfits = c.shown_at_most.type_inv }) in
+    let reach : (stop +ℤ ahead from) ≤ℤ bound = reaches_end stop (to_z w64 (of_z w64 stop)) (ahead from) first.result.offset bound c.shown_at_most.result here first.ensures.offset is_bound c.shown_at_most.ensures in
+    one_offset_before ahead stop from first.result.until bound first.ensures.near begun first.ensures.holds long reach
 
 pub returns-then-next-end : goal.returns-then-next-end
 returns-then-next-end g c =

@@ -1,25 +1,32 @@
-use Rattle.std.proofs.Common.{◌≡◌, ℤ, ◌≤ℤ◌, ◌<ℤ◌, w64, ap₂, subst, sym, ◌∙◌}
-use Rattle.std.proofs.lemmas.Int.{to_z-of_z}
+use Rattle.std.proofs.Common.{◌≡◌, ℤ, ◌≤ℤ◌, ◌<ℤ◌, w64, arith, ap, of_z, to_z, subst, sym}
+use Rattle.std.proofs.lemmas.Int.{by_lt_z, ints, to_z-of_z}
 use Rattle.std.proofs.lemmas.Option.{IfSome_then}
 use Rattle.chrono_instant.specs.Instants.{epoch_second}
-use Rattle.chrono_zoned.proofs.OptionLemmas.{if_none}
-use Rattle.zoned_rules.specs.Private.{second_on}
+use Rattle.chrono_zoned.proofs.OptionLemmas.{if_any, if_none}
+use Rattle.zoned_rules.proofs.SinceStart.{listed_alone, none_since}
 use Rattle.zoned_rules.proofs.local_rule.LocalRule.last_until.Goals as goal
 
-pub returns-in-Some-clause-before : goal.returns-in-Some-clause-before
-returns-in-Some-clause-before c =
-    let second = c.args.second in
-    let at : second_on c.date.result c.num_seconds_from_midnight.result ≡ second = ap₂ second_on c.date.ensures c.num_seconds_from_midnight.ensures.value ∙ c.in-Some.ensures.value.second ∙ to_z-of_z w64 second c.ranges.second in
-    IfSome_then c.last_before.result c.last_before.ensures.before (λ m h. subst (λ (x : ℤ). epoch_second m <ℤ x) at h)
+pub returns-in_err-last-clause-none : goal.returns-in_err-last-clause-none
+returns-in_err-last-clause-none c =
+    let at : to_z w64 (of_z w64 c.args.second) ≡ c.args.second = to_z-of_z w64 c.args.second c.ranges.second in
+    if_any c.from_residual.result (λ q listed. subst (λ (x : ℤ). x ≤ℤ epoch_second q) at (c.in_err-last.ensures.none q (listed_alone c.args.self.now q listed)))
 
-pub returns-in-Some-clause-greatest : goal.returns-in-Some-clause-greatest
-returns-in-Some-clause-greatest c =
-    let second = c.args.second in
-    let at : second_on c.date.result c.num_seconds_from_midnight.result ≡ second = ap₂ second_on c.date.ensures c.num_seconds_from_midnight.ensures.value ∙ c.in-Some.ensures.value.second ∙ to_z-of_z w64 second c.ranges.second in
-    IfSome_then c.last_before.result c.last_before.ensures.greatest (λ m h q listed beside. h q listed (subst (λ (x : ℤ). epoch_second q <ℤ x) (sym at) beside))
+pub returns-clause-before : goal.returns-clause-before
+returns-clause-before c =
+    let at : to_z w64 (of_z w64 c.args.second) ≡ c.args.second = to_z-of_z w64 c.args.second c.ranges.second in
+    IfSome_then c.if_begun.result c.if_begun.ensures.same (λ m is. omega (arith, ints, at, ap epoch_second is, c.in_ok-last.ensures.before))
 
-pub returns-in-Some-clause-none : goal.returns-in-Some-clause-none
-returns-in-Some-clause-none c =
-    let second = c.args.second in
-    let at : second_on c.date.result c.num_seconds_from_midnight.result ≡ second = ap₂ second_on c.date.ensures c.num_seconds_from_midnight.ensures.value ∙ c.in-Some.ensures.value.second ∙ to_z-of_z w64 second c.ranges.second in
-    if_none c.last_before.result c.last_before.ensures.none (λ h q listed. subst (λ (x : ℤ). x ≤ℤ epoch_second q) at (h q listed))
+pub returns-clause-greatest : goal.returns-clause-greatest
+returns-clause-greatest c =
+    let at : to_z w64 (of_z w64 c.args.second) ≡ c.args.second = to_z-of_z w64 c.args.second c.ranges.second in
+    IfSome_then c.if_begun.result c.if_begun.ensures.same (λ m is q listed lt.
+    omega (arith, ints, ap epoch_second is, c.in_ok-last.ensures.greatest q (listed_alone c.args.self.now q listed) (subst (λ (x : ℤ). epoch_second q <ℤ x) (sym at) lt)))
+
+pub returns-clause-none : goal.returns-clause-none
+returns-clause-none c =
+    let at : to_z w64 (of_z w64 c.args.second) ≡ c.args.second = to_z-of_z w64 c.args.second c.ranges.second in
+    if_none c.if_begun.result c.if_begun.ensures.none (λ before q listed.
+    by_lt_z (epoch_second q) c.args.second
+    (λ lt.
+    absurd (none_since (epoch_second c.args.self.now.start) (epoch_second c.in_ok-last.last) (epoch_second q) before listed.since (c.in_ok-last.ensures.greatest q (listed_alone c.args.self.now q listed) (subst (λ (x : ℤ). epoch_second q <ℤ x) (sym at) lt))))
+    (λ ge. ge))

@@ -9,7 +9,7 @@ use Rattle.chrono_zoned.proofs.SecondSums.{carried, near, offset_carried}
 use Rattle.zoned_rules.specs.LocalInstants.{HasDates}
 use Rattle.zoned_rules.specs.LocalTimes.{LocalParts}
 use Rattle.zoned_rules.specs.Recurs.{RecursFor}
-use Rattle.zoned_rules.specs.Private.{IsListed, IsStoodFor}
+use Rattle.zoned_rules.specs.Private.{IsListedSince, IsStoodFor}
 use Rattle.zoned_rules.proofs.HeldStretch.{held_stood, least_held}
 use Rattle.zoned_rules.proofs.Standing.{AreOffsets}
 use Rattle.zoned_rules.proofs.zoned_rule.ZonedRule.first_in_stretch.Goals as goal
@@ -32,7 +32,7 @@ sums after here o a t l is low high is_o close is_t date =
     }
 
 stood : (r : LocalParts) (ahead : ℤ → ℤ) (after s until bound from u : ℤ) (m : Moment) → AreOffsets ahead → HoldsUntil ahead s until → bound ≡ until → AreSums after (ahead s) s from u (epoch_second m) → from ≤ℤ epoch_second m
-    → int_lt u bound ≡ true → HasDates ahead u → IsListed r m → (after <ℤ u) × IsStoodFor r ahead u
+    → int_lt u bound ≡ true → HasDates ahead u → IsListedSince r m → (after <ℤ u) × IsStoodFor r ahead u
 stood r ahead after s until bound from u m offsets holds end is not_before before dates listed =
     let begun = is.begun in
     let found = is.found in
@@ -40,7 +40,7 @@ stood r ahead after s until bound from u m offsets holds end is not_before befor
     (low, held_stood r ahead s until u m offsets holds (omega (arith, ints, begun, low)) (omega (arith, ints, end, before)) found dates listed)
 
 least : (r : LocalParts) (ahead : ℤ → ℤ) (after s until bound from l u : ℤ) → AreOffsets ahead → HoldsUntil ahead s until → bound ≡ until → AreSums after (ahead s) s from u l → int_lt u bound ≡ true
-    → ((q : Moment) → IsListed r q → from ≤ℤ epoch_second q → l ≤ℤ epoch_second q) → (m : Moment) (v : ℤ) → RecursFor r ahead m v → after <ℤ v → u ≤ℤ v
+    → ((q : Moment) → IsListedSince r q → from ≤ℤ epoch_second q → l ≤ℤ epoch_second q) → (m : Moment) (v : ℤ) → RecursFor r ahead m v → after <ℤ v → u ≤ℤ v
 least r ahead after s until bound from l u offsets holds end is before all =
     let begun = is.begun in
     let next = is.next in

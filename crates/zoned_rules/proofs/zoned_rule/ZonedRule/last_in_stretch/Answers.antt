@@ -9,7 +9,7 @@ use Rattle.chrono_zoned.proofs.SecondSums.{carried, near, offset_carried}
 use Rattle.zoned_rules.specs.LocalInstants.{HasDates}
 use Rattle.zoned_rules.specs.LocalTimes.{LocalParts}
 use Rattle.zoned_rules.specs.Recurs.{RecursFor}
-use Rattle.zoned_rules.specs.Private.{IsListed, IsStoodFor}
+use Rattle.zoned_rules.specs.Private.{IsListedSince, IsStoodFor}
 use Rattle.zoned_rules.proofs.HeldStretch.{greatest_held, held_stood}
 use Rattle.zoned_rules.proofs.Standing.{AreOffsets}
 use Rattle.zoned_rules.proofs.zoned_rule.ZonedRule.last_in_stretch.Goals as goal
@@ -31,7 +31,7 @@ sums end here o a t l is low high is_o close is_t date = let bounds = near a clo
 }
 
 stood : (r : LocalParts) (ahead : ℤ → ℤ) (end here s until bound to low u : ℤ) (m : Moment) → here ≡ end → AreOffsets ahead → HoldsUntil ahead s until → bound ≡ until → AreSums end (ahead s) s to low u (epoch_second m) → epoch_second m <ℤ to
-    → int_lt bound here ≡ false → int_le low u ≡ true → HasDates ahead u → IsListed r m → (u <ℤ end) × IsStoodFor r ahead u
+    → int_lt bound here ≡ false → int_le low u ≡ true → HasDates ahead u → IsListedSince r m → (u <ℤ end) × IsStoodFor r ahead u
 stood r ahead end here s until bound to low u m at offsets holds stop is earlier long late dates listed =
     let begun = is.begun in
     let found = is.found in
@@ -40,7 +40,7 @@ stood r ahead end here s until bound to low u m at offsets holds stop is earlier
     (before, held_stood r ahead s until u m offsets holds (omega (arith, ints, begun, least, late)) (omega (arith, ints, stop, before, at, long)) found dates listed)
 
 greatest : (r : LocalParts) (ahead : ℤ → ℤ) (end here s until bound to low l u : ℤ) → here ≡ end → AreOffsets ahead → HoldsUntil ahead s until → bound ≡ until → AreSums end (ahead s) s to low u l → int_lt bound here ≡ false → int_le low u ≡ true
-    → ((q : Moment) → IsListed r q → epoch_second q <ℤ to → epoch_second q ≤ℤ l) → (m : Moment) (v : ℤ) → RecursFor r ahead m v → v <ℤ end → v ≤ℤ u
+    → ((q : Moment) → IsListedSince r q → epoch_second q <ℤ to → epoch_second q ≤ℤ l) → (m : Moment) (v : ℤ) → RecursFor r ahead m v → v <ℤ end → v ≤ℤ u
 greatest r ahead end here s until bound to low l u at offsets holds stop is long late all =
     let begun = is.begun in
     let least = is.least in

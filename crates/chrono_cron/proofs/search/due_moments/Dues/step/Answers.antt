@@ -1,10 +1,11 @@
-use Rattle.chrono_cron.proofs.DueLists.{dues_after-end, dues_after-first, dues_after-none}
+use Rattle.chrono_cron.proofs.DueLists.{dues_after-first, dues_after-none}
 use Rattle.chrono_cron.proofs.search.due_moments.Dues.step.Goals as goal
 
 pub returns-in_default-clause-steps : goal.returns-in_default-clause-steps
 returns-in_default-clause-steps c =
     let sets = c.args.self.now.schedule.sets in
-    (dues_after-none sets c.args.self.now.last c.date_times_exist.ensures c.in_default.ensures.none, dues_after-end sets c.last_date_time-end.result.0 c.last_date_time-end.ensures.of_type)
+    let none = dues_after-none sets c.args.self.now.last c.date_times_exist.ensures c.in_default.ensures.none in
+    (none, none)
 
 pub returns-clause-steps : goal.returns-clause-steps
 returns-clause-steps c =

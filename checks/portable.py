@@ -1,0 +1,149 @@
+#!/usr/bin/env python3
+"""The library for C as one C file, by tools/portable_c, beside the proved library.
+
+    checks/portable.py [ROUNDS]      (100,000 rounds, if left out)
+
+The C files of amalgamation/ have to be those that are made of the proved libraries now. Each compiler that is found builds calendar.c without a
+warning, by the widths of 128 bits that the compiler has and by two words, and with sanitizers. Compilers for other machines build it too, and an
+emulator runs what they build. languages/c/test.c has to pass each time. A program that calls each function of calendar.h with random arguments has
+to give the same sum of all answers as over the proved library. Machines that are not served have to be refused. Faults planted in the translation
+have to be found by the test or by the sums.
+"""
+import os
+import re
+import shutil
+import subprocess
+import sys
+import tempfile
+
+TOP = os.path.dirname(os.path.dirname(os.path.abspath(__file__)))
+sys.path.insert(0, f"{TOP}/tools")
+import calendar_random  # noqa: E402
+from library import CALENDAR, repository, take_library  # noqa: E402
+from outside import listed_crates  # noqa: E402
+from portable_c.c_file import HEADERS, c_file  # noqa: E402
+from results import LANGUAGES, Results, read, run, succeeds  # noqa: E402
+
+COUNTS = (r"^(\d+) passed", r"(\d+) failed")
+WARNINGS = ["-std=c99", "-Wall", "-Wextra", "-Werror"]
+SANITIZERS = ["-O1", "-g", "-fsanitize=undefined,address", "-fno-sanitize-recover=all"]
+# The builds of this machine, and those of others with what runs them.
+BUILDS = {
+    "gcc": (["gcc", "-O2"], []),
+    "clang": (["clang", "-O2"], []),
+    "gcc with sanitizers": (["gcc", *SANITIZERS], []),
+    "clang with sanitizers": (["clang", *SANITIZERS], []),
+    "gcc by two words for 128 bits": (["gcc", "-O2", "-DCALENDAR_TWO_WORDS"], []),
+    "musl": (["musl-gcc", "-O2", "-static"], []),
+    "ARM": (["aarch64-linux-gnu-gcc", "-O2", "-static"], ["qemu-aarch64-static"]),
+    "RISC-V": (["riscv64-linux-gnu-gcc", "-O2", "-static"], ["qemu-riscv64-static"]),
+    "Windows": (["x86_64-w64-mingw32-gcc", "-O2", "-static"], ["wine"]),
+}
+# Machines for which the file must not compile: one with the high byte first, and one with pointers of 32 bits.
+REFUSED = {"a big-endian machine": ["s390x-linux-gnu-gcc"], "pointers of 32 bits": ["clang", "--target=i386-linux-gnu", "-ffreestanding"]}
+# A text of the C file, and what a wrong translation would write: a shift without its sign, a sum that is not cut, a branch turned round.
+FAULTS = {
+    "a shift without its sign": (r"\(int32_t\)(\w+) >> ", r"(uint32_t)\1 >> "),
+    "a comparison without its sign": (r"\(int32_t\)(\w+) < \(int32_t\)", r"(uint32_t)\1 < (uint32_t)"),
+    "a sign that is lost": (r"\(uint64_t\)\(int32_t\)", "(uint64_t)(uint32_t)"),
+    "a wrong factor": (r"\* 1461u", "* 1460u"),
+    "an exchanged choice": (r" = (\w+) \? (366u) : (365u);", r" = \1 ? \3 : \2;"),
+}
+
+
+def sum_of(words, rounds):
+    """The sum of all answers that a program prints; none if it fails."""
+    said = subprocess.run([*words, str(rounds)], capture_output=True, text=True, errors="replace", timeout=3600)
+    found = re.search(r"^sum (\w+)", said.stdout, re.M)
+    return found and said.returncode == 0 and found[1]
+
+
+def compile_all(words, room, name, source):
+    """Builds the test and the program of random calls over a C file; the two programs, or what the compiler says."""
+    made = []
+    for program, of in (("test", f"{LANGUAGES}/c/test.c"), ("calls", f"{room}/calls.c")):
+        path = f"{room}/{re.sub(r'[^a-z0-9]+', '_', name.lower())}_{program}"
+        ran = subprocess.run([*words, "-std=c99", f"-I{LANGUAGES}/c", of, source, "-o", path], capture_output=True, text=True, errors="replace")
+        if ran.returncode:
+            return None, ran.stderr[-2000:]
+        made.append(path)
+    return made, ""
+
+
+def try_build(results, room, name, wanted, rounds):
+    """Builds the C file one way, and compares its answers."""
+    words, runner = BUILDS[name]
+    if not all(map(shutil.which, [words[0], *runner[:1]])):
+        print(f"not run: {name}, since there is no {' or no '.join([words[0], *runner[:1]])}")
+        return
+    if succeeds(results, [*words, *WARNINGS, f"-I{LANGUAGES}/c", "-c", f"{room}/calendar.c", "-o", f"{room}/calendar.o"]) is None:
+        return
+    programs, why = compile_all(words, room, name, f"{room}/calendar.c")
+    results.count(programs, f"{name}: {why}")
+    if programs:
+        run(results, f"test.c, {name}", [*runner, programs[0]], COUNTS)
+        few = rounds if not runner and "sanitizers" not in name else max(rounds // 20, 1)
+        results.count(sum_of([*runner, programs[1]], few) == wanted(few), f"{name}: another sum of {few} rounds of random calls than by the proved library")
+
+
+def try_refused(results, room):
+    for name, words in REFUSED.items():
+        if not shutil.which(words[0]):
+            print(f"not run: {name}, since there is no {words[0]}")
+            continue
+        said = subprocess.run([*words, "-std=c99", f"-I{LANGUAGES}/c", "-c", f"{room}/calendar.c", "-o", f"{room}/refused.o"], capture_output=True, text=True)
+        results.count(said.returncode and "this file is for" in said.stderr, f"{name} is not refused: {said.stderr[:300]}")
+
+
+def try_faults(results, room, made, wanted):
+    """Plants faults of a translator, and asks the test and the sums for each."""
+    for name, (old, new) in FAULTS.items():
+        wrong = re.sub(old, new, made)
+        results.count(wrong != made, f"{name}: the C file has no place for it")
+        with open(f"{room}/wrong.c", "w", encoding="utf-8") as it:
+            it.write(wrong)
+        programs, _ = compile_all(["gcc", "-O1"], room, "wrong", f"{room}/wrong.c")
+        found = not programs or subprocess.run([programs[0]], capture_output=True).returncode or sum_of([programs[1]], 2_000) != wanted(2_000)
+        results.count(found, f"the planted fault is not found: {name}")
+
+
+def compare_tree(results):
+    """The C files in the tree are those that are made now."""
+    for crate, header in HEADERS.items():
+        path = f"amalgamation/{header.replace('.h', '.c')}"
+        if take_library(results, crate):
+            with repository(crate, listed_crates()) as top:
+                results.count(c_file(top, crate) == read(f"{TOP}/{path}"), f"{path} is not what `tools/dist amalgamation` makes")
+
+
+def check_library(results, room, proved, rounds):
+    made = read(f"{TOP}/amalgamation/calendar.c")
+    with open(f"{room}/calendar.c", "w", encoding="utf-8") as it:
+        it.write(made)
+    results.count(calendar_random.write_program(f"{room}/calls.c", 0) >= 50, "calendar.h has few functions")
+    if succeeds(results, ["gcc", "-O2", "-std=c99", f"-I{LANGUAGES}/c", f"{room}/calls.c", proved, "-o", f"{room}/proved"]) is None:
+        return
+    sums = {}
+
+    def wanted(rounds):
+        return sums.setdefault(rounds, sum_of([f"{room}/proved"], rounds))
+
+    for name in BUILDS:
+        try_build(results, room, name, wanted, rounds)
+    try_refused(results, room)
+    try_faults(results, room, made, wanted)
+
+
+def main():
+    results, rounds = Results(), int(sys.argv[1]) if len(sys.argv) > 1 else 100_000
+    with tempfile.TemporaryDirectory(prefix="portable-") as room:
+        compare_tree(results)
+        proved = take_library(results, CALENDAR)
+        if proved:
+            check_library(results, room, proved, rounds)
+    print(f"{results.passed} passed, {results.failed} failed")
+    return 1 if results.failed else 0
+
+
+if __name__ == "__main__":
+    sys.exit(main())

@@ -1,0 +1,150 @@
+#!/usr/bin/env python3
+"""What a clone gives on a machine without the kit: the C files of amalgamation/, and what is installed from them.
+
+    checks/without_kit.py
+
+Each C file has to be of the sources of this tree, by the sum in its head. Then, with no `rt` on the path, each line that the pages give for a
+clone is run: C by cc and by CMake, Python by pip, SQLite and PostgreSQL by make.
+"""
+import os
+import re
+import shutil
+import subprocess
+import sys
+import tempfile
+
+TOP = os.path.dirname(os.path.dirname(os.path.abspath(__file__)))
+sys.path.insert(0, f"{TOP}/tools")
+import packages  # noqa: E402
+from packages import javascript, python, sqlite  # noqa: E402
+from packages.postgresql import find_config  # noqa: E402
+from portable_c.c_file import HEADERS  # noqa: E402
+from results import LANGUAGES, Results, read, run, succeeds  # noqa: E402
+
+SOURCES = f"{TOP}/amalgamation"
+COUNTS = (r"^(\d+) passed", r"(\d+) failed")
+QUIET = dict(PYTHONDONTWRITEBYTECODE="1", PIP_DISABLE_PIP_VERSION_CHECK="1", PIP_NO_INDEX="1")
+CMAKE = """\
+cmake_minimum_required(VERSION 3.13)
+project(user C)
+add_subdirectory({sources} calendar)
+add_executable(user {test})
+target_link_libraries(user {name})
+"""
+
+
+def without_kit(room):
+    """The environment of a machine without the kit: a folder of links to all programs of the path but rt is the whole path."""
+    folder = f"{room}/bin"
+    os.makedirs(folder)
+    for place in reversed(os.environ["PATH"].split(os.pathsep)):
+        for name in os.listdir(place) if os.path.isdir(place) else []:
+            if name not in ("rt", "rattle"):
+                if os.path.lexists(f"{folder}/{name}"):
+                    os.remove(f"{folder}/{name}")
+                os.symlink(f"{place}/{name}", f"{folder}/{name}")
+    return {**os.environ, **QUIET, "PATH": folder}
+
+
+def compare_sum(results, path, crate):
+    told = re.search(r"^ \* ([0-9a-f]{64})$", read(path), re.M) if os.path.exists(path) else None
+    results.count(told and told[1] == packages.sum_of_sources(TOP, crate), f"{path} is not of the sources of {crate}: `tools/dist amalgamation` makes it")
+
+
+def compare_sums(results):
+    """The files that `tools/dist amalgamation` writes are of these sources, and the headers are those of languages/c."""
+    for source, it in javascript.MODULES.items():
+        compare_sum(results, f"{LANGUAGES}/javascript/src/{source}.js", it.crate)
+    for crate, header in HEADERS.items():
+        path = f"{SOURCES}/{header.replace('.h', '.c')}"
+        compare_sum(results, path, crate)
+        results.count(read(f"{SOURCES}/{header}") == read(f"{LANGUAGES}/c/{header}"), f"amalgamation/{header} is not languages/c/{header}")
+
+
+def try_c(results, room, env):
+    """The tests of both headers, by cc and by CMake."""
+    for name, test in {packages.CALENDAR: "test.c", packages.LAYERS: "test_layers.c"}.items():
+        program, more = f"{room}/{name}", [f"{SOURCES}/{packages.CALENDAR}.c"] if name == packages.LAYERS else []
+        words = ["cc", "-O2", f"-I{SOURCES}", f"{LANGUAGES}/c/{test}", f"{SOURCES}/{name}.c", *more, "-o", program]
+        if succeeds(results, words, env=env) is not None:
+            run(results, f"{test} over amalgamation/{name}.c", [program], COUNTS)
+    if not shutil.which("cmake"):
+        print("not run: CMake over amalgamation/, since there is no cmake")
+        return
+    os.makedirs(f"{room}/user")
+    with open(f"{room}/user/CMakeLists.txt", "w", encoding="utf-8") as it:
+        it.write(CMAKE.format(sources=SOURCES, test=f"{LANGUAGES}/c/test.c", name=packages.CALENDAR))
+    for words in (["-S", f"{room}/user", "-B", f"{room}/made"], ["--build", f"{room}/made", "--target", "user"]):
+        succeeds(results, ["cmake", *words], env=env)
+    run(results, "test.c by CMake", [f"{room}/made/user"], COUNTS)
+
+
+def copied(room, name):
+    """A copy of a language's folder beside amalgamation/, as a clone has them."""
+    skipped = shutil.ignore_patterns("__pycache__", "build", "*.egg-info", "*.so", "*.o")
+    for folder in (f"languages/{name}", "amalgamation"):
+        shutil.copytree(f"{TOP}/{folder}", f"{room}/{folder}", dirs_exist_ok=True, ignore=skipped)
+    return f"{room}/languages/{name}"
+
+
+def try_python(results, room, env):
+    """`pip install` of the folder in a fresh environment, and its tests."""
+    try:
+        program = python.python()
+    except packages.Missing as it:
+        print(f"not run: Python over amalgamation/: {it}")
+        return
+    folder, place = copied(f"{room}/python", "python"), f"{room}/env"
+    # (a machine that reaches no index takes setuptools from its own Python)
+    words = [f"{place}/bin/pip", "install", "--quiet", "--no-build-isolation", folder]
+    if succeeds(results, [program, "-m", "venv", "--system-site-packages", place], env=env) is None or succeeds(results, words, env=env) is None:
+        return
+    for name in ("test_calls.py", "test_layers.py", "test_zoned.py"):
+        run(results, f"{name} over amalgamation/", [f"{place}/bin/python", f"{LANGUAGES}/python/tests/{name}", "-v"], (r"\.\.\. ok()$", r"\.\.\. (?:FAIL|ERROR)()$"), env=env)
+
+
+def try_javascript(results, room, env):
+    """`npm install` of the folder in a project, and a call there."""
+    if not shutil.which("npm"):
+        print("not run: JavaScript in a clone, since there is no npm")
+        return
+    os.makedirs(f"{room}/project")
+    succeeds(results, ["npm", "install", "--offline", "--no-audit", "--no-fund", f"{LANGUAGES}/javascript"], cwd=f"{room}/project", env=env)
+    asked = "import { PlainDate } from 'proved-calendar'; console.log(new PlainDate(2024, 2, 29).add({ years: 1 }).toString())"
+    said = succeeds(results, ["node", "--input-type=module", "-e", asked], cwd=f"{room}/project", env=env)
+    results.count(said and said.strip() == "2025-02-28", f"JavaScript in a clone says {said!r}")
+
+
+def try_databases(results, room, env):
+    """The extensions, by make."""
+    if sqlite.has_headers():
+        folder = copied(f"{room}/sqlite", "sqlite")
+        succeeds(results, ["make", "-s", "install", f"DESTDIR={room}/sqlite/root"], cwd=folder, env=env)
+        asked = "import sqlite3; it = sqlite3.connect(':memory:'); it.enable_load_extension(True); it.load_extension('./proved_calendar'); print(it.execute(\"SELECT add_months('2024-02-29', 12)\").fetchone()[0])"
+        said = succeeds(results, [python.python(), "-c", asked], cwd=f"{room}/sqlite/root/usr/local/lib", env=env)
+        results.count(said and said.strip() == "2025-02-28", f"SQLite over amalgamation/ says {said!r}")
+    else:
+        print("not run: SQLite over amalgamation/, since there is no sqlite3ext.h")
+    config = find_config()
+    if config and os.path.exists(subprocess.run([config, "--pgxs"], capture_output=True, text=True).stdout.strip()):
+        folder = copied(f"{room}/postgresql", "postgresql")
+        succeeds(results, ["make", "-s", "install", f"PG_CONFIG={config}", f"DESTDIR={room}/postgresql/root"], cwd=folder, env=env)
+    else:
+        print("not run: PostgreSQL over amalgamation/, since there is no pg_config with PGXS")
+
+
+def main():
+    results = Results()
+    with tempfile.TemporaryDirectory(prefix="without-kit-") as room:
+        env = without_kit(room)
+        compare_sums(results)
+        try_c(results, room, env)
+        try_python(results, room, env)
+        try_javascript(results, room, env)
+        try_databases(results, room, env)
+    print(f"{results.passed} passed, {results.failed} failed")
+    return 1 if results.failed else 0
+
+
+if __name__ == "__main__":
+    sys.exit(main())

@@ -1,0 +1,57 @@
+-- A calendar that is kept goes round no rights: those of two roles in one statement, and those of a transaction.
+SET client_min_messages = warning;
+DROP ROLE IF EXISTS calendar_reader, calendar_stranger;
+CREATE ROLE calendar_reader;
+CREATE ROLE calendar_stranger;
+SELECT fill_calendar('target', 2024, 2024);
+REVOKE SELECT ON business_calendars, business_holidays FROM PUBLIC;
+GRANT SELECT ON business_calendars, business_holidays TO calendar_reader;
+-- A function that its maker's rights let read, and a call by the role itself.
+CREATE FUNCTION read_for_all() RETURNS date LANGUAGE sql SECURITY DEFINER STABLE AS $$ SELECT add_open_days('2024-12-24', 1, 'target') $$;
+SET ROLE calendar_stranger;
+SELECT read_for_all();
+SELECT add_open_days('2024-12-24', 1, 'target');
+SELECT read_for_all(), add_open_days('2024-12-24', 1, 'target');
+RESET ROLE;
+-- Roles one after the other in a transaction.
+BEGIN ISOLATION LEVEL REPEATABLE READ;
+SET ROLE calendar_reader;
+SELECT add_open_days('2024-12-24', 1, 'target');
+SET ROLE calendar_stranger;
+SELECT add_open_days('2024-12-24', 1, 'target');
+ROLLBACK;
+RESET ROLE;
+-- A policy that hides a calendar from a role, also where it goes by a setting.
+GRANT SELECT ON business_calendars, business_holidays TO calendar_stranger;
+ALTER TABLE business_holidays ENABLE ROW LEVEL SECURITY;
+CREATE POLICY readers ON business_holidays FOR SELECT TO calendar_reader USING (true);
+CREATE POLICY chosen ON business_holidays FOR SELECT TO calendar_stranger USING (calendar = current_setting('our.calendar', true));
+SET ROLE calendar_stranger;
+SELECT add_open_days('2024-12-24', 1, 'target');
+SELECT read_for_all(), add_open_days('2024-12-24', 1, 'target');
+BEGIN ISOLATION LEVEL REPEATABLE READ;
+SET ROLE calendar_reader;
+SELECT add_open_days('2024-12-24', 1, 'target');
+SET ROLE calendar_stranger;
+SELECT add_open_days('2024-12-24', 1, 'target');
+SET our.calendar = 'target';
+SELECT add_open_days('2024-12-24', 1, 'target');
+SET our.calendar = 'other';
+SELECT add_open_days('2024-12-24', 1, 'target');
+SET row_security = off;
+SELECT add_open_days('2024-12-24', 1, 'target');
+ROLLBACK;
+RESET ROLE;
+ALTER TABLE business_holidays DISABLE ROW LEVEL SECURITY;
+ALTER TABLE business_calendars ENABLE ROW LEVEL SECURITY;
+CREATE POLICY chosen ON business_calendars FOR SELECT TO calendar_stranger USING (name = current_setting('our.calendar', true));
+BEGIN ISOLATION LEVEL REPEATABLE READ;
+SET ROLE calendar_stranger;
+SET our.calendar = 'target';
+SELECT add_open_days('2024-12-24', 1, 'target');
+SET our.calendar = 'other';
+SELECT add_open_days('2024-12-24', 1, 'target');
+ROLLBACK;
+RESET ROLE;
+DROP OWNED BY calendar_reader, calendar_stranger;
+DROP ROLE calendar_reader, calendar_stranger;
