@@ -20,7 +20,7 @@ pub enum ZoneFault {
 impl fmt::Display for ZoneFault {
     ghost output = { λ fault. Some (zone_fault_text fault) };
 
-    /// Writes what is wrong, such as `row 7 does not follow the one before it`.
+    /// Writes what is wrong: the row's number as `row {n} does not follow the one before it`, or that the rule does not join the last row.
     #[tactic(auto, unfolding(crate::specs::FaultTexts::zone_fault_text))]
     fn fmt<W: fmt::Write>(&self, f: &mut fmt::Formatter<W>) -> fmt::Result {
         match self {
