@@ -3,7 +3,7 @@
  *
  * tools/dist made this file from the module of the crate layers_c, whose functions are proved to meet their contracts. Nothing proves
  * the translation: it is tested, as docs/trust.md says. Do not edit it. The sources have this sum by SHA-256:
- * 1f9ae7be50d23f005bca8a323c341d50c67995fe2f0e0956e111acf3e4540cfd
+ * 321c9f31ca6dc2a57ca5f5ef967116830bef9691e86d6c1a3080c866eff83cf7
  *
  * SPDX-License-Identifier: MIT OR Apache-2.0
  */
