@@ -15,6 +15,8 @@ USER = "tester"
 SETTINGS = {
     "listen_addresses": "", "fsync": "off", "shared_buffers": "64MB", "max_connections": "40", "max_parallel_workers": "8",
     "max_worker_processes": "8", "log_min_messages": "warning", "logging_collector": "off", "timezone": "UTC", "datestyle": "ISO, YMD",
+    # (a query that does not end is an error then)
+    "statement_timeout": "5min",
 }
 
 

@@ -116,10 +116,10 @@ static void keep_clock(pg_time_t from)
     kept.zone = session_timezone;
 }
 
-/* Whether the clock that is kept tells what fires right behind an instant. */
+/* Whether the clock that is kept tells what fires behind an instant of a second, at least in the second that follows. */
 static bool is_kept(pg_time_t second)
 {
-    return kept.zone == session_timezone && kept.from <= second - REACH && (!kept.has_end || second < kept.end - REACH);
+    return kept.zone == session_timezone && kept.from <= second - REACH && (!kept.has_end || second + 1 < kept.end - REACH);
 }
 
 /* The last moment before a second. */
