@@ -449,8 +449,9 @@ int64_t calendar_zone_holds_until(const uint8_t *zone, size_t length, int64_t se
 
 /* Returns the first instant after start at which a schedule fires in the zone. Both are date-times in UTC. A time that the clock skips
  * fires as the gap ends, and one that it shows twice fires once. But a schedule whose minutes or hours begin with * goes by what the clock
- * shows, and so does any where the clock is set ahead by three hours or back by more. So do Vixie's cron and cronie. Returns 0 seconds and CALENDAR_NO_NANOS if there is none. So it does if start is not a
- * date-time, the bytes are no zone, or the zone's clock shows a date outside the calendar at start. */
+ * shows, and so does any where the clock is set ahead by three hours or back by more. So do Vixie's cron and cronie. Returns 0 seconds and
+ * CALENDAR_NO_NANOS if there is none. So it does if start is not a date-time, the bytes are no zone, or the zone's clock shows a date
+ * outside the calendar at start. */
 calendar_date_time calendar_zone_schedule_next(const calendar_schedule *schedule, const uint8_t *zone, size_t length,
                                                calendar_date_time start);
 
