@@ -13,7 +13,7 @@ SELECT next_due('0 3 * * *', timestamptz '2024-10-27 00:00+02');
 SELECT next_due('0 0 29 2 *', timestamptz '2096-03-01'), next_due('0 0 30 2 *', timestamptz '2024-01-01') IS NULL;
 SELECT next_due('@daily', timestamptz '1800-01-01 12:00');
 SET timezone = 'UTC';
-SELECT next_due('@daily', timestamptz '262142-12-31 00:00') IS NULL, next_due('30 2 * * *', timestamptz '2024-03-30 12:00');
+SELECT next_due('@daily', timestamptz '262142-12-31 00:00') IS NULL, next_due('30 2 * * *', timestamptz '2024-03-30 06:00');
 SET timezone = 'Europe/Berlin';
 SELECT next_due('30 2 * * *', timestamptz '2024-03-30 12:00');
 -- What begins with * in the hours or the minutes goes by what the clock shows.
