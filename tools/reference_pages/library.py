@@ -142,7 +142,7 @@ class Library:
         self.specs = specs.Specs(files)
         self.names = libraries(files["crates.txt"])
         self.crates = {it: Crate(it, files, self.specs) for it in self.names if f"crates/{it}/src/lib.rt" in files}
-        self.sources = set(files)
+        self.sources = files
         self.implemented = list(self.implementations())
 
     def implementations(self):

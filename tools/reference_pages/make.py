@@ -32,7 +32,7 @@ CONTRACTS = """The prover holds each function to its contract. A clause after `r
 | `pos 5`, `neg_ℤ (pos 5)` | the whole numbers 5 and -5 |
 | `+ℤ`, `-ℤ`, `≤ℤ`, `<ℤ` | addition, subtraction and comparison of whole numbers |"""
 
-Made = collections.namedtuple("Made", "texts faults names")
+Made = collections.namedtuple("Made", "texts faults names sources")
 
 
 def read_sources(top):
@@ -82,7 +82,7 @@ def too_long(texts):
 
 
 def make(all_of_them):
-    """The pages of some libraries by their paths, the faults of the sources, and the names of the pages in their order."""
+    """The pages of some libraries by their paths, the faults of the sources, the names of the pages in their order, and the sources."""
     crates = list(all_of_them.crates.values())
     made = [crate_page.CratePage(all_of_them, it) for it in crates]
     cited = {key: word for it in made for key, word in it.cited.items()}
@@ -91,7 +91,7 @@ def make(all_of_them):
     files = {f"{FOLDER}/{name}.md": text for name, text in texts.items()}
     faults = [fault for it in made for fault in it.faults] + lost
     faults += [*uncommented(cited), *undescribed(crates), *subjects.wrong(all_of_them.crates), *too_long(files)]
-    return Made(files, list(dict.fromkeys(faults)), list(texts))
+    return Made(files, list(dict.fromkeys(faults)), list(texts), all_of_them.sources)
 
 
 def differing(made, files):
