@@ -10,7 +10,8 @@
              `f`: `a`, `b`, or before it, as in `a` of `f`, and in a row of CALLING.md, are clauses of a function of that name
   counts     the numbers of COUNTS are those of the tree, and each of its patterns is found
   reference  the pages of docs/reference are those that tools/reference makes from the sources
-  comments   links of doc comments lead somewhere, and public items and the words that public contracts cite have comments
+  comments   links of doc comments lead somewhere, and public items and the words that public contracts cite have comments; each crate is in
+             one subject of the reference, and each of its pages is short enough to be rendered
   crates     the page of the architecture names each crate
   version    each place that has the version has that of calendar.h, and no file has it that tools/packages/versions.py does not list
   pasted     the commands of README, of the tutorial and of caltool's page print what these pages say, as checks/pasted.py runs them

@@ -41,7 +41,7 @@ PLANTED = (
 )
 LOADED = "new Promise((done) => { const look = () => (window.SEARCH_INDEX ? done(true) : setTimeout(look, 20)); look(); })"
 FIRST = """new Promise((done) => setTimeout(() => {
-  const it = document.querySelector("#found li");
+  const it = document.querySelector("form[role=search] li");
   done([it.querySelector("code")?.textContent ?? it.textContent, it.querySelector("small")?.textContent ?? ""]);
 }, 0))"""
 
@@ -49,16 +49,16 @@ FIRST = """new Promise((done) => setTimeout(() => {
 def wrong_results(page, folder, start):
     """What the search box of a page finds otherwise than SEARCHES says, and where the first result leads."""
     page.open(f"{folder}/{start}")
-    if not page.run("document.querySelector('#search').checkVisibility()"):
+    if not page.run("document.querySelector('form[role=search]').checkVisibility()"):
         yield f"{start} shows no search box"
         return
     for typed, name, of_page in SEARCHES:
-        page.type("#search input", typed)
+        page.type("form[role=search] input", typed)
         page.run(LOADED)
         found = page.run(FIRST)
         if found != [name or NOTHING, of_page or ""]:
             yield f"{start}: {typed!r} finds {found} first"
-    page.type("#search input", "succ_opt")
+    page.type("form[role=search] input", "succ_opt")
     page.run(FIRST)
     page.events.clear()
     page.press("Enter")

@@ -2,9 +2,9 @@
 "use strict";
 (() => {
   const root = new URL(".", document.currentScript.src);
-  const form = document.getElementById("search");
+  const form = document.querySelector("form[role=search]");
   const box = form.querySelector("input");
-  const list = document.getElementById("found");
+  const list = form.querySelector("ol");
   // As many results as are listed.
   const MOST = 50;
   let loading;

@@ -31,9 +31,9 @@ FRAME = """<!DOCTYPE html>
 <header><a href="{root}index.html">Reference</a><a href="#pages">All pages</a></header>
 {navigation}
 <main>
-<form id="search" role="search" hidden>
+<form role="search" hidden>
 <input type="search" placeholder="Search all names" aria-label="Search all names" autocomplete="off" spellcheck="false">
-<ol id="found" hidden></ol>
+<ol hidden></ol>
 </form>
 {body}
 </main>
