@@ -10,8 +10,10 @@
              `f`: `a`, `b`, or before it, as in `a` of `f`, and in a row of CALLING.md, are clauses of a function of that name
   counts     the numbers of COUNTS are those of the tree, and each of its patterns is found
   reference  the pages of docs/reference are those that tools/reference makes from the sources
-  comments   links of doc comments lead somewhere, and public items and the words that public contracts cite have comments
+  comments   links of doc comments lead somewhere, and public items and the words that public contracts cite have comments; each crate is in
+             one subject of the reference, and each of its pages is short enough to be rendered
   crates     the page of the architecture names each crate
+  version    each place that has the version has that of calendar.h, and no file has it that tools/packages/versions.py does not list
   pasted     the commands of README, of the tutorial and of caltool's page print what these pages say, as checks/pasted.py runs them
 
 ABSENT and NO_FILES list what is rightly not in the tree; a line there that no document needs is a fault too. Each check is then tried on
@@ -35,12 +37,14 @@ import rules  # noqa: E402
 import statuses  # noqa: E402
 
 sys.path.insert(0, os.path.join(os.path.dirname(os.path.dirname(os.path.abspath(__file__))), "tools"))
+import packages  # noqa: E402
+from packages import versions  # noqa: E402
 from reference_pages import library, make, pages  # noqa: E402
 
 TOP = os.path.dirname(os.path.dirname(os.path.abspath(__file__)))
 # The pages that checks read or plant faults in.
 README, TUTORIAL, CALLING, CALTOOL, TRUST = "README.md", "docs/tutorial.md", "CALLING.md", "docs/caltool.md", "docs/trust.md"
-CONTRIBUTING = "CONTRIBUTING.md"
+CONTRIBUTING, CHANGELOG = "CONTRIBUTING.md", "CHANGELOG.md"
 CHRONO, PROMISES, ARCHITECTURE, PROVING = "docs/chrono.md", "docs/promises.md", "docs/architecture.md", "docs/proving.md"
 # Folders with nothing of the tree's own, beside which a caller from Python may build a shared object.
 LEFT_OUT = (".git", "out", "dist", "target", "__pycache__")
@@ -360,6 +364,11 @@ def crates(tree):
     yield from (f"{ARCHITECTURE}: {it} is not named" for it in listed if it not in said)
 
 
+def version(tree):
+    """The places that have another version than calendar.h, and those that no table has."""
+    yield from versions.wrong(tree.files)
+
+
 def pasted(tree):
     """What the commands of README, of the tutorial and of caltool's page do not print."""
     yield from commands_pasted.readme(tree.documents[README])
@@ -542,7 +551,7 @@ def counts(tree):
                 yield f"{path}: {it[0]!r}, and there are {counted}"
 
 
-CHECKS = (files, names, counts, reference, comments, crates, pasted)
+CHECKS = (files, names, counts, reference, comments, crates, version, pasted)
 
 
 # ---- planted faults
@@ -572,7 +581,9 @@ PLANTED = [
     (counts, CALTOOL, "| `wom ", "| `wmo "),
     (counts, CALLING, "`questions::mondays_walked` | ", "`questions::mondays_walked` | 1"),
     (reference, "docs/reference/chrono_units.md", "pub fn succ(", "pub fn next("),
-    (reference, "docs/reference/definitions.md", "#### `is_leap_year`", "#### `is_leap`"),
+    (reference, "docs/reference/definitions/chrono_units.md", "### `is_leap_year`", "### `is_leap`"),
+    (reference, "docs/reference/definitions/chrono_units.md", "(../../../crates/", "(../../crates/"),
+    (reference, "docs/reference/README.md", "- [`chrono_sets`](chrono_sets.md)", "- [`chrono_sets`](chrono_set.md)"),
     (reference, "crates/chrono_naive/src/naive_date.rt", "pub fn from_epoch_days(days: i32)", "pub fn from_epoch_days(days: i64)"),
     (reference, "crates/chrono_naive/src/naive_date.rt", "ensures date { result ≡ date_of_ymd", "ensures day { result ≡ date_of_ymd"),
     (reference, "crates/chrono_text/src/lib.rt", "pub use line::Line;", ""),
@@ -581,6 +592,15 @@ PLANTED = [
     (comments, "crates/chrono_naive/src/naive_date.rt", "impl NaiveDate {\n", "impl NaiveDate {\n    /// See [`NaiveDate::day_after`].\n"),
     (comments, "crates/chrono_naive/src/naive_date.rt", "impl NaiveDate {\n", "impl NaiveDate {\n    pub const FIRST: i32 = 1;\n"),
     (crates, ARCHITECTURE, "rows_layers", "rows_of_layers"),
+    (version, "languages/python/pyproject.toml", 'version = "0.', 'version = "1.'),
+    (version, "languages/c/calendar_layers.h", "CALENDAR_VERSION, such as 0.", "CALENDAR_VERSION, such as 1."),
+    (version, "languages/postgresql/proved_calendar.control", "default_version = '", "default_version = '1"),
+    (version, "crates/numbers_c/specs/Texts.antt", 'version = codes "', 'version = codes "1'),
+    (version, "crates/calendar_c/plants/versions.edits", "write_version(&mut [0; ", "write_version(&mut [0; 1"),
+    (version, "amalgamation/calendar.h", '#define CALENDAR_VERSION "', '#define CALENDAR_VERSION "1'),
+    (version, README, "Version ", "Version 1"),
+    (version, CHANGELOG, "\n## 0.", "\n## 1."),
+    (version, TUTORIAL, "# ", f"# Version {packages.version(TOP)}: "),
     (pasted, README, "| tools/prove caltool", "| tools/proved caltool"),
     (pasted, README, "`2025-02-28`", "`2025-02-27`"),
     (pasted, README, "# 2024-02-29 738945 Thu 2024-W09 60 ", "# 2024-02-29 738946 Thu 2024-W09 60 "),

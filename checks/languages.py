@@ -7,7 +7,7 @@ It takes the static libraries as tools/library.py finds or builds them. Where wh
 
 Compared are names, results and parameters, each way: those of calendar.h with the exports of crates/calendar_c, with the symbols
 of the library and with the declarations of the Rust crate; the fields of both structs; the processors that texts and header name,
-with one another and with the library's instructions; the same of the second library, for processors with AVX2; and the versions of all packages. The header is then compiled, alone, by each
+with one another and with the library's instructions; and the same of the second library, for processors with AVX2. The header is then compiled, alone, by each
 compiler that is found. The packages for C and Python are made by the modules of tools/packages in a temporary folder, installed as
 their users would, and tested there by checks/from_c.py and checks/from_python.py, and so is that for Rust by checks/from_rust.py. Each export
 has to be called in C's tests, and to have a test of its name in the other two, but for what is for C alone, and for columns and
@@ -274,22 +274,6 @@ def compare_examples(results):
         results.count(use in text and re.search("2025-02-28|2025, 2, 28", text), f"languages/{language}/README.md has no {use}")
 
 
-# Where each package says its version.
-VERSIONS = {
-    "python/pyproject.toml": r"^version = \"(.*)\"$", "rust/Cargo.toml": r"^version = \"(.*)\"$",
-    "javascript/package.json": r"^ *\"version\": \"(.*)\",?$", "postgresql/proved_calendar.control": r"^default_version = '(.*)'$",
-}
-
-
-def compare_versions(results):
-    """All packages have the version of the header."""
-    wanted = re.search(r"^#define CALENDAR_VERSION \"(.*)\"$", read(HEADER), re.M)[1]
-    for path, pattern in VERSIONS.items():
-        if os.path.exists(f"{LANGUAGES}/{path}"):
-            found = re.findall(pattern, read(f"{LANGUAGES}/{path}"), re.M)[:1]
-            results.count(found == [wanted], f"{path} has the version {found}, and calendar.h {wanted}")
-
-
 def compare_sources(results):
     """What is compared without the library; the functions of the header."""
     header = of_header()
@@ -300,7 +284,6 @@ def compare_sources(results):
     compare_processors(results)
     compare_examples(results)
     cells.compare(results)
-    compare_versions(results)
     compile_header(results)
     return header
 

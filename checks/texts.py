@@ -1,5 +1,5 @@
 #!/usr/bin/env python3
-"""A second opinion on the rows of texts in rows_layers: each text read here by the grammar of docs/reference/definitions.md and counted.
+"""A second opinion on the rows of texts in rows_layers: each text read here by the grammar of docs/reference/definitions/chrono_reading.md and counted.
 
     checks/texts.py
 

@@ -7,10 +7,11 @@ import gzip
 import hashlib
 import io
 import os
-import re
 import shutil
 import subprocess
 import tarfile
+
+from .versions import HEADER, version_of
 
 # What each package holds beside what it is made of.
 LICENCES = ("LICENSE-APACHE", "LICENSE-MIT")
@@ -29,8 +30,8 @@ class Missing(Exception):
 
 def version(top):
     """The version of all packages, which the header has."""
-    with open(f"{top}/languages/c/calendar.h", encoding="utf-8") as it:
-        return re.search(r"^#define CALENDAR_VERSION \"([^\"]+)\"$", it.read(), re.M)[1]
+    with open(f"{top}/{HEADER}", encoding="utf-8") as it:
+        return version_of(it.read())
 
 
 def build(library, built, name=CALENDAR):

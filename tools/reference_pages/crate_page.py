@@ -90,6 +90,8 @@ class CratePage:
         self.fields(item.members, entry)
         self.model(entry)
         self.traits(entry)
+        self.implementors(entry)
+        self.page.put(pages.link_to_source(entry.source.file))
         for call, source in self.calls(entry):
             self.call(f"{owner}::{call.name}", call, source, item)
         self.operators(entry)
@@ -133,8 +135,21 @@ class CratePage:
         for trait, _, source in self.crate.traits_of(entry.item.name):
             home = self.library.find(self.crate.name, source, "", sources.without_generics(trait))
             found.append(f"[`{trait}`](reference:{home[0]}/{home[1]})" if home and home[1] else f"`{trait.removeprefix('fmt::')}`")
+        own = (self.crate.name, entry.path)
+        found += [f"[`{it.trait[1]}`](reference:{'/'.join(it.trait)})" for it in self.library.implemented if it.owner == own]
         if found:
             self.page.put(f"Traits: {', '.join(dict.fromkeys(found))}.")
+
+    def implementors(self, entry):
+        """Puts the types that have a trait in a line: those that are public, and those that a bound on the parameter of a block names."""
+        found = []
+        for it in self.library.implemented if entry.item.kind == "trait" else ():
+            parameters, _, type_text = sources.parts_of_impl(it.block.signature)
+            bound = re.search(rf"(?:^|, ){re.escape(type_text)}: [^,]+", parameters)
+            if it.trait == (self.crate.name, entry.path) and (it.owner or bound):
+                found.append(f"[`{type_text}`](reference:{'/'.join(it.owner)})" if it.owner else f"each `{bound[0].removeprefix(', ')}`")
+        if found:
+            self.page.put(f"Types with this trait: {', '.join(found)}.")
 
     def operators(self, entry):
         """Puts the operators and the traits whose calls have comments, each with what it gives, and their contracts folded."""
@@ -181,6 +196,7 @@ class CratePage:
         if owner is not None and owner.kind == "trait" and item.given:
             self.page.put("Provided: a type need not write it.")
         self.page.fold("Contract", self.contract(item, source))
+        self.page.put(pages.link_to_source(source.file))
 
     def contract(self, item, source):
         """The lines of a contract, as HTML, in which words lead to their definitions."""

@@ -1,12 +1,11 @@
-"""The page of definitions: the words of the libraries' specs, with their comments, their texts and the known values."""
-import collections
+"""The pages of definitions, one for each crate: the words of its specs, with their comments, their texts and the known values."""
 import html
 import re
 
 from . import pages
 
-ABOUT = """Contracts speak of dates, times and durations as whole numbers, by the words defined here. Each word has its comment and its
-definition in the prover's language. [How to read a contract](reference:README/=contracts) explains the signs.
+ABOUT = """Contracts speak of dates, times and durations as whole numbers, by the words defined here. Each crate has a page of its words. Each word
+has its comment and its definition in the prover's language. [How to read a contract](reference:README/=contracts) explains the signs.
 
 A definition counts: it adds up years and months, walks from day to day, or takes a remainder. Others are rules that are plain already, such as
 the texts of a standard. The prover does not look into a word marked `unfoldable` by itself.
@@ -15,23 +14,27 @@ Known values stand below the words of a file: claims about examples, which the p
 belong to Rattle's own library."""
 
 
-def heading_of(word, taken):
-    """The heading of a word: with its crate, if another crate's has the same name."""
-    first = taken.setdefault(word.name.lower(), word.crate)
-    return f"`{word.name}`" if first == word.crate else f"`{word.name}` of `{word.crate}`"
+def exported(words):
+    """The words that contracts of all crates may use."""
+    return [it for it in words if it.public and it.defines]
 
 
-def put_file(page, library, crate, file, taken):
+def line_of(page, file, words):
+    """The line of a file in the index of its page."""
+    links = [f"[`{it.name}`](reference:{page.name}/{file}/{it.name})" for it in words]
+    return f"- [`{file}.antt`](reference:{page.name}/{file}){': ' if links else ''}{', '.join(links)}"
+
+
+def put_file(page, library, crate, file):
     """Puts the words of a file."""
     words = library.specs.words[crate, file]
-    path = f"{crate}/specs/{file}.antt"
-    page.heading(3, f"`{path}`", f"{crate}/{file}")
+    page.heading(2, f"`{file}.antt`", file)
     page.put(said_in_markdown(library.specs.said[crate, file]))
-    for it in words:
-        if it.public and it.defines:
-            page.heading(4, heading_of(it, taken), pages.key_of(it))
-            page.put(said_in_markdown(it.comment, parameters(it)))
-            page.put(f"```text\n{it.text}\n```")
+    page.put(pages.link_to_source(f"crates/{crate}/specs/{file}.antt"))
+    for it in exported(words):
+        page.heading(3, f"`{it.name}`", f"{file}/{it.name}")
+        page.put(said_in_markdown(it.comment, parameters(it)))
+        page.put(f"```text\n{it.text}\n```")
     known = [it for it in words if not (it.public and it.defines)]
     page.fold("Known values and helpers", [line for it in known for line in lines_of(it)])
 
@@ -59,19 +62,25 @@ def said_in_markdown(comment, own=()):
     return text if re.search(r"[.!?:]$", text) else text + "."
 
 
+def crate_page(library, crate, files):
+    """The page of a crate's words: those of each file in a line, and then each with its definition."""
+    page = pages.Page(f"definitions/{crate}", f"Definitions of `{crate}`", f"`crates/{crate}/specs`")
+    page.put("[Definitions](reference:definitions) says what a definition is, and lists those of all crates."
+             f" [`{crate}`](reference:{crate}) has the functions.")
+    page.heading(2, "Index", "=index")
+    page.put("\n".join(line_of(page, file, exported(library.specs.words[crate, file])) for file in files))
+    for file in files:
+        put_file(page, library, crate, file)
+    return page
+
+
 def make(library):
-    """The page of the definitions of all libraries."""
+    """The page that lists the definitions of all libraries, and a page for each of these."""
     page = pages.Page("definitions", "Definitions", "`crates/*/specs`")
     page.put(ABOUT)
-    crates = [it for it in library.crates if any(
-        one.public and one.defines for file in library.specs.files_of(it) for one in library.specs.words[it, file])]
-    files = {it: [one for one in library.specs.files_of(it) if library.specs.words[it, one]] for it in crates}
+    files = {it: [one for one in library.specs.files_of(it) if library.specs.words[it, one]] for it in library.crates}
+    crates = [it for it in library.crates if any(exported(library.specs.words[it, one]) for one in files[it])]
     page.heading(2, "Index", "=index")
     page.put("\n".join(f"- [`{it}`](reference:definitions/{it}): " + ", ".join(
         f"[`{file}`](reference:definitions/{it}/{file})" for file in files[it]) for it in crates))
-    taken = collections.OrderedDict()
-    for crate in crates:
-        page.heading(2, f"`{crate}`", crate)
-        for file in files[crate]:
-            put_file(page, library, crate, file, taken)
-    return page
+    return [page, *(crate_page(library, it, files[it]) for it in crates)]

@@ -35,6 +35,8 @@ class Source:
 
 Entry = collections.namedtuple("Entry", "path item source")
 Passed = collections.namedtuple("Passed", "path crate origin")
+# A block of a trait for a type: both by crate and path, of which that of the type may be nothing, and the block.
+Implemented = collections.namedtuple("Implemented", "trait owner block")
 
 
 def ghost_uses(items):
@@ -140,6 +142,17 @@ class Library:
         self.specs = specs.Specs(files)
         self.names = libraries(files["crates.txt"])
         self.crates = {it: Crate(it, files, self.specs) for it in self.names if f"crates/{it}/src/lib.rt" in files}
+        self.sources = files
+        self.implemented = list(self.implementations())
+
+    def implementations(self):
+        """The blocks of the libraries' traits, by crates."""
+        for crate in self.crates.values():
+            for owner, blocks in crate.blocks.items():
+                for trait, block, source in blocks:
+                    home = self.find(crate.name, source, "", sources.without_generics(trait)) if trait else None
+                    if home and home[1]:
+                        yield Implemented(home, self.find(crate.name, source, "", owner), block)
 
     def home(self, crate, path):
         """The crate and the path under which an item that a crate has or passes on is told; nothing if there is none."""

@@ -2,10 +2,12 @@
 import collections
 import os
 
-from . import crate_page, definitions_page, pages
+from . import crate_page, definitions_page, pages, subjects
 
-FOLDER = "docs/reference"
+FOLDER = pages.FOLDER
 READ = (".rt", ".antt")
+# The most bytes of a page that code hosts still render.
+LIMIT = 512 * 1024
 
 ABOUT = """Each page describes the public functions of a library: what a function returns, an example, and its contract, which is folded.
 Start with [`chrono_datetime`](reference:chrono_datetime) for dates, times and date-times: it passes on the names of the libraries below it."""
@@ -30,7 +32,7 @@ CONTRACTS = """The prover holds each function to its contract. A clause after `r
 | `pos 5`, `neg_ℤ (pos 5)` | the whole numbers 5 and -5 |
 | `+ℤ`, `-ℤ`, `≤ℤ`, `<ℤ` | addition, subtraction and comparison of whole numbers |"""
 
-Made = collections.namedtuple("Made", "texts faults names")
+Made = collections.namedtuple("Made", "texts faults names sources")
 
 
 def read_sources(top):
@@ -47,11 +49,10 @@ def read_sources(top):
 
 
 def contents(crates):
-    """The page that lists all others."""
+    """The page that lists all others, by subjects."""
     page = pages.Page("README", "Reference", "`crates.txt` and `crates`")
     page.put(ABOUT)
-    said = [(it.name, pages.first_sentence(it.modules[""].said).replace("[`", "`").replace("`]", "`")) for it in crates]
-    page.put("\n".join(f"- [`{name}`](reference:{name}): {first}" for name, first in said))
+    subjects.put(page, {it.name: pages.first_sentence(it.modules[""].said).replace("[`", "`").replace("`]", "`") for it in crates})
     page.heading(2, "How to read a contract", "=contracts")
     page.put(CONTRACTS)
     return page
@@ -73,15 +74,24 @@ def undescribed(crates):
             yield from (f"crates/{crate.name}: {path} has no comment" for path, one in named if not one.doc.strip())
 
 
+def too_long(texts):
+    """The faults of the pages that are not rendered for their size."""
+    for path, text in texts.items():
+        if len(text.encode()) >= LIMIT:
+            yield f"{path}: has {len(text.encode()):,} bytes, and a page of {LIMIT:,} is not rendered"
+
+
 def make(all_of_them):
-    """The pages of some libraries by their paths, the faults of the sources, and the names of the pages in their order."""
+    """The pages of some libraries by their paths, the faults of the sources, the names of the pages in their order, and the sources."""
     crates = list(all_of_them.crates.values())
     made = [crate_page.CratePage(all_of_them, it) for it in crates]
     cited = {key: word for it in made for key, word in it.cited.items()}
-    all_pages = [contents(crates), *(it.page for it in made), definitions_page.make(all_of_them)]
-    texts, lost = pages.settle(all_pages)
-    faults = [fault for it in made for fault in it.faults] + lost + [*uncommented(cited), *undescribed(crates)]
-    return Made({f"{FOLDER}/{name}.md": text for name, text in texts.items()}, list(dict.fromkeys(faults)), list(texts))
+    all_pages = [contents(crates), *(it.page for it in made), *definitions_page.make(all_of_them)]
+    texts, lost = pages.settle(all_pages, all_of_them.sources)
+    files = {f"{FOLDER}/{name}.md": text for name, text in texts.items()}
+    faults = [fault for it in made for fault in it.faults] + lost
+    faults += [*uncommented(cited), *undescribed(crates), *subjects.wrong(all_of_them.crates), *too_long(files)]
+    return Made(files, list(dict.fromkeys(faults)), list(texts), all_of_them.sources)
 
 
 def differing(made, files):

@@ -1,10 +1,16 @@
-"""A page in Markdown: its headings with the ids that GitHub gives them, links by what they lead to, and comments as paragraphs."""
+"""A page in Markdown: its headings with the ids that GitHub gives them, links by what they lead to, and comments as paragraphs.
+
+A link to `reference:NAME/KEY` leads to a heading of a page, and one to `source:PATH` to a file of the tree. `settle` makes both relative.
+"""
 import html
+import posixpath
 import re
+
+FOLDER = "docs/reference"
 
 LINK = re.compile(r"\[(?P<text>`[^`\]\n]+`|[^\]\[`]+)\](?:\((?P<to>[^)\s]+)\))?")
 SPAN = re.compile(r"(`+)(?:(?!`).)*?\1(?!`)", re.S)
-REFERENCE = re.compile(r"reference:([^\s\")]+)")
+REFERENCE = re.compile(r"(?<=[(\"])(reference|source):([^\s\")]+)")
 ENDS_SENTENCE = re.compile(r"(?<=[.!?])(?<!e\.g\.)(?<!i\.e\.)\s")
 
 
@@ -65,17 +71,31 @@ class Page:
         return {key: it for (_, key), it in zip(self.headings, found)}
 
 
-def settle(pages):
-    """The texts of pages, by name, in which links have what they lead to; and those that lead nowhere."""
+def link_to_source(path):
+    """The line that leads to the source of an item."""
+    return f"Source: [`{path.removeprefix('crates/')}`](source:{path})"
+
+
+def relative(path, page):
+    """The path of a file of the tree as it stands in a link of a page."""
+    return posixpath.relpath(path, posixpath.dirname(f"{FOLDER}/{page}.md"))
+
+
+def settle(pages, sources):
+    """The texts of pages, by name, in which links have what they lead to; and those that lead to no heading and to none of the sources."""
     known = {f"{page.name}/{key}" if key else page.name: (page.name, it if key else "") for page in pages for key, it in page.ids().items()}
     texts, lost = {}, []
     for page in pages:
         def href(it, page=page):
-            if it[1] not in known:
-                lost.append(f"docs/reference/{page.name}.md: a link to {it[1]}, which is not there")
+            kind, goal = it.groups()
+            if goal not in (known if kind == "reference" else sources):
+                lost.append(f"{FOLDER}/{page.name}.md: a link to {goal}, which is not there")
                 return "#"
-            name, anchor = known[it[1]]
-            return (f"{name}.md" if name != page.name else "") + (f"#{anchor}" if anchor or name == page.name else "")
+            if kind == "source":
+                return relative(goal, page.name)
+            name, anchor = known[goal]
+            other = relative(f"{FOLDER}/{name}.md", page.name) if name != page.name else ""
+            return other + (f"#{anchor}" if anchor or not other else "")
         texts[page.name] = REFERENCE.sub(href, page.text())
     return texts, lost
 

@@ -1,14 +1,22 @@
-"""Writes pages in Markdown as HTML: one file each, with the style in a file of its own and no script."""
+"""Writes pages in Markdown as HTML: one file each, the sources that they lead to, and a script that searches an index of all headings."""
+import collections
 import html
+import json
 import os
+import posixpath
 import re
 
 from . import pages
 
-STYLE = "style.css"
+# The files beside the pages: two that stand in this folder, and the index, which is made.
+STYLE, SCRIPT, INDEX = "style.css", "search.js", "search_index.js"
 BLOCK_OF_HTML = re.compile(r"</?(?:details|pre|summary|p|br|img|a|div)\b")
 ROW = re.compile(r"^\|(.*)\|\s*$")
 ITEM = re.compile(r"^( *)(?:[-*]|(\d+)\.) +(.*)$")
+# A link to a source, and the folder of the sources' pages.
+TO_SOURCE, SOURCES = re.compile(r"((?:\.\./)*)\.\./\.\./crates/(.*)"), "source"
+# The headings that stand on most pages, which no one searches.
+ON_EACH_PAGE = re.compile(r"Index|Passed on|Functions|Constants|Laws|Operators and traits of .*")
 NAME_OF_SITE = "proved_calendar"
 FRAME = """<!DOCTYPE html>
 <html lang="en">
@@ -16,12 +24,17 @@ FRAME = """<!DOCTYPE html>
 <meta charset="utf-8">
 <meta name="viewport" content="width=device-width, initial-scale=1">
 <title>{title}</title>
-<link rel="stylesheet" href="{style}">
+<link rel="stylesheet" href="{root}{style}">
+<script src="{root}{script}" defer></script>
 </head>
 <body>
-<header><a href="index.html">Reference</a><a href="#pages">All pages</a></header>
+<header><a href="{root}index.html">Reference</a><a href="#pages">All pages</a></header>
 {navigation}
 <main>
+<form role="search" hidden>
+<input type="search" placeholder="Search all names" aria-label="Search all names" autocomplete="off" spellcheck="false">
+<ol hidden></ol>
+</form>
 {body}
 </main>
 </body>
@@ -54,14 +67,20 @@ def inline(text):
 
 
 def target(href):
-    """Where a link leads in HTML: pages have another ending there."""
+    """Where a link leads in HTML: pages have another ending there, and sources are pages too."""
     if re.match(r"\w+:", href):
         return href
+    of_source = TO_SOURCE.fullmatch(href)
+    if of_source:
+        return f"{of_source[1]}{SOURCES}/{of_source[2]}.html"
     href = re.sub(r"(^|/)README\.md(?=#|$)", r"\1index.html", href)
     return re.sub(r"\.md(?=#|$)", ".html", href)
 
 
 # ---- blocks
+
+
+Heading = collections.namedtuple("Heading", "text id said")
 
 
 class Writer:
@@ -91,8 +110,15 @@ class Writer:
             elif line.startswith(">"):
                 self.out.append(f"<blockquote>{Writer(self.taken(lambda it: it.startswith('>'), 1)).write()}</blockquote>")
             else:
-                self.out.append(f"<p>{inline(self.taken(self.goes_on, 0))}</p>")
+                self.paragraph()
         return "\n".join(self.out)
+
+    def paragraph(self):
+        """A paragraph; the first sentence below a heading is kept with it."""
+        text = self.taken(self.goes_on, 0)
+        if self.headings and not self.headings[-1].said:
+            self.headings[-1] = self.headings[-1]._replace(said=pages.first_sentence(text))
+        self.out.append(f"<p>{inline(text)}</p>")
 
     def goes_on(self, line):
         """Whether a paragraph goes on with a line."""
@@ -120,7 +146,7 @@ class Writer:
         """A heading with its id."""
         marks, _, text = line.partition(" ")
         level, it = len(marks), next(self.ids)
-        self.headings.append((level, text, it))
+        self.headings.append(Heading(text, it, ""))
         self.out.append(f'<h{level} id="{html.escape(it)}"><a class="here" href="#{html.escape(it)}">{inline(text)}</a></h{level}>')
         self.at += 1
 
@@ -171,44 +197,75 @@ class Writer:
 # ---- pages
 
 
+def root_of(name):
+    """The way from a page to the folder of all pages."""
+    return "../" * name.count("/")
+
+
 def navigation(names, here):
-    """The links to all pages."""
-    links = "".join(f'<li><a href="{it}.html"{" class=now" if it == here else ""}>{it}</a></li>' for it in names)
-    return f'<nav id="pages"><p><a href="index.html">Reference</a></p><ul>{links}</ul></nav>'
+    """The links to all pages but those of definitions, which one page lists."""
+    root = root_of(here)
+    links = "".join(f'<li><a href="{root}{it}.html"{" class=now" if it == here.split("/")[0] else ""}>{it}</a></li>' for it in names)
+    return f'<nav id="pages"><p><a href="{root}index.html">Reference</a></p><ul>{links}</ul></nav>'
 
 
-def page_in_html(name, text, names):
-    """A page as a file of HTML."""
-    writer = Writer(text)
-    body = writer.write()
-    title = f"{writer.headings[0][1].strip('`')} - {NAME_OF_SITE}"
-    return FRAME.format(title=html.escape(title), style=STYLE, navigation=navigation(names, name), body=body)
+def framed(name, title, body, names):
+    """A page of HTML with what stands around it."""
+    return FRAME.format(title=html.escape(f"{title} - {NAME_OF_SITE}"), root=root_of(name), style=STYLE, script=SCRIPT,
+                        navigation=navigation(names, name), body=body)
+
+
+def plain(text):
+    """What a line of Markdown says, without its signs."""
+    return html.unescape(re.sub(r"<[^>]*>", "", inline(text)))
+
+
+def index_of(writers):
+    """The index for the search: the headings of each page, with their ids and the first sentences below them."""
+    found = {}
+    for name, writer in writers.items():
+        found[name] = [[plain(it.text), it.id, plain(it.said)] for it in writer.headings if not ON_EACH_PAGE.fullmatch(it.text)]
+    return f"window.SEARCH_INDEX = {json.dumps(found, ensure_ascii=False, separators=(',', ':'))};\n"
+
+
+def source_pages(found, sources, names):
+    """The pages of the sources to which the pages that are found lead."""
+    paths = {path for text in found.values() for path in re.findall(rf'href="(?:\.\./)*{SOURCES}/([^"]+)\.html"', text)}
+    for path in sorted(paths):
+        code = html.escape(sources[f"crates/{path}"], quote=False)
+        body = f"<h1><code>{html.escape(path)}</code></h1>\n<pre><code>{code}</code></pre>"
+        yield f"{SOURCES}/{path}.html", framed(f"{SOURCES}/{path}", path, body, names)
 
 
 def write(made, folder):
-    """Writes all pages and the style into a folder; the paths of what it wrote."""
-    os.makedirs(folder, exist_ok=True)
-    names, paths = [it for it in made.names if it != "README"], []
-    texts = {os.path.basename(path).removesuffix(".md"): text for path, text in made.texts.items()}
-    found = {("index" if name == "README" else name) + ".html": page_in_html(name, texts[name], names) for name in made.names}
-    with open(f"{os.path.dirname(os.path.abspath(__file__))}/{STYLE}", encoding="utf-8") as it:
-        found[STYLE] = it.read()
+    """Writes all pages, those of the sources, the style, the script and its index into a folder; the paths of what it wrote."""
+    names = [it for it in made.names if it != "README" and "/" not in it]
+    writers = {"index" if it == "README" else it: Writer(made.texts[f"{pages.FOLDER}/{it}.md"]) for it in made.names}
+    bodies = {name: it.write() for name, it in writers.items()}
+    found = {f"{name}.html": framed(name, plain(it.headings[0].text), bodies[name], names) for name, it in writers.items()}
+    found.update(source_pages(found, made.sources, names))
+    found[INDEX] = index_of(writers)
+    for name in (STYLE, SCRIPT):
+        with open(f"{os.path.dirname(os.path.abspath(__file__))}/{name}", encoding="utf-8") as it:
+            found[name] = it.read()
     for name, text in found.items():
+        os.makedirs(os.path.dirname(f"{folder}/{name}"), exist_ok=True)
         with open(f"{folder}/{name}", "w", encoding="utf-8") as it:
             it.write(text)
-        paths.append(f"{folder}/{name}")
-    return paths
+    return [f"{folder}/{name}" for name in found]
 
 
 def lost_anchors(folder):
     """The links of the pages of a folder that lead nowhere."""
+    paths = {os.path.relpath(os.path.join(at, name), folder) for at, _, names in os.walk(folder) for name in names}
     texts = {}
-    for name in sorted(it for it in os.listdir(folder) if it.endswith(".html")):
+    for name in sorted(it for it in paths if it.endswith(".html")):
         with open(f"{folder}/{name}", encoding="utf-8") as it:
             texts[name] = it.read()
-    ids = {name: set(re.findall(r'\bid="([^"]*)"', text)) for name, text in texts.items()}
+    ids = {name: set(re.findall(r'\bid="([^"]*)"', texts.get(name, ""))) for name in paths}
     for name, text in texts.items():
-        for href in re.findall(r'href="([^"]*)"', text):
+        for href in re.findall(r'<(?:a|link|script)\b[^>]* (?:href|src)="([^"]*)"', text):
             page, _, anchor = html.unescape(href).partition("#")
-            if not re.match(r"\w+:", href) and page != STYLE and ((page or name) not in ids or anchor and anchor not in ids[page or name]):
+            goal = posixpath.normpath(posixpath.join(posixpath.dirname(name), page)) if page else name
+            if not re.match(r"\w+:", href) and (goal not in ids or anchor and anchor not in ids[goal]):
                 yield f"{name}: {href} leads nowhere"

@@ -203,19 +203,25 @@ def without_generics(text):
     return found
 
 
-def head_of_impl(signature):
-    """The trait of an `impl`, with its parameters, or nothing, and the name of the type."""
-    rest = re.sub(r"\s+", " ", re.sub(r"^(?:unsafe )?impl\s*", "", signature))
+def parts_of_impl(signature):
+    """The parameters of an `impl` as they are declared, its trait, or nothing, and the type as it is written."""
+    rest, parameters = re.sub(r"\s+", " ", re.sub(r"^(?:unsafe )?impl\s*", "", signature)), ""
     if rest.startswith("<"):
         depth = 0
         for at, sign in enumerate(rest):
             depth += (sign == "<") - (sign == ">" and rest[at - 1] not in "-=")
             if depth == 0:
-                rest = rest[at + 1:].strip()
+                parameters, rest = rest[1:at], rest[at + 1:].strip()
                 break
     trait, _, type_text = rest.partition(" for ") if " for " in rest else ("", "", rest)
-    name = re.search(r"(\w+)\W*$", without_generics(type_text.partition(" where ")[0]).strip())
-    return trait.strip(), name[1] if name else ""
+    return parameters, trait.strip(), type_text.partition(" where ")[0].strip()
+
+
+def head_of_impl(signature):
+    """The trait of an `impl`, with its parameters, or nothing, and the name of the type."""
+    _, trait, type_text = parts_of_impl(signature)
+    name = re.search(r"(\w+)\W*$", without_generics(type_text).strip())
+    return trait, name[1] if name else ""
 
 
 def uses_of(text):

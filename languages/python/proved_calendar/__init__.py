@@ -13,6 +13,7 @@ from .time_of_day import Time
 from .timed_schedule import TimedSchedule
 
 del _members
+__version__ = __version__.replace("-dev", ".dev0")  # (as pip writes it)
 
 __all__ = [
     "BusinessCalendar", "CalendarText", "Date", "DateTime", "Duration", "Instant", "IsoCalendarDate", "Pattern", "Rule", "RuleSet", "Schedule", "TextError", "Time", "TimedSchedule", "Weekday", "Zone",

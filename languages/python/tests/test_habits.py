@@ -96,7 +96,7 @@ class Making(unittest.TestCase):
         self.assertRaises(TypeError, setattr, Date, "today", None)
 
     def test_version_and_names(self):
-        self.assertRegex(proved_calendar.__version__, r"^\d+\.\d+\.\d+$")
+        self.assertRegex(proved_calendar.__version__, r"^\d+\.\d+\.\d+(\.dev0)?$")
         for name in proved_calendar.__all__:
             self.assertTrue(hasattr(proved_calendar, name))
         for kind in (Date, DateTime, Duration, Weekday, IsoCalendarDate):
