@@ -57,7 +57,7 @@ ABSENT = {
         to_string IntoIterator Ok Option Result Some Sum TryFrom collect fmt::Write match requires self str u8 unsafe unwrap""",
     "of the kit: its words, its tactics and its std": """SomeIff agree_below agree_below_at jiff_tz num_traits omega refl subst
         unfoldable view_is ensures """,
-    "of the last line of a check": "logic-built libraries-built trusted",
+    "of the last line of a check": "logic-built libraries-built trusted axioms",
     "of pandas and Dask": "NA OutOfBoundsDatetime Client compute",
     "of Python": "Unpickler OverflowError TypeError ValueError datetime timedelta ZoneInfo __slots__ __getstate__",
     "of JavaScript": "BigInt Int32Array calendarName PlainTime iso8601 RangeError Temporal wasm-opt bulk-memory sign-ext",
