@@ -72,7 +72,7 @@ ABSENT = {
         from_isoywd from_num_days_from_ce from_hms
         from_num_seconds_from_midnight and_hms proved_calendar::chrono""",
     "files and modules of chrono": "naive internals ",
-    "words of CMake, of the shell and of a line": "find_package add_subdirectory Iamalgamation sudo cc load_extension pkg-config lcalendar ldconfig LD_LIBRARY_PATH gc-sections",
+    "words of CMake, of the shell and of a line": "find_package add_subdirectory Iamalgamation cc load_extension pkg-config lcalendar ldconfig LD_LIBRARY_PATH gc-sections",
     "words of the program dates": "MONTH mo us-federal modified-following modified-preceding",
     "texts and digits of a text": "CET CEST P0D PT59M59 PT90S PT5400S PT0S P1Y2M h30min",
     "made by tools/dist": "SHA256SUMS",
@@ -81,7 +81,7 @@ ABSENT = {
 }
 # Files and folders that are rightly not there, by the reason.
 NO_FILES = {
-    "left by a build": "dist dist/sqlite crates/caltool/out/caltool crates/dates/out/dates out out/libcalendar_c.a",
+    "left by a build": "dist/sqlite crates/caltool/out/caltool crates/dates/out/dates out out/libcalendar_c.a",
     "a day count": "actual/actual actual/360 actual/365 30/360 30e/360",
     "where a package is installed": """
         include/calendar.h include/calendar_layers.h lib/libcalendar-v3.a lib/libcalendar.a lib/libcalendar.so

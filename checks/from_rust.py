@@ -18,7 +18,7 @@ import tarfile
 import cells
 import chrono_docs
 import layers_c
-from results import is_older, read, run
+from results import is_older, read, run, write
 from wrong_lines import planted, tried
 
 TOP = os.path.dirname(os.path.dirname(os.path.abspath(__file__)))
@@ -58,12 +58,6 @@ debug = false
 [dependencies]
 proved-calendar = {{ path = "{package}", features = [{features}] }}
 {others}"""
-
-
-def write(path, text):
-    os.makedirs(os.path.dirname(path), exist_ok=True)
-    with open(path, "w", encoding="utf-8") as it:
-        it.write(text)
 
 
 def as_declared(kind):

@@ -11,7 +11,7 @@ with one another and with the library's instructions; and the same of the second
 compiler that is found. The packages for C and Python are made by the modules of tools/packages in a temporary folder, installed as
 their users would, and tested there by checks/from_c.py and checks/from_python.py, and so is that for Rust by checks/from_rust.py. Each export
 has to be called in C's tests, and to have a test of its name in the other two, but for what is for C alone, and for columns and
-what belongs to them, which Python's module of columns calls. The examples of the READMEs are run too, and the uses that README.md shows have to stand in them. checks/cells.py has an
+what belongs to them, which Python's module of columns calls. The examples of the READMEs are run too. checks/cells.py has an
 example of each cell of the table of layers.
 """
 import os
@@ -263,17 +263,6 @@ def compile_header(results):
             results.count(ran.returncode == 0, f"{' '.join(words)}: {ran.stderr}")
 
 
-def compare_examples(results):
-    """README.md has a use of each language; it and its answer stand in the examples of that language, which are run."""
-    page = read(f"{TOP}/README.md")
-    results.count("Each call below gives 28 February 2025." in page, "README.md does not say what the uses give")
-    rows = re.findall(r"^\| \[[^]]*\]\(languages/(\w+)/README\.md\)[^|]*\| `[^`]*` \| `([^`]*)` \|$", page, re.M)
-    results.count(sorted(it for it, _ in rows) == ["c", "javascript", "postgresql", "python", "rust", "sqlite"], f"README.md has uses of {rows}")
-    for language, use in rows:
-        text = read(f"{TOP}/languages/{language}/README.md").replace(".unwrap().", "?.")
-        results.count(use in text and re.search("2025-02-28|2025, 2, 28", text), f"languages/{language}/README.md has no {use}")
-
-
 def compare_sources(results):
     """What is compared without the library; the functions of the header."""
     header = of_header()
@@ -282,7 +271,6 @@ def compare_sources(results):
     compare_safety(results, header)
     compare_uses(results, header)
     compare_processors(results)
-    compare_examples(results)
     cells.compare(results)
     compile_header(results)
     return header

@@ -44,9 +44,11 @@ ELSEWHERE = {
     "(cd dist && sha256sum --check SHA256SUMS)": "dist/ is left by tools/dist",
     "tools/dist amalgamation": "checks/portable.py makes the same files",
     "python3 -m venv env && env/bin/pip install ./languages/python": "checks/without_kit.py",
-    "cargo add --path languages/rust": "checks/from_rust.py tests the crate so",
-    "npm install ./languages/javascript": "checks/without_kit.py",
-    "cp crates/dates/out/dates ~/.local/bin/": "it writes into the reader's home",
+    "cargo add --path ~/proved_calendar/languages/rust": "checks/without_kit.py",
+    "npm install ~/proved_calendar/languages/javascript": "checks/without_kit.py",
+    "sudo make -C languages/sqlite install": "checks/without_kit.py, in a folder of its own",
+    "make -C languages/postgresql && sudo make -C languages/postgresql install": "checks/without_kit.py, in a folder of its own",
+    "tools/prove dates": "the gate proves and builds the program, and checks/dates.py runs it",
 }
 # A slow machine proves all that caltool uses in half an hour.
 LONGEST = 7_200

@@ -11,7 +11,7 @@ Each languages/postgresql/tests/NAME.sql has to print tests/expected/NAME.out, a
 function, or so many, have to get the answers of the library (checks/postgresql_answers.py). NULL, infinity and dates beyond the
 calendar are tried in every argument of each function. Plans with parallel workers, a restart, a dump, sessions side by side, calls
 that are cancelled, and 10,000,000 rows in bounded memory follow (checks/postgresql_uses.py). The queries of
-languages/postgresql/README.md have to print what the page says. Each line of languages/postgresql/wrong_lines.txt has to fail a test.
+languages/postgresql/README.md, and that of README.md, have to print what the pages say. Each line of languages/postgresql/wrong_lines.txt has to fail a test.
 
 What could not be run is named.
 """
@@ -34,7 +34,7 @@ import postgresql_uses  # noqa: E402
 from library import make_package  # noqa: E402
 from packages import postgresql  # noqa: E402
 from postgresql_server import Server  # noqa: E402
-from results import LANGUAGES, Results, read  # noqa: E402
+from results import LANGUAGES, Results, read, readme_examples  # noqa: E402
 from wrong_lines import edits, planted  # noqa: E402
 
 FOLDER = f"{LANGUAGES}/postgresql"
@@ -145,12 +145,12 @@ def try_arguments(results, server):
 
 
 def run_page(results, server):
-    """The queries of the page, one after the other in one database."""
+    """The queries of the page, one after the other in one database, and that of README.md."""
     queries = re.findall(r"^```sql\n(.*?)^```$", read(f"{FOLDER}/README.md"), re.M | re.S)
     results.count(len(queries) == 5, f"the page has {len(queries)} queries")
     server.ask("CREATE DATABASE page", "-d", "postgres")
     server.ask(CREATE, "-d", "page")
-    for query in queries:
+    for query in [*queries, *(it for it, _ in readme_examples("sql"))]:
         code, _, wanted = query.rpartition(";\n")
         told = server.ask(f"{code};\n", "-d", "page")
         results.count(told == wanted.replace("-- ", "").rstrip("\n"), f"{query} prints\n{told}")

@@ -1,5 +1,5 @@
 #!/usr/bin/env python3
-"""The language of the documents: short sentences, short cells, short pages of packages.
+"""The language of the documents: short sentences, short cells, a short README.
 
     checks/prose.py [-s N] [FILE ..]
 
@@ -9,8 +9,7 @@ docs/reference is made:
   average    the words of a sentence, on average at most 18
   long       sentences of over 30 words, at most 5 in 100, and none of over 40
   tables     at most 5 columns, and at most 25 words in a cell
-  package    at most 900 words on the page of a package, and 600 on each further page of it
-  README     at most 90 lines and 750 words
+  README     at most 150 lines
 
 A span of code counts as one word of a sentence, and its words as words of a cell. Code blocks, headings and HTML do not count. With -s N
 the N longest sentences of each are shown. FILE is a page, a source or a library. Without files, each measure is also tried on the faults
@@ -26,8 +25,7 @@ import sys
 
 TOP = os.path.dirname(os.path.dirname(os.path.abspath(__file__)))
 PAGES = ("*.md", "docs/*.md", "languages/*/*.md")
-AVERAGE, LONG, LONGEST, SHARE, COLUMNS, CELL, PACKAGE, FURTHER = 18, 30, 40, 0.05, 5, 25, 900, 600
-README_LINES, README_WORDS = 90, 750
+AVERAGE, LONG, LONGEST, SHARE, COLUMNS, CELL, README_LINES = 18, 30, 40, 0.05, 5, 25, 150
 # Which faults each of these texts has to show.
 SHORT, LONG_ONE = "The prover checks it. ", " ".join(["word"] * 41) + ". "
 PLANTED = {
@@ -174,17 +172,13 @@ def main():
     tried = [measure(it, asked.s) for it in asked.files or pages() + libraries()]
     failed = tried.count(False)
     if not asked.files:
-        sizes = {it: len(read(it).split()) for it in pages()}
-        long = [it for it, size in sizes.items() if it.startswith("languages/") and size > (PACKAGE if it.endswith("/README.md") else FURTHER)]
-        count = sum(size for it, size in sizes.items() if not it.startswith("languages/"))
-        print(f"{count} words on {len(sizes)} pages but those of packages{''.join(f', and {sizes[it]} on {it}' for it in long)}")
-        readme = read("README.md")
-        lines, words = len(readme.splitlines()), len(readme.split())
-        print(f"{words} words in {lines} lines of README.md")
-        too_long = len(long) + (lines > README_LINES or words > README_WORDS)
+        lines = len(read("README.md").splitlines())
+        is_long = lines > README_LINES
+        if is_long:
+            print(f"README.md has {lines} lines, more than {README_LINES}")
         missed = planted()
-        failed += too_long + missed
-        tried += [True] * (len(PLANTED) + 3 - missed - too_long)
+        failed += is_long + missed
+        tried += [True] * (len(PLANTED) + 3 - missed - is_long)
     print(f"{tried.count(True)} passed, {failed} failed")
     return 1 if failed else 0
 

@@ -33,6 +33,13 @@ def read(path):
         return it.read()
 
 
+def write(path, text):
+    """Writes a file, and the folders that it needs."""
+    os.makedirs(os.path.dirname(path), exist_ok=True)
+    with open(path, "w", encoding="utf-8") as it:
+        it.write(text)
+
+
 def run(results, what, words, counts, **how):
     """Runs a test; the patterns say how it tells what passed and failed, by a number or, with none, one by one."""
     ran = subprocess.run(words, stdout=subprocess.PIPE, stderr=subprocess.STDOUT, text=True, errors="replace", **how)
@@ -55,3 +62,10 @@ def example(language):
     """The example of a README."""
     folder = {"js": "javascript"}.get(language, language)
     return re.search(rf"^```{language}\n(.*?)^```$", read(f"{LANGUAGES}/{folder}/README.md"), re.M | re.S)[1]
+
+
+def readme_examples(language):
+    """The examples of README.md in a language, each with the lines that it prints: the comments that begin with a digit."""
+    blocks = re.findall(rf"^```{language}\n(.*?)^```$", read(f"{TOP}/README.md"), re.M | re.S)
+    found = [(it, re.findall(r"(?:#|//|--|/\*) (\d.*?)(?: \*/)?$", it, re.M)) for it in blocks]
+    return [(code, printed) for code, printed in found if printed]

@@ -4,8 +4,10 @@
     checks/without_kit.py
 
 Each C file has to be of the sources of this tree, by the sum in its head. Then, with no `rt` on the path, each line that the pages give for a
-clone is run: C by cc and by CMake, Python by pip, SQLite and PostgreSQL by make.
+clone is run: C by cc and by CMake, Python by pip, Rust by cargo, JavaScript by npm, SQLite and PostgreSQL by make. README's examples have to print
+what README says; its query for PostgreSQL is checks/postgresql.py's.
 """
+import glob
 import os
 import re
 import shutil
@@ -16,10 +18,11 @@ import tempfile
 TOP = os.path.dirname(os.path.dirname(os.path.abspath(__file__)))
 sys.path.insert(0, f"{TOP}/tools")
 import packages  # noqa: E402
+from debian import REGISTRY, cargo_environment  # noqa: E402
 from packages import javascript, python, sqlite  # noqa: E402
 from packages.postgresql import find_config  # noqa: E402
 from portable_c.c_file import HEADERS  # noqa: E402
-from results import LANGUAGES, Results, read, run, succeeds  # noqa: E402
+from results import LANGUAGES, Results, read, readme_examples, run, succeeds, write  # noqa: E402
 
 SOURCES = f"{TOP}/amalgamation"
 COUNTS = (r"^(\d+) passed", r"(\d+) failed")
@@ -61,8 +64,23 @@ def compare_sums(results):
         results.count(read(f"{SOURCES}/{header}") == read(f"{LANGUAGES}/c/{header}"), f"amalgamation/{header} is not languages/c/{header}")
 
 
+def try_examples(results, language, printed):
+    """README's examples in a language print what README says, each by a function that runs it, or gives None if it cannot be run here."""
+    examples = readme_examples(language)
+    results.count(examples, f"README.md has no example in {language}")
+    for code, wanted in examples:
+        said = printed(code)
+        results.count(said is None or said.splitlines() == wanted, f"README.md's example in {language} prints {said!r}, and not {wanted}")
+
+
 def try_c(results, room, env):
-    """The tests of both headers, by cc and by CMake."""
+    """README's example, and the tests of both headers, by cc and by CMake."""
+    def printed(code):
+        write(f"{room}/main.c", code)
+        words = ["cc", "-O2", f"-I{SOURCES}", f"{room}/main.c", f"{SOURCES}/{packages.CALENDAR}.c", "-o", f"{room}/main"]
+        return None if succeeds(results, words, env=env) is None else succeeds(results, [f"{room}/main"], env=env)
+
+    try_examples(results, "c", printed)
     for name, test in {packages.CALENDAR: "test.c", packages.LAYERS: "test_layers.c"}.items():
         program, more = f"{room}/{name}", [f"{SOURCES}/{packages.CALENDAR}.c"] if name == packages.LAYERS else []
         words = ["cc", "-O2", f"-I{SOURCES}", f"{LANGUAGES}/c/{test}", f"{SOURCES}/{name}.c", *more, "-o", program]
@@ -87,8 +105,23 @@ def copied(room, name):
     return f"{room}/languages/{name}"
 
 
+def has_module(program, name, what):
+    """Whether a Python has a module that something needs, which is named if it cannot be run."""
+    is_there = subprocess.run([program, "-c", f"import {name}"], stderr=subprocess.DEVNULL).returncode == 0
+    if not is_there:
+        print(f"not run: {what}, since there is no {name}")
+    return is_there
+
+
+def printed_by_python(results, program, code, env):
+    """What an example prints, or None if it is of pandas, which is not there."""
+    if "import pandas" in code and not has_module(program, "pandas", "README's example of pandas"):
+        return None
+    return succeeds(results, [program, "-c", code], env=env)
+
+
 def try_python(results, room, env):
-    """`pip install` of the folder in a fresh environment, and its tests."""
+    """`pip install` of the folder in a fresh environment, README's examples and the package's tests."""
     try:
         program = python.python()
     except packages.Missing as it:
@@ -99,20 +132,42 @@ def try_python(results, room, env):
     words = [f"{place}/bin/pip", "install", "--quiet", "--no-build-isolation", folder]
     if succeeds(results, [program, "-m", "venv", "--system-site-packages", place], env=env) is None or succeeds(results, words, env=env) is None:
         return
-    for name in ("test_calls.py", "test_layers.py", "test_zoned.py"):
-        run(results, f"{name} over amalgamation/", [f"{place}/bin/python", f"{LANGUAGES}/python/tests/{name}", "-v"], (r"\.\.\. ok()$", r"\.\.\. (?:FAIL|ERROR)()$"), env=env)
+    # (a second time, over what the first one leaves in the folder)
+    succeeds(results, [*words, "--force-reinstall"], env=env)
+    program = f"{place}/bin/python"
+    try_examples(results, "python", lambda code: printed_by_python(results, program, code, env))
+    columns = ["test_columns.py"] if has_module(program, "numpy", "test_columns.py over amalgamation/") else []
+    for name in ("test_calls.py", "test_layers.py", "test_zoned.py", *columns):
+        run(results, f"{name} over amalgamation/", [program, f"{LANGUAGES}/python/tests/{name}", "-v"], (r"\.\.\. ok()$", r"\.\.\. (?:FAIL|ERROR)()$"), env=env)
+
+
+def try_rust(results, room, env):
+    """`cargo add` of the folder in a project, and README's example there."""
+    if not shutil.which("cargo") or not glob.glob(f"{REGISTRY}/cc-*"):
+        print("not run: Rust over amalgamation/, since there is no cargo or no librust-cc-dev")
+        return
+    folder, project = copied(f"{room}/rust", "rust"), f"{room}/rust/user"
+    how = dict(cwd=project, env={**cargo_environment(room), "PATH": env["PATH"]})
+
+    def printed(code):
+        write(f"{project}/src/main.rs", code)
+        return succeeds(results, ["cargo", "run", "--offline", "--quiet"], **how)
+
+    os.makedirs(project)
+    succeeds(results, ["cargo", "init", "--vcs", "none"], **how)
+    succeeds(results, ["cargo", "add", "--offline", "--path", folder], **how)
+    try_examples(results, "rust", printed)
 
 
 def try_javascript(results, room, env):
-    """`npm install` of the folder in a project, and a call there."""
+    """`npm install` of the folder in a project, and README's example there."""
     if not shutil.which("npm"):
         print("not run: JavaScript in a clone, since there is no npm")
         return
     os.makedirs(f"{room}/project")
     succeeds(results, ["npm", "install", "--offline", "--no-audit", "--no-fund", f"{LANGUAGES}/javascript"], cwd=f"{room}/project", env=env)
-    asked = "import { PlainDate } from 'proved-calendar'; console.log(new PlainDate(2024, 2, 29).add({ years: 1 }).toString())"
-    said = succeeds(results, ["node", "--input-type=module", "-e", asked], cwd=f"{room}/project", env=env)
-    results.count(said and said.strip() == "2025-02-28", f"JavaScript in a clone says {said!r}")
+    words = ["node", "--input-type=module", "-e"]
+    try_examples(results, "js", lambda code: succeeds(results, [*words, code], cwd=f"{room}/project", env=env))
 
 
 def try_databases(results, room, env):
@@ -123,6 +178,9 @@ def try_databases(results, room, env):
         asked = "import sqlite3; it = sqlite3.connect(':memory:'); it.enable_load_extension(True); it.load_extension('./proved_calendar'); print(it.execute(\"SELECT add_months('2024-02-29', 12)\").fetchone()[0])"
         said = succeeds(results, [python.python(), "-c", asked], cwd=f"{room}/sqlite/root/usr/local/lib", env=env)
         results.count(said and said.strip() == "2025-02-28", f"SQLite over amalgamation/ says {said!r}")
+        if shutil.which("sqlite3"):
+            words = ["sqlite3", "-bail", "-cmd", f".load {room}/sqlite/root/usr/local/lib/proved_calendar", ":memory:"]
+            try_examples(results, "sql", lambda code: succeeds(results, [*words, code], env=env))
     else:
         print("not run: SQLite over amalgamation/, since there is no sqlite3ext.h")
     config = find_config()
@@ -140,6 +198,7 @@ def main():
         compare_sums(results)
         try_c(results, room, env)
         try_python(results, room, env)
+        try_rust(results, room, env)
         try_javascript(results, room, env)
         try_databases(results, room, env)
     print(f"{results.passed} passed, {results.failed} failed")

@@ -13,8 +13,10 @@ from setuptools import Extension, setup
 PREFIX = os.environ.get("CALENDAR_PREFIX", os.curdir)
 LIBRARIES = [f"{PREFIX}/lib/libcalendar_layers.a", f"{PREFIX}/lib/libcalendar.a"]
 HAS_LIBRARIES = all(map(os.path.exists, LIBRARIES))
-# The folder of the two C files and of their headers.
-SOURCES = next((it for it in ("amalgamation", "../../amalgamation") if os.path.isdir(it)), "amalgamation")
+# The folder of the two C files and of their headers. (A build in a clone leaves a folder amalgamation/ here, with objects alone.)
+SOURCES = next((it for it in ("amalgamation", "../../amalgamation") if os.path.exists(f"{it}/calendar.c")), "amalgamation")
+# ctypes calls functions of the library, which are hidden in the C files if nothing says otherwise.
+EXPORTS = [] if HAS_LIBRARIES else ["-include", "src/exports.h"]
 WARNINGS = ["-Wall", "-Wextra", "-Wpedantic"]
 IS_LINUX = sys.platform == "linux"
 
@@ -23,10 +25,10 @@ setup(
         Extension(
             "proved_calendar._calendar",
             sources=sorted(glob.glob("src/*.c")) + ([] if HAS_LIBRARIES else [f"{SOURCES}/calendar.c", f"{SOURCES}/calendar_layers.c"]),
-            depends=["src/package.h"],
+            depends=["src/package.h", "src/exports.h"],
             include_dirs=[f"{PREFIX}/include" if HAS_LIBRARIES else SOURCES],
             extra_objects=LIBRARIES if HAS_LIBRARIES else [],
-            extra_compile_args=["-std=c99", "-O2", "-g0", "-fvisibility=hidden", *(["-fno-plt"] if IS_LINUX else []), *WARNINGS],
+            extra_compile_args=["-std=c99", "-O2", "-g0", "-fvisibility=hidden", *EXPORTS, *(["-fno-plt"] if IS_LINUX else []), *WARNINGS],
             extra_link_args=["-s"] if IS_LINUX else [],
             # (an older Python has no symbols of a later one: one build serves all from 3.10 on)
             py_limited_api=True,
