@@ -19,6 +19,9 @@
 //!
 //! Each function panics if its slices have different lengths, as `copy_from_slice` does.
 
+pub use crate::bounded_columns::{
+    add_open_days_within, is_open_day_within, open_days_between_within, roll_within,
+};
 use crate::calls::*;
 use crate::layer_calls::*;
 use crate::{BusinessCalendar, Date, Roll, WeekdaySet};
