@@ -87,7 +87,7 @@ VALUES = {
 }
 TEXTS = {
     "next_due": ["'@daily'"], "due_between": ["'@daily'"], "rule_dates": ["'FREQ=DAILY'"], "roll": ["'following'", "'plain'"],
-    "given_holidays": ["'target'"], "add_open_days": ["'plain'"], "open_days": ["'plain'"], "year_fraction": ["'30/360'"],
+    "given_holidays": ["'target'"], "given_first_year": ["'target'"], "add_open_days": ["'plain'"], "open_days": ["'plain'"], "year_fraction": ["'30/360'"],
 }
 BEYOND = {
     "date": ("'infinity'", "'-infinity'", "'262143-01-01'", "'5874897-12-31'"),

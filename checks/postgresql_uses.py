@@ -57,12 +57,15 @@ def try_restart(results, server):
 
 def try_dump(results, server):
     """A dump has the rows of the user's calendars, and makes another database of the same answers."""
+    server.ask("SELECT fill_calendar('target', 2024, 2026)")
     ran = subprocess.run(["pg_dump", *server.words(), "-t", "business_*", "-e", "proved_calendar"], capture_output=True, text=True)
     results.count(ran.returncode == 0 and "COPY public.business_holidays" in ran.stdout, f"pg_dump: {ran.stderr}{ran.stdout[:500]}")
     server.ask("CREATE DATABASE restored", "-d", "postgres")
     said = server.ask(ran.stdout, "-d", "restored", "-v", "ON_ERROR_STOP=1")
     query = "SELECT add_open_days(date '2024-12-24', 1, 'office'), (SELECT count(*) FROM business_holidays)"
     results.count(server.ask(query, "-d", "restored") == server.ask(query), f"a dump restores something else: {said}")
+    told = server.ask("SELECT add_open_days(date '2026-12-30', 2, 'target')", "-d", "restored")
+    results.count("known from 2024 to 2026 alone" in told, f"a dump loses the years of a calendar: {told}")
     told = server.ask("CREATE SCHEMA other; DROP EXTENSION proved_calendar; CREATE EXTENSION proved_calendar SCHEMA other; "
                       "INSERT INTO other.business_calendars VALUES ('home', '{7}'); SELECT other.add_open_days(date '2024-12-24', 5, 'home'); "
                       "ALTER SCHEMA other RENAME TO third; SELECT third.add_open_days(date '2024-12-24', 5, 'home')", "-d", "restored")

@@ -40,11 +40,14 @@ AS 'MODULE_PATHNAME', 'proved_due_between_of_timestamptz' LANGUAGE C STABLE STRI
 CREATE FUNCTION rule_dates(rule text, start date, until date) RETURNS SETOF date
 AS 'MODULE_PATHNAME', 'proved_rule_dates' LANGUAGE C IMMUTABLE STRICT PARALLEL SAFE ROWS 100;
 
--- Calendars, which users fill. Weekdays count from 1 for Monday to 7.
+-- Calendars, which users fill. Weekdays count from 1 for Monday to 7. The years are those of which the holidays are known, and NULL for all.
 
 CREATE TABLE business_calendars (
     name text PRIMARY KEY CHECK (octet_length(name) <= 63),
-    weekend integer[] NOT NULL DEFAULT '{6,7}' CHECK (weekend <@ '{1,2,3,4,5,6,7}')
+    weekend integer[] NOT NULL DEFAULT '{6,7}' CHECK (weekend <@ '{1,2,3,4,5,6,7}'),
+    first_year integer,
+    last_year integer,
+    CHECK (first_year <= last_year)
 );
 
 CREATE TABLE business_holidays (
@@ -61,13 +64,26 @@ GRANT SELECT ON business_calendars, business_holidays TO PUBLIC;
 CREATE FUNCTION given_holidays(calendar text, first_year integer, last_year integer) RETURNS SETOF date
 AS 'MODULE_PATHNAME', 'proved_given_holidays' LANGUAGE C IMMUTABLE STRICT PARALLEL SAFE ROWS 100;
 
--- It is bound to the tables, in whatever schema they are.
+CREATE FUNCTION given_first_year(calendar text, first_year integer, last_year integer) RETURNS integer
+AS 'MODULE_PATHNAME', 'proved_given_first_year' LANGUAGE C IMMUTABLE STRICT PARALLEL SAFE;
+
+-- It is bound to the tables, in whatever schema they are. The first statement locks the row of the calendar, so that the second one sees the years
+-- that it has. Years between these and the new ones are filled too.
 CREATE FUNCTION fill_calendar(name text, first_year integer, last_year integer) RETURNS bigint LANGUAGE sql STRICT
 BEGIN ATOMIC
-    INSERT INTO business_calendars (name) VALUES (fill_calendar.name) ON CONFLICT DO NOTHING;
-    WITH added AS (
+    INSERT INTO business_calendars AS c (name) VALUES (fill_calendar.name) ON CONFLICT (name) DO UPDATE SET weekend = c.weekend;
+    WITH asked AS (
+        SELECT given_first_year(fill_calendar.name, fill_calendar.first_year, fill_calendar.last_year) AS first
+    ), filled AS (
+        SELECT least(asked.first, c.last_year + 1) AS first, greatest(fill_calendar.last_year, c.first_year - 1) AS last
+        FROM business_calendars c, asked WHERE c.name = fill_calendar.name
+    ), widened AS (
+        UPDATE business_calendars c
+        SET first_year = least(asked.first, c.first_year), last_year = greatest(fill_calendar.last_year, c.last_year)
+        FROM asked WHERE c.name = fill_calendar.name
+    ), added AS (
         INSERT INTO business_holidays (calendar, day)
-        SELECT fill_calendar.name, day FROM given_holidays(fill_calendar.name, first_year, last_year) day
+        SELECT fill_calendar.name, day FROM filled, given_holidays(fill_calendar.name, filled.first, filled.last) day
         ON CONFLICT DO NOTHING RETURNING 1
     )
     SELECT count(*) FROM added;

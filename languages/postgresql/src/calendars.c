@@ -151,7 +151,7 @@ static void make_plan(Oid schema)
         return;
     }
     const char *quoted = quote_identifier(name);
-    SPIPlanPtr made = SPI_prepare(psprintf("SELECT c.weekend, h.day FROM %s.business_calendars c"
+    SPIPlanPtr made = SPI_prepare(psprintf("SELECT c.weekend, h.day, c.first_year, c.last_year FROM %s.business_calendars c"
                                            " LEFT JOIN %s.business_holidays h ON h.calendar OPERATOR(pg_catalog.=) c.name"
                                            " WHERE c.name OPERATOR(pg_catalog.=) $1", quoted, quoted), 1, kinds);
     if (!made || SPI_keepplan(made) != 0) {
@@ -164,6 +164,14 @@ static void make_plan(Oid schema)
     strlcpy(planned_schema, name, sizeof planned_schema);
 }
 
+/* The year in a column of the first row, or another one if there is none. */
+static int32_t year_in(int column, int32_t other)
+{
+    bool is_null;
+    Datum year = SPI_getbinval(SPI_tuptable->vals[0], SPI_tuptable->tupdesc, column, &is_null);
+    return is_null ? other : DatumGetInt32(year);
+}
+
 /* Takes the rows of a query as a calendar. */
 static void take_rows(OpenDays *calendar)
 {
@@ -171,6 +179,8 @@ static void take_rows(OpenDays *calendar)
     TupleDesc shape = SPI_tuptable->tupdesc;
     Datum weekend = SPI_getbinval(SPI_tuptable->vals[0], shape, 1, &is_null);
     calendar->weekend = weekend_of(DatumGetArrayTypeP(weekend));
+    calendar->first_year = year_in(3, FIRST_OF_ALL);
+    calendar->last_year = year_in(4, LAST_OF_ALL);
     calendar->holidays = MemoryContextAlloc(memory, SPI_processed * sizeof(int32_t));
     calendar->count = 0;
     for (uint64 i = 0; i < SPI_processed; i++) {
@@ -272,8 +282,7 @@ const OpenDays *calendar_listed(FunctionCallInfo fcinfo, int place)
         return &kept->calendar;
     }
     MemoryContext stays = fcinfo->flinfo->fn_mcxt;
-    OpenDays calendar;
-    calendar.weekend = weekend_of(arrays[1]);
+    OpenDays calendar = {.weekend = weekend_of(arrays[1]), .first_year = FIRST_OF_ALL, .last_year = LAST_OF_ALL};
     take_days(&calendar, arrays[0], stays);
     if (kept) {
         pfree(kept->calendar.holidays);

@@ -52,9 +52,14 @@ bool next_instant(const calendar_schedule *schedule, TimestampTz after, Timestam
 
 /* ---- calendars.c: weekends and holidays */
 
-/* A weekend, and holidays that rise strictly, none of them on the weekend. */
+/* The years of a calendar whose holidays are all known. */
+#define FIRST_OF_ALL INT32_MIN
+#define LAST_OF_ALL INT32_MAX
+
+/* A weekend, the years of which holidays are known, and holidays that rise strictly, none of them on the weekend. */
 typedef struct {
     uint8_t weekend;
+    int32_t first_year, last_year;
     size_t count;
     int32_t *holidays;
 } OpenDays;

@@ -5,6 +5,7 @@
 #include "miscadmin.h"
 
 PG_FUNCTION_INFO_V1(proved_given_holidays);
+PG_FUNCTION_INFO_V1(proved_given_first_year);
 
 /* The calendars in the order of calendar_layers.h. */
 static const char *const GIVEN[] = {"us_federal", "target", "england_and_wales", "fedwire", "nyse", "germany", "france", "japan", NULL};
@@ -67,4 +68,16 @@ Datum proved_given_holidays(PG_FUNCTION_ARGS)
         SRF_RETURN_DONE(rows);
     }
     SRF_RETURN_NEXT(rows, DateADTGetDatum(date_of(years->days[years->at++])));
+}
+
+Datum proved_given_first_year(PG_FUNCTION_ARGS)
+{
+    uint32_t which = number_of_word("calendar", PG_GETARG_TEXT_PP(0), GIVEN);
+    int32 first_year = PG_GETARG_INT32(1), last_year = PG_GETARG_INT32(2), begin = calendar_holidays_first_year(which);
+    if (Max(first_year, begin) > last_year) {
+        ereport(ERROR, (errcode(ERRCODE_DATETIME_VALUE_OUT_OF_RANGE),
+                        errmsg("there is no year from %d to %d of which the holidays of %s are known", first_year, last_year, GIVEN[which]),
+                        errdetail("They are known from %d on.", begin)));
+    }
+    PG_RETURN_INT32(Max(first_year, begin));
 }

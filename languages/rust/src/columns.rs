@@ -15,10 +15,16 @@
 //! assert_eq!(moved[1], columns::NO_DATE);
 //! ```
 //!
+//! Functions such as [`add_open_days_within`] take a [`BoundedCalendar`](crate::BoundedCalendar). They return its error if the answer for one
+//! of the dates looks at a year of which the holidays are not known.
+//!
 //! # Panics
 //!
 //! Each function panics if its slices have different lengths, as `copy_from_slice` does.
 
+pub use crate::bounded_columns::{
+    add_open_days_within, is_open_day_within, open_days_between_within, roll_within,
+};
 use crate::calls::*;
 use crate::layer_calls::*;
 use crate::{BusinessCalendar, Date, Roll, WeekdaySet};

@@ -8,6 +8,7 @@ extern crate alloc;
 extern crate std;
 
 mod bounded_calendar;
+mod bounded_columns;
 mod business;
 #[cfg(feature = "alloc")]
 mod calendar_text;

@@ -4,7 +4,7 @@
 use proved_calendar::{
     columns, BoundedCalendar, BusinessCalendar, CalendarText, Date, DateTime, DayCount, Dialect,
     KnownCalendar, LocalOffsets, Pattern, Roll, Rule, RuleSet, Schedule, TimedSchedule, Weekday,
-    WeekdaySet, Zone,
+    WeekdaySet, YearsError, Zone,
 };
 use std::time::{Duration, Instant};
 use Weekday::{Fri, Sat, Sun};
@@ -816,6 +816,157 @@ fn column_roll() {
     columns::roll(&calendar, &column(), Roll::ModifiedFollowing, &mut rolled);
     let [before, after] = [date("2024-03-28").number(), date("2024-04-02").number()];
     assert_eq!(rolled, [before, before, before, after, columns::NO_DATE]);
+}
+
+/// The holidays of TARGET from 2024 to 2026, and the days from a week before these years to a week after them. Some are no date.
+fn known_years(out: &mut [Date]) -> (BoundedCalendar<'_>, Vec<i32>) {
+    let known = KnownCalendar::Target.within(2024..=2026, weekend(), out);
+    let (first, last) = (date("2023-12-25").number(), date("2027-01-07").number());
+    let no_dates = [columns::NO_DATE, i32::MAX, i32::MIN + 1];
+    (
+        known.unwrap(),
+        no_dates.into_iter().chain(first..=last).collect(),
+    )
+}
+
+/// Whether a column of one date, or of no date, gives what the single call does, or its error.
+fn is_answer<T: PartialEq>(
+    column: Result<(), YearsError>,
+    told: T,
+    single: Option<Result<T, YearsError>>,
+    none: T,
+) -> bool {
+    match single {
+        Some(Ok(it)) => column.is_ok() && told == it,
+        Some(Err(it)) => column == Err(it),
+        None => column.is_ok() && told == none,
+    }
+}
+
+#[test]
+fn column_is_open_day_of_known_years() {
+    let mut out = [Date::MIN; 30];
+    let (target, days) = known_years(&mut out);
+    for day in &days {
+        let mut marks = [true];
+        let told = columns::is_open_day_within(&target, &[*day], &mut marks);
+        let single = Date::from_number(*day).map(|it| target.is_open(it));
+        assert!(is_answer(told, marks[0], single, false), "{day}");
+    }
+    let (inside, mut marks) = (&days[10..days.len() - 7], [false; 1096]);
+    assert_eq!(
+        columns::is_open_day_within(&target, inside, &mut marks),
+        Ok(())
+    );
+    assert_eq!(marks.iter().filter(|it| **it).count(), 767);
+}
+
+#[test]
+fn column_add_open_days_of_known_years() {
+    let mut out = [Date::MIN; 30];
+    let (target, days) = known_years(&mut out);
+    for n in [-30, -2, -1, 0, 1, 2, 5, 700, 767, i64::MAX, i64::MIN] {
+        for day in &days {
+            let mut moved = [0];
+            let told = columns::add_open_days_within(&target, &[*day], n, &mut moved);
+            let single =
+                Date::from_number(*day).map(|it| target.add_open_days(it, n).map(Date::number));
+            assert!(
+                is_answer(told, moved[0], single, columns::NO_DATE),
+                "{day} {n}"
+            );
+        }
+    }
+}
+
+#[test]
+fn column_open_days_between_of_known_years() {
+    let mut out = [Date::MIN; 30];
+    let (target, days) = known_years(&mut out);
+    let [before, first, middle, end] =
+        ["2023-12-31", "2024-01-01", "2025-05-01", "2027-01-01"].map(|it| date(it).number());
+    for other in [
+        before,
+        first,
+        middle,
+        end,
+        end + 1,
+        columns::NO_DATE,
+        i32::MAX,
+    ] {
+        for day in &days {
+            let mut counts = [0];
+            let told = columns::open_days_between_within(&target, &[*day], &[other], &mut counts);
+            let both = Date::from_number(*day).zip(Date::from_number(other));
+            let single = both.map(|(from, to)| target.open_days(from, to));
+            assert!(
+                is_answer(told, counts[0], single, i64::MIN),
+                "{day} {other}"
+            );
+        }
+    }
+}
+
+#[test]
+fn column_roll_of_known_years() {
+    let mut out = [Date::MIN; 30];
+    let (target, days) = known_years(&mut out);
+    for roll in [
+        Roll::Unadjusted,
+        Roll::Following,
+        Roll::Preceding,
+        Roll::ModifiedFollowing,
+        Roll::ModifiedPreceding,
+        Roll::NearestIsda,
+        Roll::NearestQuantLib,
+    ] {
+        for day in &days {
+            let mut rolled = [0];
+            let told = columns::roll_within(&target, &[*day], roll, &mut rolled);
+            let single = Date::from_number(*day).map(|it| target.roll(it, roll).map(Date::number));
+            assert!(
+                is_answer(told, rolled[0], single, columns::NO_DATE),
+                "{day} {roll:?}"
+            );
+        }
+    }
+}
+
+#[test]
+fn one_of_a_million_in_another_year() {
+    let mut out = [Date::MIN; 30];
+    let (target, _) = known_years(&mut out);
+    let middle = date("2025-06-02").number();
+    let (mut dates, ends) = (vec![middle; 1_000_000], vec![middle; 1_000_000]);
+    let (mut marks, mut days, mut counts) =
+        (vec![true; 1_000_000], ends.clone(), vec![0; 1_000_000]);
+    for (place, wrong) in [
+        (0, "2023-12-31"),
+        (500_000, "2027-01-02"),
+        (999_999, "2027-01-02"),
+    ] {
+        for is_wrong in [true, false] {
+            dates[place] = if is_wrong {
+                date(wrong).number()
+            } else {
+                columns::NO_DATE
+            };
+            let told = [
+                columns::is_open_day_within(&target, dates.as_slice(), &mut marks),
+                columns::add_open_days_within(&target, dates.as_slice(), 1, &mut days),
+                columns::open_days_between_within(
+                    &target,
+                    dates.as_slice(),
+                    ends.as_slice(),
+                    &mut counts,
+                ),
+                columns::roll_within(&target, dates.as_slice(), Roll::Preceding, &mut days),
+            ];
+            let single = target.is_open(date(wrong)).map(|_| ());
+            assert_eq!(told, [if is_wrong { single } else { Ok(()) }; 4], "{place}");
+        }
+        dates[place] = middle;
+    }
 }
 
 #[test]

@@ -119,6 +119,11 @@ static char *refusal(const char *function, Text text, const char *what, Fault fa
     return message;
 }
 
+char *refusal_at(const char *function, Text text, const char *what, size_t byte, const char *words)
+{
+    return refusal(function, text, what, fault_at(words, 0, byte));
+}
+
 char *refusal_of_part(const char *function, Text text, const char *what, size_t from, size_t end)
 {
     Text part = {text.bytes + from, end - from};
@@ -203,20 +208,27 @@ bool read_schedule(const char *function, sqlite3_value *value, calendar_schedule
     return is_read;
 }
 
+bool is_word(Text text, const char *const *words, uint32_t *number)
+{
+    for (*number = 0; words[*number]; ++*number) {
+        if (strlen(words[*number]) == text.length && sqlite3_strnicmp(words[*number], text.bytes, (int)text.length) == 0) {
+            return true;
+        }
+    }
+    return false;
+}
+
 bool read_word(const char *function, sqlite3_value *value, const char *what, const char *const *words, uint32_t *number, char **message)
 {
     Text text;
     if (!read_text(function, value, what, &text, message)) {
         return false;
     }
-    for (*number = 0; words[*number]; ++*number) {
-        /* (a byte of zero ends the comparison, and the length tells such texts apart) */
-        if (sqlite3_stricmp(words[*number], text.bytes) == 0 && words[*number][text.length] == 0) {
-            return true;
-        }
+    bool is_read = is_word(text, words, number);
+    if (!is_read) {
+        *message = sqlite3_mprintf("%s: %!." MOST_NAMED "Q is no %s, such as %s", function, text.bytes, what, words[1]);
     }
-    *message = sqlite3_mprintf("%s: %!.80Q is no %s, such as %s", function, text.bytes, what, words[1]);
-    return false;
+    return is_read;
 }
 
 bool read_number(const char *function, sqlite3_value *value, sqlite3_int64 *number, char **message)

@@ -28,6 +28,9 @@ bool read_text(const char *function, sqlite3_value *value, const char *what, Tex
 /* The day that a text writes, or CALENDAR_NONE. */
 int32_t day_of(Text text);
 
+/* The message that a text is not what it should be, and why, in words with no percent sign. */
+char *refusal_at(const char *function, Text text, const char *what, size_t byte, const char *words);
+
 /* The message that a text is not what it should be, since one part of it is no date. */
 char *refusal_of_part(const char *function, Text text, const char *what, size_t from, size_t end);
 
@@ -40,7 +43,10 @@ bool read_moment(const char *function, sqlite3_value *value, calendar_date_time 
 /* Reads a schedule as cron writes it. */
 bool read_schedule(const char *function, sqlite3_value *value, calendar_schedule *schedule, char **message);
 
-/* Reads a word of a list that ends with null, in any case, as its number. */
+/* Whether a text is a word of a list that ends with null, in any case, and the number of the word. */
+bool is_word(Text text, const char *const *words, uint32_t *number);
+
+/* Reads a word of such a list as its number. */
 bool read_word(const char *function, sqlite3_value *value, const char *what, const char *const *words, uint32_t *number, char **message);
 
 /* Reads a whole number. */
@@ -54,15 +60,23 @@ bool is_day(sqlite3_value *value);
 /* Saturday and Sunday. */
 #define PLAIN_WEEKEND 96
 
-/* A weekend, and holidays that rise strictly, none of them on the weekend. */
+/* The names of the known calendars in the order of calendar_layers.h, with null at the end. */
+extern const char *const KNOWN_CALENDARS[];
+
+/* The years of a calendar whose holidays are all known. */
+#define FIRST_OF_ALL INT32_MIN
+#define LAST_OF_ALL INT32_MAX
+
+/* A weekend, the years of which holidays are known, and holidays that rise strictly, none of them on the weekend. */
 typedef struct {
     uint8_t weekend;
+    int32_t first_year, last_year;
     size_t count;
     int32_t holidays[];
 } OpenDays;
 
-/* Reads the dates of a text as holidays, and the digits of another as weekdays; Saturday and Sunday if there is no other. The answer is
- * memory of SQLite, or null. */
+/* Reads a text as holidays, which are dates and those of known calendars, and the digits of another as weekdays; Saturday and Sunday if there
+ * is no other. The answer is memory of SQLite, or null. */
 OpenDays *read_calendar(const char *function, sqlite3_value *holidays, sqlite3_value *weekend, char **message);
 
 /* ---- answers.c: answers that are written */

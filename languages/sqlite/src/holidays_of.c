@@ -3,9 +3,6 @@
 
 SQLITE_EXTENSION_INIT3
 
-/* The calendars in the order of calendar_layers.h. */
-static const char *const GIVEN[] = {"us_federal", "target", "england_and_wales", "fedwire", "nyse", "germany", "france", "japan", NULL};
-
 /* Goes to the next holiday that lies in its year, or to the next year's. */
 static void find_next(Cursor *cursor)
 {
@@ -29,7 +26,7 @@ static void find_next(Cursor *cursor)
 
 static bool start_holidays(Cursor *cursor, char **message)
 {
-    if (!read_word("holidays_of", cursor->given[0], "calendar", GIVEN, &cursor->which, message)
+    if (!read_word("holidays_of", cursor->given[0], "calendar", KNOWN_CALENDARS, &cursor->which, message)
         || !read_number("holidays_of", cursor->given[1], &cursor->year, message)
         || !read_number("holidays_of", cursor->given[2], &cursor->last_year, message)) {
         return false;

@@ -6,6 +6,18 @@ SQLITE_EXTENSION_INIT3
 /* The argument in which holidays stand, behind which the weekend may stand. */
 enum { HOLIDAYS = 2 };
 
+static bool has_years(const OpenDays *calendar)
+{
+    return calendar->first_year != FIRST_OF_ALL;
+}
+
+/* Fails since an answer looks at a year of which the holidays are not known. */
+static void refuse_years(sqlite3_context *context, const OpenDays *calendar)
+{
+    answer_refusal(context, sqlite3_mprintf("%s: the holidays are known from %d to %d alone, and another year is looked at", name_of(context),
+                                            calendar->first_year, calendar->last_year));
+}
+
 /* Takes the calendar of a call, or fails. SQLite keeps it from row to row while the holidays are constant and no weekend is given. If
  * it is a new one, `made` is it, and not null. */
 static const OpenDays *take_calendar(sqlite3_context *context, int count, sqlite3_value **values, OpenDays **made)
@@ -21,6 +33,34 @@ static const OpenDays *take_calendar(sqlite3_context *context, int count, sqlite
         answer_refusal(context, message);
     }
     return *made;
+}
+
+/* Answers an open day of a calendar, or fails. */
+static void answer_open_day(sqlite3_context *context, const OpenDays *calendar, int32_t day)
+{
+    if (day == CALENDAR_NONE && has_years(calendar)) {
+        refuse_years(context, calendar);
+    } else {
+        answer_day(context, day);
+    }
+}
+
+/* Answers a number of open days of a calendar, or fails. */
+static void answer_count(sqlite3_context *context, const OpenDays *calendar, int64_t count)
+{
+    if (count == INT64_MIN) {
+        refuse_years(context, calendar);
+    } else {
+        sqlite3_result_int64(context, count);
+    }
+}
+
+/* The day that a day goes to by a roll. The nearest one of all is asked for without years, since these end with the calendar. */
+static int32_t rolled(const OpenDays *calendar, int32_t day, uint32_t roll)
+{
+    return has_years(calendar) ? calendar_roll_within(calendar->weekend, calendar->holidays, calendar->count, calendar->first_year,
+                                                      calendar->last_year, day, roll)
+                               : calendar_roll(calendar->weekend, calendar->holidays, calendar->count, day, roll);
 }
 
 /* Gives a new calendar to SQLite, which keeps it or frees it, or frees it. It is the last that a call does. */
@@ -46,7 +86,8 @@ static void add_open_days(sqlite3_context *context, int count, sqlite3_value **v
     }
     const OpenDays *calendar = take_calendar(context, count, values, &made);
     if (calendar) {
-        answer_day(context, calendar_add_open_days(calendar->weekend, calendar->holidays, calendar->count, day, number));
+        answer_open_day(context, calendar, calendar_add_open_days_within(calendar->weekend, calendar->holidays, calendar->count, calendar->first_year,
+                                                                         calendar->last_year, day, number));
     }
     leave_calendar(context, count, made);
 }
@@ -63,7 +104,8 @@ static void open_days(sqlite3_context *context, int count, sqlite3_value **value
     }
     const OpenDays *calendar = take_calendar(context, count, values, &made);
     if (calendar) {
-        sqlite3_result_int64(context, calendar_open_days_between(calendar->weekend, calendar->holidays, calendar->count, from, until));
+        answer_count(context, calendar, calendar_open_days_between_within(calendar->weekend, calendar->holidays, calendar->count,
+                                                                          calendar->first_year, calendar->last_year, from, until));
     }
     leave_calendar(context, count, made);
 }
@@ -89,7 +131,7 @@ static void roll(sqlite3_context *context, int count, sqlite3_value **values)
     }
     const OpenDays *calendar = take_calendar(context, count, values, &made);
     if (calendar) {
-        answer_day(context, calendar_roll(calendar->weekend, calendar->holidays, calendar->count, day, number));
+        answer_open_day(context, calendar, rolled(calendar, day, number));
     }
     leave_calendar(context, count, made);
 }

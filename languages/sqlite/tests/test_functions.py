@@ -13,6 +13,9 @@ import sys
 FOUR_YEARS = ",".join(
     str(it) for it in (datetime.date(2024, 3, 28) + datetime.timedelta(number) for number in range(1400)) if it.isoweekday() < 6
 )[:10_999]
+# How errors end: an answer looks at another year, or years are wrong.
+KNOWN = "the holidays are known from 2024 to 2026 alone, and another year is looked at"
+ONCE = "years are wanted once, as in 2024..2026"
 ANSWERS = {
     "is_date('2024-02-29')": 1, "is_date('2023-02-29')": 0, "is_date('')": 0, "is_date(20240229)": 0, "is_date(x'32')": 0,
     "is_date('2024-02-29 12:00:00')": 0, "is_date('2024-02-29' || char(0))": 0, "is_date(1.5)": 0,
@@ -41,6 +44,14 @@ ANSWERS = {
     "roll('2024-03-31', 'unadjusted', '')": "2024-03-31", "roll('2024-04-02', 'nearest-isda', '2024-04-02')": "2024-04-01",
     "roll('2024-04-02', 'nearest-quantlib', '2024-04-02')": "2024-04-03", "roll('2024-03-31', 'following', '', '17')": "2024-04-02",
     f"add_open_days('2024-03-28', 1, '{FOUR_YEARS}')": "2028-01-27",
+    # the years of which holidays are known
+    "add_open_days('2026-12-30', 1, 'target 2024..2026')": "2026-12-31", "add_open_days('2024-03-28', 2, '2024..2026,TARGET 2024-04-02')": "2024-04-04",
+    "add_open_days('1999-12-30', -1, 'target 1990..1999')": "1999-12-29", "open_days('2026-01-01', '2027-01-01', 'target 2024..2026')": 256,
+    "open_days('2027-01-01', '2026-01-01', 'target 2024..2026')": -256, "open_days('2024-01-01', '2025-01-01', 'us_federal target 2024..2024')": 247,
+    "open_days('2021-01-01', '2022-01-01', 'us_federal 2021..2021')": 249, "open_days('2021-01-01', '2022-01-01', 'us_federal 2021..2021', '7')": 301,
+    "open_days('-0001-01-01', '2023-01-01', '-0001..+12030')": 528036, "open_days('+262142-01-01', '+262142-12-31', 'japan +262142..+262142')": 247,
+    "roll('2022-12-31', 'preceding', '2022..2022')": "2022-12-30", "roll('2022-12-31', 'following', '2022..2023')": "2023-01-02",
+    "roll('+262142-12-31', 'nearest-quantlib', '+262142-12-31')": "+262142-12-28",
     "year_fraction('30/360', '2024-01-31', '2024-03-31')": 60 / 360, "year_fraction('30E/360', '2024-02-29', '2024-03-31')": 31 / 360,
     "year_fraction('Actual/Actual', '2023-07-01', '2024-07-01')": (184 * 366 + 182 * 365) / (365 * 366),
     "year_fraction('actual/360', '2024-12-31', '2024-01-01')": -365 / 360, "year_fraction('actual/365', '2024-01-01', '2024-12-31')": 1.0,
@@ -94,11 +105,31 @@ REFUSALS = {
     "add_open_days('2024-03-32', 1, '')": "add_open_days: '2024-03-32' is no date: byte 8: the month has 31 days",
     "add_open_days('2024-03-28', '1', '')": "add_open_days: a whole number is wanted, and not '1'",
     f"add_open_days('2024-03-28', 1, '{FOUR_YEARS} 2028-01-27')": "add_open_days: a calendar has at most 1000 holidays",
+    "add_open_days('2026-12-30', 2, 'target 2024..2026')": f"add_open_days: {KNOWN}", "add_open_days('2027-01-01', -1, 'target 2024..2026')": f"add_open_days: {KNOWN}",
+    "add_open_days('2024-01-01', -1, '2024..2026')": f"add_open_days: {KNOWN}", "add_open_days('2024-12-31', 1, '2024..2026', '1234567')": f"add_open_days: {KNOWN}",
+    "add_open_days('1999-01-01', -1, 'target 1990..1999')": "add_open_days: the holidays are known from 1999 to 1999 alone, and another year is looked at",
+    "add_open_days('2006-12-29', -1, 'target japan 2000..2026')": "add_open_days: the holidays are known from 2007 to 2026 alone, and another year is looked at",
+    "open_days('2026-01-01', '2027-01-02', 'target 2024..2026')": f"open_days: {KNOWN}", "open_days('2023-12-31', '2024-01-01', '2024..2026')": f"open_days: {KNOWN}",
+    "roll('2022-12-31', 'following', '2022..2022')": "roll: the holidays are known from 2022 to 2022 alone, and another year is looked at",
+    "roll('2022-12-31', 'nearest-quantlib', '2022..2022')": "roll: the holidays are known from 2022 to 2022 alone, and another year is looked at",
+    "open_days('2021-01-01', '2022-01-01', 'us_federal')": "open_days: the years of us_federal are wanted too, as in 'us_federal 2024..2026'",
+    "open_days('2021-01-01', '2022-01-01', 'target 1990..1998')": "open_days: the holidays of target are known from 1999 on",
+    "open_days('2021-01-01', '2022-01-01', 'us_federal 1971..2171')": "open_days: a calendar has at most 1000 holidays",
+    "open_days('2021-01-01', '2022-01-01', 'us_federal japan 2000..2050')": "open_days: a calendar has at most 1000 holidays",
+    "open_days('2021-01-01', '2022-01-01', 'target' || char(0) || ' 2021..2021')": "open_days: 'target' is no list of dates: byte 0: not of this form",
+    "open_days('2021-01-01', '2022-01-01', 'target 2020..2020 2021..2021')": f"open_days: 'target 2020..2020 2021..2021' is no list of dates: byte 18: {ONCE}",
+    "open_days('2021-01-01', '2022-01-01', 'target 2022..2021')": f"open_days: 'target 2022..2021' is no list of dates: byte 7: {ONCE}",
+    "open_days('2021-01-01', '2022-01-01', 'target 202..2021')": f"open_days: 'target 202..2021' is no list of dates: byte 7: {ONCE}",
+    "open_days('2021-01-01', '2022-01-01', 'target ..2021')": f"open_days: 'target ..2021' is no list of dates: byte 7: {ONCE}",
+    "open_days('2021-01-01', '2022-01-01', 'target 2021...2022')": f"open_days: 'target 2021...2022' is no list of dates: byte 7: {ONCE}",
+    "open_days('2021-01-01', '2022-01-01', 'target 2021..20220101')": f"open_days: 'target 2021..20220101' is no list of dates: byte 7: {ONCE}",
+    "open_days('2021-01-01', '2022-01-01', 'target 2021..+262143')": f"open_days: 'target 2021..+262143' is no list of dates: byte 7: {ONCE}",
     "open_days('x', '2024-03-28', '')": "open_days: 'x' is no date: byte 0: not of this form",
     "open_days('2024-03-28', '2024-03', '')": "open_days: '2024-03' is no date: byte 7: not of this form",
     "open_days('2024-03-28', '2024-03-28', 'x')": "open_days: 'x' is no list of dates: byte 0: not of this form",
     "roll('2024-03-31', 'up', '')": "roll: 'up' is no roll, such as following", "roll('2024-03-31', '', '')": "roll: '' is no roll, such as following",
     "roll('2024-03-31', 'following' || char(0), '')": "roll: 'following' is no roll, such as following",
+    "roll('2024-03-31', 'following' || char(0) || printf('%.1000000c', 'x'), '')": "roll: 'following' is no roll, such as following",
     "roll('2024-03-31', 'followin', '')": "roll: 'followin' is no roll, such as following", "roll('2024-03-31', 1, '')": "roll: a roll is a text, and not a number",
     "roll('2024-03', 'following', '')": "roll: '2024-03' is no date: byte 7: not of this form",
     "roll('2024-03-31', 'following', '', '1234567')": "roll: the answer is not from -262143-01-01 to +262142-12-31",
@@ -293,6 +324,12 @@ def test_uses(db, old):
     equal(db, "SELECT add_open_days(day, 1, '2024-03-29') FROM closed", ["2024-04-01", "2024-04-01", "2024-04-01"])
     equal(db, "SELECT roll(day, 'following', '2024-03-28', substr('674', 1, 2 + length(list) / 20)) FROM closed", ["2024-03-29"] * 3)
     equal(db, "SELECT open_days(day, '2024-04-08', (SELECT group_concat(list) FROM closed)) FROM closed", [5, 5, 5])
+    # (rows that holidays_of gives, with their years in front)
+    db.execute("CREATE TABLE target AS SELECT day FROM holidays_of('target', 2024, 2026)")
+    years = "(SELECT '2024..2026 ' || group_concat(day) FROM target)"
+    equal(db, f"SELECT add_open_days(day, 2, {years}) FROM closed", ["2024-04-03"] * 3)
+    equal(db, f"SELECT add_open_days('2026-12-30', 2, {years})", f"add_open_days: {KNOWN}")
+    equal(db, "SELECT add_open_days('2026-12-30', 1 + (rowid = 3), 'target 2024..2026') FROM closed", f"add_open_days: {KNOWN}")
     # (the schedule differs from row to row, and is constant in the second query)
     db.execute("CREATE TABLE jobs(s TEXT, m TEXT)")
     db.executemany("INSERT INTO jobs VALUES (?, ?)", [("@daily", "2024-01-01"), ("@yearly", "2024-01-01"), ("@daily", "2024-01-02")])
