@@ -18,7 +18,7 @@ import tarfile
 import cells
 import chrono_docs
 import layers_c
-from results import is_older, read, run, write
+from results import is_older, read, run, serves, write
 from wrong_lines import planted, tried
 
 TOP = os.path.dirname(os.path.dirname(os.path.abspath(__file__)))
@@ -193,24 +193,24 @@ def try_wrong_lines(results, room, built):
     results.count(found >= 10, "languages/rust has fewer than ten wrong lines that its tests find")
 
 
+def missing_tool():
+    """What is missing to build the package, or None."""
+    least = re.search(r'^rust-version = "(.*)"$', read(f"{FOLDER}/Cargo.toml"), re.M)[1]
+    if not shutil.which("cargo") or not serves("rustc", least):
+        return f"no cargo with rustc {least} or later"
+    return None if glob.glob(f"{REGISTRY}/cc-[0-9]*") else f"no {REGISTRY}/cc"
+
+
 def test(results, room, library, layers):
     """All of it."""
     compare_layers(results)
-    if not shutil.which("cargo"):
-        print("not run: the tests in Rust, since there is no cargo")
-        return
-    told = subprocess.run(["rustc", "--version"], check=True, capture_output=True, text=True).stdout.strip()
-    least = re.search(r'^rust-version = "(.*)"$', read(f"{FOLDER}/Cargo.toml"), re.M)[1]
-    if is_older(told, least):
-        print(f"not run: the tests in Rust, since {told} is older than {least}")
+    if missing_tool():
+        print(f"not run: the tests in Rust, since there is {missing_tool()}")
         return
     room = f"{room}/rust"
     os.makedirs(room)
     built = put_libraries(room, library, layers)
     package = unpacked(room, built)
-    if not glob.glob(f"{REGISTRY}/cc-[0-9]*"):
-        print(f"not run: the tests in Rust, since there is no {REGISTRY}/cc")
-        return
     missing = [it for it in FEATURES if not glob.glob(f"{REGISTRY}/{it}-[0-9]*")]
     if missing:
         print(f"not run: the features of the Rust crate, since there is no {REGISTRY}/{missing[0]}")

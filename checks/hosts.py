@@ -1,4 +1,5 @@
 """Which hosts the package for JavaScript runs on: its README beside its modules, its page and its message; checks/javascript.py runs this."""
+import json
 import re
 import shutil
 import subprocess
@@ -8,6 +9,11 @@ from results import LANGUAGES, read
 
 FOLDER = f"{LANGUAGES}/javascript"
 BROWSERS = ("Chromium", "Firefox", "Safari")
+
+
+def least_node():
+    """The first version of node that the package takes."""
+    return json.loads(read(f"{FOLDER}/package.json"))["engines"]["node"].removeprefix(">=")
 
 
 def section():

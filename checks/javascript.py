@@ -39,7 +39,7 @@ import hosts
 import languages
 import layers_c
 import zoned_schedules
-from results import Results, is_older, read
+from results import Results, read, serves
 from wrong_lines import planted, tried
 
 TOP = os.path.dirname(os.path.dirname(os.path.abspath(__file__)))
@@ -286,13 +286,8 @@ def try_wrong_lines(results, room, bytes_of_modules):
 
 
 def in_node(results, room, package, bytes_of_modules):
-    if not shutil.which("node"):
-        print("not run: the tests in JavaScript, since there is no node")
-        return
-    told = subprocess.run(["node", "--version"], check=True, capture_output=True, text=True).stdout.strip()
-    least = json.loads(read(f"{FOLDER}/package.json"))["engines"]["node"].removeprefix(">=")
-    if is_older(told, least):
-        print(f"not run: the tests in JavaScript, since node {told} is older than {least}")
+    if not serves("node", hosts.least_node()):
+        print(f"not run: the tests in JavaScript, since there is no node {hosts.least_node()} or later")
         return
     compare_exports(results, bytes_of_modules)
     project = make_project(f"{room}/project", package)

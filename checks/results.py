@@ -1,6 +1,7 @@
 """What checks of several languages share: facts that are counted, and tests that are run."""
 import os
 import re
+import shutil
 import subprocess
 
 TOP = os.path.dirname(os.path.dirname(os.path.abspath(__file__)))
@@ -26,6 +27,13 @@ def is_older(told, least):
     """Whether a program that tells its version is older than the least one, as in "v20.20.2" and "20.10"."""
     version, wanted = ([int(it) for it in re.search(r"\d+(?:\.\d+)*", text)[0].split(".")] for text in (told, least))
     return version < wanted
+
+
+def serves(program, least):
+    """Whether a program is found, in the least version or a later one."""
+    if not shutil.which(program):
+        return False
+    return not is_older(subprocess.run([program, "--version"], check=True, capture_output=True, text=True).stdout, least)
 
 
 def read(path):
