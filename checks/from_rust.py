@@ -18,7 +18,7 @@ import tarfile
 import cells
 import chrono_docs
 import layers_c
-from results import is_older, read, run, serves, write
+from results import read, run, serves, write
 from wrong_lines import planted, tried
 
 TOP = os.path.dirname(os.path.dirname(os.path.abspath(__file__)))
