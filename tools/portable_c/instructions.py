@@ -50,6 +50,13 @@ def part(text, type, index):
     return f"{text}.f{index}" if type.kind == "struct" else f"{text}.f[{index}]"
 
 
+class Same(str):
+    """A number that is each part of a vector: behind it the index of a part changes nothing. C takes it for no vector, so it serves part by part alone."""
+
+    def __add__(self, index):
+        return str(self)
+
+
 class Instructions:
     """The instructions of one function. A method reads the words behind its name, and returns lines of C; `into` is the value that it gives."""
 
@@ -69,6 +76,11 @@ class Instructions:
             return str(int(word == "true"))
         if word in ("null", "undef", "poison", "zeroinitializer"):
             return self.nothing(type)
+        if word == "splat":
+            words.expect("(")
+            _, text = self.value(words)
+            words.expect(")")
+            return Same(text)
         if word == "getelementptr":
             words.open()
             return self.address(words, ")")
@@ -159,7 +171,7 @@ class Instructions:
         words.expect(",")
         _, b = self.value(words)
         if condition.kind == "vector":
-            return self.each(self.function.local(into, type), type, lambda at: f"{test}{at} ? {a}{at} : {b}{at}")
+            return self.each(self.function.local(into, type), type, lambda at: f"{test + at} ? {a + at} : {b + at}")
         return [f"{self.function.local(into, type)} = {test} ? {a} : {b};"]
 
     # ---- numbers and pointers of other types
