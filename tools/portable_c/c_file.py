@@ -14,7 +14,7 @@ TOP = os.path.dirname(os.path.dirname(os.path.dirname(os.path.abspath(__file__))
 HEADERS = {"calendar_c": "calendar.h", "layers_c": "calendar_layers.h"}
 PROGRAM = "caltool"
 # What the module of a program calls outside, and its start, by their names in runtime.h.
-OF_RUNTIME = {"read": "host_read", "write": "host_write", "rattle_errno": "host_error", "__sysv_signal": "host_signal", "main": "program"}
+OF_RUNTIME = {"read": "host_read", "write": "host_write", "rattle_errno": "host_error", exports.START: exports.START}
 HEAD = """/*
  * {name}: {what} {version}, for any compiler of C99 on a little-endian machine of 64 bits.
  *
@@ -63,7 +63,7 @@ def c_file(top, crate):
         text, optimize = build.module_text(top, crate, room)
         if crate in HEADERS:
             return translated_library(crate, optimize(exports.show_inner(text, crate)))
-        return translated_program(crate, optimize(text))
+        return translated_program(crate, optimize(exports.show_start(text, crate)))
 
 
 def write(folder, crates=(*HEADERS, PROGRAM)):
