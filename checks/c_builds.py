@@ -20,9 +20,8 @@ BUILDS = {
 HEADERS_OF_C = "#include <errno.h>\n#include <stdio.h>\n#include <stdlib.h>\n#include <string.h>\n"
 # The build of a planted fault: C defines no sum of numbers with a sign that leaves their type, and the sanitizer finds it.
 PLANTED = ["gcc", "-O1", "-fsanitize=undefined", "-fno-sanitize-recover=all"]
-# A text of the C file, and what a wrong translation would write: a shift without its sign, a sum that does not wrap, a branch turned round.
+# A text of each C file, and what a wrong translation would write there.
 FAULTS = {
-    "a shift without its sign": (r"\(int32_t\)(\w+) >> ", r"(uint32_t)\1 >> "),
     "a comparison without its sign": (r"\(int32_t\)(\w+) < \(int32_t\)", r"(uint32_t)\1 < (uint32_t)"),
     "a sign that is lost": (r"\(uint64_t\)\(int32_t\)", "(uint64_t)(uint32_t)"),
     "a sum that does not wrap": (r"\(uint32_t\)\((\w+) ([-+*]) (\w+)\)", r"(uint32_t)((int32_t)\1 \2 (int32_t)\3)"),

@@ -34,6 +34,7 @@ REFUSED = {
 }
 # Faults of calendar.c alone.
 OWN_FAULTS = {
+    "a shift without its sign": (r"\(int32_t\)(\w+) >> ", r"(uint32_t)\1 >> "),
     "a wrong factor": (r"\* 1461u", "* 1460u"),
     "an exchanged choice": (r" = (\w+) \? (366u) : (365u);", r" = \1 ? \3 : \2;"),
 }
