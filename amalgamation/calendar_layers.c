@@ -3,7 +3,7 @@
  *
  * tools/dist made this file from the module of the crate layers_c, whose functions are proved to meet their contracts. Nothing proves
  * the translation: it is tested, as docs/trust.md says. Do not edit it. The sources have this sum by SHA-256:
- * 72865dd2f6517e6e2a3ca2a2c2a1191ba5fcbb58aae16e3cfad42c9bf318f2ba
+ * 9ca7d83d5a1e83419262479f65a1c0a5a5ad43369ad87ace827215cd95c54ebc
  *
  * SPDX-License-Identifier: MIT OR Apache-2.0
  */

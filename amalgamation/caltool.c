@@ -3,7 +3,7 @@
  *
  * tools/dist made this file from the module of the crate caltool, whose functions are proved to meet their contracts. Nothing proves
  * the translation: it is tested, as docs/trust.md says. Do not edit it. The sources have this sum by SHA-256:
- * 93479f7a0961c957e5511cd6b5c53e4b083e2b6aba457831dd5a4a548ca4f1b7
+ * 2046cb03e4d2f0c3d79317ec7ff22d1c71d51226cc9c5e62a16eadf28845b2a3
  *
  * SPDX-License-Identifier: MIT OR Apache-2.0
  */

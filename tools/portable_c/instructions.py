@@ -87,7 +87,7 @@ CONVERSIONS = {
 
 
 class Same(str):
-    """A number that is each part of a vector: behind it the index of a part changes nothing. C takes it for no vector, so it serves part by part alone."""
+    """A number that is each part of a vector: the index of a part behind it changes nothing. As a whole it is no vector for C, which then refuses it."""
 
     def __add__(self, index):
         return str(self)
