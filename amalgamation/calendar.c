@@ -3,7 +3,7 @@
  *
  * tools/dist made this file from the module of the crate calendar_c, whose functions are proved to meet their contracts. Nothing proves
  * the translation: it is tested, as docs/trust.md says. Do not edit it. The sources have this sum by SHA-256:
- * 9a0cecc5f89b4aa909294f023e067d792decc609c744a49893b6e58783d7369b
+ * 1bdb58c4d5f7a7471959262a732cc6dd56c66459c1afdeafa7cd30af9ba334af
  *
  * SPDX-License-Identifier: MIT OR Apache-2.0
  */

@@ -3,7 +3,7 @@
  *
  * tools/dist made this file from the module of the crate layers_c, whose functions are proved to meet their contracts. Nothing proves
  * the translation: it is tested, as docs/trust.md says. Do not edit it. The sources have this sum by SHA-256:
- * 9ca7d83d5a1e83419262479f65a1c0a5a5ad43369ad87ace827215cd95c54ebc
+ * 41ddbf042dac6136903e111133bf31d3f5b682b66f5be0d83f9fc8a01a5299c1
  *
  * SPDX-License-Identifier: MIT OR Apache-2.0
  */

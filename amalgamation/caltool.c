@@ -3,7 +3,7 @@
  *
  * tools/dist made this file from the module of the crate caltool, whose functions are proved to meet their contracts. Nothing proves
  * the translation: it is tested, as docs/trust.md says. Do not edit it. The sources have this sum by SHA-256:
- * 2046cb03e4d2f0c3d79317ec7ff22d1c71d51226cc9c5e62a16eadf28845b2a3
+ * dfa4702b33540b5d5aea52cf3d69c91416b0261770eb17e1b745dd57caafc94e
  *
  * SPDX-License-Identifier: MIT OR Apache-2.0
  */

@@ -87,7 +87,7 @@ CONVERSIONS = {
 
 
 class Same(str):
-    """A number that is each part of a vector: the index of a part behind it changes nothing. As a whole it is no vector for C, which then refuses it."""
+    """A number that is each part of a vector: the index of a part behind it changes nothing. C refuses it as a whole vector."""
 
     def __add__(self, index):
         return str(self)

@@ -14,7 +14,7 @@ WORDS_OF_C = """auto break case char const continue default do double else enum 
 
 
 class Module:
-    """A module as text, and the names of its functions and tables in C. `given` has those of functions that stand outside or are called there."""
+    """A module as text, and the names of its functions and tables in C. `given` has those of what stands outside or is called there."""
 
     def __init__(self, text, given=()):
         self.given = {**OF_C, **dict(given)}
