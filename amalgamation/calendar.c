@@ -3,7 +3,7 @@
  *
  * tools/dist made this file from the module of the crate calendar_c, whose functions are proved to meet their contracts. Nothing proves
  * the translation: it is tested, as docs/trust.md says. Do not edit it. The sources have this sum by SHA-256:
- * a6c3d671d115f532798101fb2440f1cf3fc3b037841d82599f3908ff2dd8d012
+ * 1bdb58c4d5f7a7471959262a732cc6dd56c66459c1afdeafa7cd30af9ba334af
  *
  * SPDX-License-Identifier: MIT OR Apache-2.0
  */

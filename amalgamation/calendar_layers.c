@@ -3,7 +3,7 @@
  *
  * tools/dist made this file from the module of the crate layers_c, whose functions are proved to meet their contracts. Nothing proves
  * the translation: it is tested, as docs/trust.md says. Do not edit it. The sources have this sum by SHA-256:
- * 321c9f31ca6dc2a57ca5f5ef967116830bef9691e86d6c1a3080c866eff83cf7
+ * 41ddbf042dac6136903e111133bf31d3f5b682b66f5be0d83f9fc8a01a5299c1
  *
  * SPDX-License-Identifier: MIT OR Apache-2.0
  */

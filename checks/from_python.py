@@ -9,7 +9,7 @@ import subprocess
 import sys
 
 import cells
-from results import LANGUAGES, TOP, read, run, succeeds
+from results import LANGUAGES, TOP, compare_bytes, read, run, succeeds
 from wrong_lines import planted, tried
 
 sys.path.insert(0, f"{TOP}/tools")
@@ -259,6 +259,7 @@ def test(results, room, library, layers):
     except packages.Missing as it:
         print(f"not run: the tests in Python, since there is {it}")
         return
+    compare_bytes(results, [sources, wheel], sorted(python.make(TOP, built, f"{room}/dist_again")))
     program = install(results, room, "environment", sys.executable, wheel)
     if program:
         test_installed(results, room, program)

@@ -18,7 +18,7 @@ import tarfile
 import cells
 import chrono_docs
 import layers_c
-from results import read, run, serves, write
+from results import compare_bytes, read, run, serves, write
 from wrong_lines import planted, tried
 
 TOP = os.path.dirname(os.path.dirname(os.path.abspath(__file__)))
@@ -92,9 +92,10 @@ def put_libraries(room, library, layers):
     return f"{room}/built"
 
 
-def unpacked(room, built):
-    """The package, made, packed and unpacked again."""
-    packed = next(it for it in rust.make(TOP, built, f"{room}/dist") if it.endswith(".crate"))
+def unpacked(results, room, built):
+    """The package, made, packed and unpacked again. Made twice, it has the same bytes."""
+    packed, again = (rust.make(TOP, built, f"{room}/{it}")[1] for it in ("dist", "dist_again"))
+    compare_bytes(results, [packed], [again])
     with tarfile.open(packed) as it:
         it.extractall(f"{room}/unpacked")
     return glob.glob(f"{room}/unpacked/*")[0]
@@ -210,7 +211,10 @@ def test(results, room, library, layers):
     room = f"{room}/rust"
     os.makedirs(room)
     built = put_libraries(room, library, layers)
-    package = unpacked(room, built)
+    package = unpacked(results, room, built)
+    if not glob.glob(f"{REGISTRY}/cc-[0-9]*"):
+        print(f"not run: the tests in Rust, since there is no {REGISTRY}/cc")
+        return
     missing = [it for it in FEATURES if not glob.glob(f"{REGISTRY}/{it}-[0-9]*")]
     if missing:
         print(f"not run: the features of the Rust crate, since there is no {REGISTRY}/{missing[0]}")

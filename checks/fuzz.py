@@ -288,6 +288,31 @@ def are_rows_counted():
     return 0 < len(lines) == len(answers) and not otherwise
 
 
+def made(count, seed):
+    """That many lines as one text, with each byte in each place of two short lines behind them: the text, its lines, and their answers."""
+    chance = random.Random(seed)
+    text = b"\n".join([a_line(chance) for _ in range(count)] + list(each_byte()))
+    ended = text.split(b"\n")
+    lines = ended if ended[-1] else ended[:-1]
+    return text, lines, [answer(it) for it in lines] + [""]
+
+
+def is_answered(words, seed, text, lines, right):
+    """Whether a program answers the text as it has to. The first line that it answers otherwise is printed."""
+    ran = subprocess.run(words, input=text, stdout=subprocess.PIPE, stderr=subprocess.PIPE, timeout=600)
+    answers = ran.stdout.decode("latin-1").split("\n")
+    passed = 0
+    for line, has_to, did in zip(lines + [b""], right, answers):
+        if has_to != did:
+            print(f"seed {seed}: {line!r} is answered {did!r}, and has to be {has_to!r}")
+            break
+        passed += 1
+    is_right = passed == len(right) == len(answers) and (ran.returncode, ran.stderr) == (0, b"")
+    if not is_right:
+        print(f"{len(answers) - 1} answers to {len(lines)} lines, status {ran.returncode}, {ran.stderr!r} on standard error")
+    return is_right
+
+
 def main():
     words = argparse.ArgumentParser(description=__doc__, formatter_class=argparse.RawDescriptionHelpFormatter)
     words.add_argument("--lines", type=int, default=200_000)
@@ -297,21 +322,8 @@ def main():
         print("there is no crates/caltool/out/caltool: `rt run` in crates/caltool builds it")
         print("0 passed, 1 failed")
         return 1
-    chance = random.Random(asked.seed)
-    text = b"\n".join([a_line(chance) for _ in range(asked.lines)] + list(each_byte()))
-    ended = text.split(b"\n")
-    lines = ended if ended[-1] else ended[:-1]
-    ran = subprocess.run([CALTOOL], input=text, stdout=subprocess.PIPE, stderr=subprocess.PIPE, timeout=600)
-    answers = ran.stdout.decode("latin-1").split("\n")
-    right, passed = [answer(it) for it in lines] + [""], 0
-    for line, has_to, did in zip(lines + [b""], right, answers):
-        if has_to != did:
-            print(f"seed {asked.seed}: {line!r} is answered {did!r}, and has to be {has_to!r}")
-            break
-        passed += 1
-    is_right = passed == len(right) == len(answers) and (ran.returncode, ran.stderr) == (0, b"")
-    if not is_right:
-        print(f"{len(answers) - 1} answers to {len(lines)} lines, status {ran.returncode}, {ran.stderr!r} on standard error")
+    text, lines, right = made(asked.lines, asked.seed)
+    is_right = is_answered([CALTOOL], asked.seed, text, lines, right)
     nothing, wrong = (sum(it == kind for it in right) for kind in ("none", "error"))
     print(f"{len(lines)} lines compared from seed {asked.seed}, of which {nothing} name nothing and {wrong} are no command")
     failed = [is_right, are_rows_counted()].count(False)

@@ -1,13 +1,13 @@
 #!/usr/bin/env python3
-"""The library for C as one C file, by tools/portable_c, beside the proved library.
+"""The library for C and caltool as one C file each, by tools/portable_c, beside the proved ones.
 
     checks/portable.py [ROUNDS]      (100,000 rounds, if left out)
 
-The C files of amalgamation/ have to be those that are made of the proved libraries now. Each compiler that is found builds calendar.c without a
+The C files of amalgamation/ have to be those that are made of the proved crates now. Each compiler that is found builds calendar.c without a
 warning, by the widths of 128 bits that the compiler has and by two words, and with sanitizers. Compilers for other machines build it too, and an
 emulator runs what they build. languages/c/test.c has to pass each time. A program that calls each function of calendar.h with random arguments has
 to give the same sum of all answers as over the proved library. Machines that are not served have to be refused. Faults planted in the translation
-have to be found by the test or by the sums.
+have to be found by the test or by the sums. checks/caltool_c.py says what caltool.c is held to.
 """
 import os
 import re
@@ -19,41 +19,30 @@ import tempfile
 TOP = os.path.dirname(os.path.dirname(os.path.abspath(__file__)))
 sys.path.insert(0, f"{TOP}/tools")
 import calendar_random  # noqa: E402
-from library import CALENDAR, repository, take_library  # noqa: E402
+from c_builds import BUILDS, FAULTS, PLANTED, WARNINGS, planted, why_not  # noqa: E402
+from caltool_c import check_program  # noqa: E402
+from library import CALENDAR, proved_repository, take_library  # noqa: E402
 from outside import listed_crates  # noqa: E402
-from portable_c.c_file import HEADERS, c_file  # noqa: E402
+from portable_c.c_file import HEADERS, PROGRAM, c_file, file_name  # noqa: E402
 from results import LANGUAGES, Results, read, run, succeeds  # noqa: E402
 
 COUNTS = (r"^(\d+) passed", r"(\d+) failed")
-WARNINGS = ["-std=c99", "-Wall", "-Wextra", "-Werror"]
-SANITIZERS = ["-O1", "-g", "-fsanitize=undefined,address", "-fno-sanitize-recover=all"]
-# The builds of this machine, and those of others with what runs them.
-BUILDS = {
-    "gcc": (["gcc", "-O2"], []),
-    "clang": (["clang", "-O2"], []),
-    "gcc with sanitizers": (["gcc", *SANITIZERS], []),
-    "clang with sanitizers": (["clang", *SANITIZERS], []),
-    "gcc by two words for 128 bits": (["gcc", "-O2", "-DCALENDAR_TWO_WORDS"], []),
-    "musl": (["musl-gcc", "-O2", "-static"], []),
-    "ARM": (["aarch64-linux-gnu-gcc", "-O2", "-static"], ["qemu-aarch64-static"]),
-    "RISC-V": (["riscv64-linux-gnu-gcc", "-O2", "-static"], ["qemu-riscv64-static"]),
-    "Windows": (["x86_64-w64-mingw32-gcc", "-O2", "-static"], ["wine"]),
-}
 # Machines for which the file must not compile: one with the high byte first, and one with pointers of 32 bits.
-REFUSED = {"a big-endian machine": ["s390x-linux-gnu-gcc"], "pointers of 32 bits": ["clang", "--target=i386-linux-gnu", "-ffreestanding"]}
-# A text of the C file, and what a wrong translation would write: a shift without its sign, a sum that is not cut, a branch turned round.
-FAULTS = {
+REFUSED = {
+    "a big-endian machine": ["s390x-linux-gnu-gcc", "-ffreestanding"],
+    "pointers of 32 bits": ["clang", "--target=i386-linux-gnu", "-ffreestanding"],
+}
+# Faults of calendar.c alone.
+OWN_FAULTS = {
     "a shift without its sign": (r"\(int32_t\)(\w+) >> ", r"(uint32_t)\1 >> "),
-    "a comparison without its sign": (r"\(int32_t\)(\w+) < \(int32_t\)", r"(uint32_t)\1 < (uint32_t)"),
-    "a sign that is lost": (r"\(uint64_t\)\(int32_t\)", "(uint64_t)(uint32_t)"),
     "a wrong factor": (r"\* 1461u", "* 1460u"),
     "an exchanged choice": (r" = (\w+) \? (366u) : (365u);", r" = \1 ? \3 : \2;"),
 }
 
 
-def sum_of(words, rounds):
+def sum_of(words, rounds, timeout=3600):
     """The sum of all answers that a program prints; none if it fails."""
-    said = subprocess.run([*words, str(rounds)], capture_output=True, text=True, errors="replace", timeout=3600)
+    said = subprocess.run([*words, str(rounds)], capture_output=True, text=True, errors="replace", timeout=timeout)
     found = re.search(r"^sum (\w+)", said.stdout, re.M)
     return found and said.returncode == 0 and found[1]
 
@@ -73,8 +62,9 @@ def compile_all(words, room, name, source):
 def try_build(results, room, name, wanted, rounds):
     """Builds the C file one way, and compares its answers."""
     words, runner = BUILDS[name]
-    if not all(map(shutil.which, [words[0], *runner[:1]])):
-        print(f"not run: {name}, since there is no {' or no '.join([words[0], *runner[:1]])}")
+    why = why_not(name)
+    if why:
+        print(f"not run: {name}, since {why}")
         return
     if succeeds(results, [*words, *WARNINGS, f"-I{LANGUAGES}/c", "-c", f"{room}/calendar.c", "-o", f"{room}/calendar.o"]) is None:
         return
@@ -97,23 +87,32 @@ def try_refused(results, room):
 
 def try_faults(results, room, made, wanted):
     """Plants faults of a translator, and asks the test and the sums for each."""
-    for name, (old, new) in FAULTS.items():
-        wrong = re.sub(old, new, made)
-        results.count(wrong != made, f"{name}: the C file has no place for it")
+    for name, fault in {**FAULTS, **OWN_FAULTS}.items():
         with open(f"{room}/wrong.c", "w", encoding="utf-8") as it:
-            it.write(wrong)
-        programs, _ = compile_all(["gcc", "-O1"], room, "wrong", f"{room}/wrong.c")
-        found = not programs or subprocess.run([programs[0]], capture_output=True).returncode or sum_of([programs[1]], 2_000) != wanted(2_000)
-        results.count(found, f"the planted fault is not found: {name}")
+            it.write(planted(results, name, fault, made))
+        programs, _ = compile_all(PLANTED, room, "wrong", f"{room}/wrong.c")
+        results.count(not programs or is_found(programs, wanted), f"the planted fault is not found: {name}")
+
+
+def is_found(programs, wanted):
+    """Whether the test or the sums find a fault; a program that runs on for two minutes is found too."""
+    try:
+        failed = subprocess.run([programs[0]], capture_output=True, timeout=120).returncode
+        return bool(failed) or sum_of([programs[1]], 2_000, timeout=120) != wanted(2_000)
+    except subprocess.TimeoutExpired:
+        return True
 
 
 def compare_tree(results):
     """The C files in the tree are those that are made now."""
-    for crate, header in HEADERS.items():
-        path = f"amalgamation/{header.replace('.h', '.c')}"
-        if take_library(results, crate):
-            with repository(crate, listed_crates()) as top:
-                results.count(c_file(top, crate) == read(f"{TOP}/{path}"), f"{path} is not what `tools/dist amalgamation` makes")
+    crates = listed_crates()
+    for crate in (*HEADERS, PROGRAM):
+        path = f"amalgamation/{file_name(crate)}"
+        if crate in HEADERS and not take_library(results, crate):
+            continue
+        with proved_repository(crate, crates) as top:
+            is_same = top and os.path.exists(f"{TOP}/{path}") and c_file(top, crate) == read(f"{TOP}/{path}")
+            results.count(is_same, f"{path} is not what `tools/dist amalgamation` makes")
 
 
 def check_library(results, room, proved, rounds):
@@ -141,6 +140,7 @@ def main():
         proved = take_library(results, CALENDAR)
         if proved:
             check_library(results, room, proved, rounds)
+        check_program(results, room)
     print(f"{results.passed} passed, {results.failed} failed")
     return 1 if results.failed else 0
 

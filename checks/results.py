@@ -66,6 +66,13 @@ def succeeds(results, words, **how):
     return ran.stdout if ran.returncode == 0 else None
 
 
+def compare_bytes(results, made, again):
+    """Files that were made twice have the same bytes."""
+    for one, other in zip(made, again, strict=True):
+        with open(one, "rb") as first, open(other, "rb") as second:
+            results.count(first.read() == second.read(), f"{os.path.basename(one)}, made again, has other bytes")
+
+
 def example(language):
     """The example of a README."""
     folder = {"js": "javascript"}.get(language, language)

@@ -140,6 +140,19 @@ def long_cases(program):
     yield "short lines", run(program, LINE * (LONG // len(LINE)), limits=within), (DONE, ANSWER * (LONG // len(LINE)))
 
 
+def try_program(program, name, with_long=True):
+    """Tries each case, without the long inputs if so asked; how many passed and failed, those that failed being printed."""
+    passed, failed = 0, 0
+    with tempfile.TemporaryDirectory() as folder:
+        for what, did, has_to in itertools.chain(cases(program, folder), full_cases(program, folder), long_cases(program) if with_long else ()):
+            is_right = did == has_to
+            passed, failed = passed + is_right, failed + (not is_right)
+            if not is_right:
+                (status, said), wrote = did
+                print(f"{name}: {what}: status {status}, {said!r} on standard error, {len(wrote)} bytes of answers")
+    return passed, failed
+
+
 def main():
     found = [it for it in PROGRAMS if os.path.exists(it)]
     passed, failed = 0, 0
@@ -149,14 +162,8 @@ def main():
     if not os.path.exists("/dev/full"):
         print("not run: a full device, since there is no /dev/full")
     for program in found:
-        with tempfile.TemporaryDirectory() as folder:
-            for what, did, has_to in itertools.chain(cases(program, folder), full_cases(program, folder), long_cases(program)):
-                is_right = did == has_to
-                passed, failed = passed + is_right, failed + (not is_right)
-                if not is_right:
-                    (status, said), wrote = did
-                    name = os.path.basename(program)
-                    print(f"{name}: {what}: status {status}, {said!r} on standard error, {len(wrote)} bytes of answers")
+        right, wrong = try_program(program, os.path.basename(program))
+        passed, failed = passed + right, failed + wrong
     print(f"{passed} passed, {failed} failed")
     return 1 if failed else 0
 

@@ -4,8 +4,8 @@
     checks/without_kit.py
 
 Each C file has to be of the sources of this tree, by the sum in its head. Then, with no `rt` on the path, each line that the pages give for a
-clone is run: C by cc and by CMake, Python by pip, Rust by cargo, JavaScript by npm, SQLite and PostgreSQL by make. README's examples have to print
-what README says; its query for PostgreSQL is checks/postgresql.py's.
+clone is run: C by cc, by CMake and by pkg-config, caltool by cc, Python by pip, Rust by cargo, JavaScript by npm, SQLite and PostgreSQL by make.
+README's examples have to print what README says; its query for PostgreSQL is checks/postgresql.py's.
 """
 import glob
 import os
@@ -17,11 +17,12 @@ import tempfile
 
 TOP = os.path.dirname(os.path.dirname(os.path.abspath(__file__)))
 sys.path.insert(0, f"{TOP}/tools")
+import from_c  # noqa: E402
 import packages  # noqa: E402
 from debian import REGISTRY, cargo_environment  # noqa: E402
 from packages import javascript, python, sqlite  # noqa: E402
 from packages.postgresql import find_config  # noqa: E402
-from portable_c.c_file import HEADERS  # noqa: E402
+from portable_c.c_file import HEADERS, PROGRAM, file_name  # noqa: E402
 from results import LANGUAGES, Results, read, readme_examples, run, succeeds, write  # noqa: E402
 
 SOURCES = f"{TOP}/amalgamation"
@@ -32,8 +33,9 @@ cmake_minimum_required(VERSION 3.13)
 project(user C)
 add_subdirectory({sources} calendar)
 add_executable(user {test})
-target_link_libraries(user {name})
+target_link_libraries(user calendar::calendar)
 """
+ASKED = ("ymd 1900 2 29\nymd 2024 2 29\n", "none\n2024-02-29 738945 Thu 2024-W09 60\n")
 
 
 def without_kit(room):
@@ -58,9 +60,9 @@ def compare_sums(results):
     """The files that `tools/dist amalgamation` writes are of these sources, and the headers are those of languages/c."""
     for source, it in javascript.MODULES.items():
         compare_sum(results, f"{LANGUAGES}/javascript/src/{source}.js", it.crate)
-    for crate, header in HEADERS.items():
-        path = f"{SOURCES}/{header.replace('.h', '.c')}"
-        compare_sum(results, path, crate)
+    for crate in (*HEADERS, PROGRAM):
+        compare_sum(results, f"{SOURCES}/{file_name(crate)}", crate)
+    for header in HEADERS.values():
         results.count(read(f"{SOURCES}/{header}") == read(f"{LANGUAGES}/c/{header}"), f"amalgamation/{header} is not languages/c/{header}")
 
 
@@ -74,7 +76,7 @@ def try_examples(results, language, printed):
 
 
 def try_c(results, room, env):
-    """README's example, and the tests of both headers, by cc and by CMake."""
+    """README's example, the tests of both headers, and caltool, by cc."""
     def printed(code):
         write(f"{room}/main.c", code)
         words = ["cc", "-O2", f"-I{SOURCES}", f"{room}/main.c", f"{SOURCES}/{packages.CALENDAR}.c", "-o", f"{room}/main"]
@@ -86,15 +88,35 @@ def try_c(results, room, env):
         words = ["cc", "-O2", f"-I{SOURCES}", f"{LANGUAGES}/c/{test}", f"{SOURCES}/{name}.c", *more, "-o", program]
         if succeeds(results, words, env=env) is not None:
             run(results, f"{test} over amalgamation/{name}.c", [program], COUNTS)
+    if succeeds(results, ["cc", "-O2", f"{SOURCES}/caltool.c", "-o", f"{room}/caltool"], env=env) is not None:
+        ask_caltool(results, f"{room}/caltool")
+
+
+def ask_caltool(results, program):
+    """caltool answers the lines of its page."""
+    asked, answers = ASKED
+    said = subprocess.run([program], input=asked, capture_output=True, text=True)
+    results.count((said.returncode, said.stdout) == (0, answers), f"{program} says {said.stdout!r}")
+
+
+def try_cmake(results, room, env):
+    """The folder as a part of a user's project, and installed to a prefix, where CMake and pkg-config find it for C and C++."""
     if not shutil.which("cmake"):
         print("not run: CMake over amalgamation/, since there is no cmake")
         return
-    os.makedirs(f"{room}/user")
-    with open(f"{room}/user/CMakeLists.txt", "w", encoding="utf-8") as it:
-        it.write(CMAKE.format(sources=SOURCES, test=f"{LANGUAGES}/c/test.c", name=packages.CALENDAR))
-    for words in (["-S", f"{room}/user", "-B", f"{room}/made"], ["--build", f"{room}/made", "--target", "user"]):
+    user, made, prefix = f"{room}/user", f"{room}/made", f"{room}/prefix with a space"
+    os.makedirs(user)
+    with open(f"{user}/CMakeLists.txt", "w", encoding="utf-8") as it:
+        it.write(CMAKE.format(sources=SOURCES, test=f"{LANGUAGES}/c/test.c"))
+    for words in (["-S", user, "-B", f"{user}/made"], ["--build", f"{user}/made", "--target", "user"]):
         succeeds(results, ["cmake", *words], env=env)
-    run(results, "test.c by CMake", [f"{room}/made/user"], COUNTS)
+    run(results, "test.c by CMake", [f"{user}/made/user"], COUNTS)
+    for words in (["-S", SOURCES, "-B", made], ["--build", made], ["--install", made, "--prefix", prefix]):
+        if succeeds(results, ["cmake", *words], env=env) is None:
+            return
+    ask_caltool(results, f"{prefix}/bin/caltool")
+    from_c.test_by_pkg_config(results, room, prefix)
+    from_c.test_by_cmake(results, room, prefix)
 
 
 def copied(room, name):
@@ -197,6 +219,7 @@ def main():
         env = without_kit(room)
         compare_sums(results)
         try_c(results, room, env)
+        try_cmake(results, room, env)
         try_python(results, room, env)
         try_rust(results, room, env)
         try_javascript(results, room, env)

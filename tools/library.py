@@ -97,17 +97,23 @@ def repository(name, crates):
         yield top
 
 
-def build_here(name, crates):
-    """Proves and builds the static library of a crate, and the libraries below it side by side; whether its file is here then."""
-    libraries = libraries_below(name, crates)
+@contextlib.contextmanager
+def proved_repository(name, crates):
+    """That repository, in which the libraries below the crate are proved side by side first; None if that fails."""
     with repository(name, crates) as top:
-        # (another process may have built it while this one waited)
-        if is_newer(path_of(TOP, name), name, libraries):
-            return True
         built = {it.name for it in load_rt().rtlib.crates_below(top) if it.is_built()}
-        with proved(crates, [it for it in libraries if it not in built], sys.stdout) as is_proved:
-            if not is_proved or not build(top, name):
-                return False
+        with proved(crates, [it for it in libraries_below(name, crates) if it not in built], sys.stdout) as is_proved:
+            yield top if is_proved else None
+
+
+def build_here(name, crates):
+    """Proves and builds the static library of a crate, and the libraries below it; whether its file is here then."""
+    with proved_repository(name, crates) as top:
+        # (another process may have built it while this one waited)
+        if is_newer(path_of(TOP, name), name, libraries_below(name, crates)):
+            return True
+        if not top or not build(top, name):
+            return False
         if top != TOP:
             os.makedirs(os.path.dirname(path_of(TOP, name)), exist_ok=True)
             shutil.copy(path_of(top, name), path_of(TOP, name))

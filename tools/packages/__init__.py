@@ -45,6 +45,14 @@ def build(library, built, name=CALENDAR):
     run(["cc", *flags, *whole, "-o", f"{built}/{shared}"])
 
 
+def copy_c_files(top, folder):
+    """Copies the C files of both libraries and their headers into a new folder of a package."""
+    os.makedirs(folder)
+    for name in (CALENDAR, LAYERS):
+        for end in ("c", "h"):
+            shutil.copy(f"{top}/amalgamation/{name}.{end}", folder)
+
+
 def run(words, **how):
     """Runs a program that says nothing if all goes well; what it says is in the error if it does not."""
     try:

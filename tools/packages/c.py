@@ -4,25 +4,6 @@ import shutil
 
 from . import CALENDAR, HIGHER, LAYERS, LICENCES, version
 
-# What each library has, as pkg-config says it.
-DESCRIPTIONS = {
-    CALENDAR: "The proleptic Gregorian calendar, by functions that are proved",
-    LAYERS: "Schedules, recurrence rules, open days, holidays, patterns and time zones, by functions that are proved",
-}
-
-# (it links the static library, so that a program runs without the shared one)
-PKG_CONFIG = """\
-prefix=${{pcfiledir}}/../..
-includedir=${{prefix}}/include
-libdir=${{prefix}}/lib
-
-Name: {name}
-Description: {description}
-Version: {version}
-Cflags: -I${{includedir}}
-Libs: -L${{libdir}} -l:lib{name}.a
-"""
-
 CMAKE = """\
 # The targets calendar::calendar and calendar::layers (static), calendar::shared and calendar::layers_shared, beside the files of
 # this package wherever they lie.
@@ -58,6 +39,12 @@ endif()
 """
 
 
+def pkg_config(top, name):
+    """What pkg-config reads of a library. It links the static one, so that a program runs without the shared one."""
+    with open(f"{top}/amalgamation/{name}.pc.in", encoding="utf-8") as it:
+        return it.read().replace("@CALENDAR_VERSION@", version(top)).replace("@CALENDAR_LIBRARY@", f":lib{name}.a")
+
+
 def make(top, built, dist):
     """Makes include/, lib/ and share/; the paths of their files."""
     copied = {
@@ -68,7 +55,7 @@ def make(top, built, dist):
     if os.path.exists(f"{built}/{HIGHER}"):
         copied[f"{built}/{HIGHER}"] = f"lib/{HIGHER}"
     written = {
-        **{f"lib/pkgconfig/{it}.pc": PKG_CONFIG.format(name=it, description=DESCRIPTIONS[it], version=version(top)) for it in DESCRIPTIONS},
+        **{f"lib/pkgconfig/{it}.pc": pkg_config(top, it) for it in (CALENDAR, LAYERS)},
         "lib/cmake/calendar/calendar-config.cmake": CMAKE,
         "lib/cmake/calendar/calendar-config-version.cmake": CMAKE_VERSION.format(version=version(top)),
     }

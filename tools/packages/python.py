@@ -7,7 +7,7 @@ import sys
 import tarfile
 import tempfile
 
-from . import CALENDAR, LAYERS, LICENCES, Missing, pack, run
+from . import CALENDAR, LAYERS, LICENCES, Missing, copy_c_files, pack, run
 
 # What a Python needs to build the packages: setuptools with the command for wheels, and the headers of C.
 PROBE = """
@@ -18,6 +18,9 @@ except ImportError:
     import wheel.bdist_wheel
 assert os.path.exists(os.path.join(sysconfig.get_paths()["include"], "Python.h"))
 """
+
+# The time of each file in a wheel: the first that its format has. So the same files give the same bytes.
+ONE_TIME = {"SOURCE_DATE_EPOCH": "315532800"}
 
 
 def python():
@@ -44,7 +47,7 @@ def make(top, built, dist):
         source = f"{room}/source"
         skipped = shutil.ignore_patterns("__pycache__", "*.so", "build", "*.egg-info")
         shutil.copytree(f"{top}/languages/python", source, ignore=skipped)
-        shutil.copytree(f"{top}/amalgamation", f"{source}/amalgamation", ignore=shutil.ignore_patterns(*LICENCES))
+        copy_c_files(top, f"{source}/amalgamation")
         for licence in LICENCES:
             shutil.copy(f"{top}/{licence}", source)
         run([python(), "setup.py", "--quiet", "sdist", "--dist-dir", f"{room}/made"], cwd=source)
@@ -54,7 +57,7 @@ def make(top, built, dist):
         for name in (CALENDAR, LAYERS):
             shutil.copy(f"{top}/languages/c/{name}.h", f"{source}/include/")
             shutil.copy(f"{built}/lib{name}.a", f"{source}/lib/")
-        run([python(), "setup.py", "--quiet", "bdist_wheel", "--dist-dir", f"{room}/made"], cwd=source)
+        run([python(), "setup.py", "--quiet", "bdist_wheel", "--dist-dir", f"{room}/made"], cwd=source, env={**os.environ, **ONE_TIME})
         paths = []
         for old in glob.glob(f"{dist}/proved[-_]calendar-*"):
             os.remove(old)

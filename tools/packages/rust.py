@@ -2,7 +2,7 @@
 import os
 import shutil
 
-from . import LICENCES, pack, version
+from . import LICENCES, copy_c_files, pack, version
 
 NAME = "proved-calendar"
 FILES = ("Cargo.toml", "README.md", "build.rs")
@@ -12,7 +12,7 @@ def make_package(top, folder, package):
     """Makes the package of a crate's folder, with the library as C files; the path of the package."""
     shutil.rmtree(package, ignore_errors=True)
     shutil.copytree(f"{folder}/src", f"{package}/src")
-    shutil.copytree(f"{top}/amalgamation", f"{package}/amalgamation", ignore=shutil.ignore_patterns("*.md", "CMakeLists.txt", *LICENCES))
+    copy_c_files(top, f"{package}/amalgamation")
     for name in FILES:
         shutil.copy(f"{folder}/{name}", f"{package}/{name}")
     for name in LICENCES:

@@ -24,16 +24,20 @@ if at:
     words[at] = {toolchain!r}
 os.execv({rattle!r}, [{rattle!r}, *words])
 """
-# The kit's `rt lib`, with that prover.
-LIB = """import sys
+# The kit's `rt lib` or `rt run`, with that prover. A program is compiled, and neither linked nor run: what stands in its folder stays.
+BUILD = """import sys
 sys.path.insert(0, {tools!r})
 from gate import load_rt
 rt = load_rt()
 rt.rtlib.RATTLE = {rattle!r}
+rt.rtlib.Crate.run = lambda crate, flags, *_, **__: crate.compile(flags, {program!r})
 sys.exit(rt.main([{verb!r}, "--jobs", "1"]))
 """
 # What the module says of one machine, which C does not need.
 OF_ONE_MACHINE = re.compile(r' "(?:target-cpu|target-features|probe-stack|stack-probe-size|frame-pointer|tune-cpu)"="[^"]*"')
+# How the kit's compiler writes a module as text, and optimizes it.
+AS_TEXT = ["-x", "ir", "-S", "-emit-llvm"]
+OPTIMIZING = ["-O3", "-fno-pic", "-fno-vectorize", "-fno-slp-vectorize", "-fno-unroll-loops"]
 
 
 def write_program(path, text):
@@ -57,25 +61,32 @@ def make_toolchain(room):
     return f"{room}/rattle", f"{kit}/bin/clang"
 
 
-def module_text(top, crate, room, verb="lib"):
-    """The optimized module of a crate that is proved in the tree at `top`, as text. `room` is an empty folder."""
+def built_module(top, crate, room):
+    """Has the kit build a crate in the tree at `top`; the path of its module, and that of the kit's compiler. `room` is an empty folder."""
     rattle, clang = make_toolchain(room)
-    said = subprocess.run([sys.executable, "-c", LIB.format(tools=TOOLS, rattle=rattle, verb=verb)], cwd=f"{top}/crates/{crate}", stdin=subprocess.DEVNULL, capture_output=True, text=True, errors="replace")
+    folder = f"{top}/crates/{crate}"
+    verb = "run" if os.path.exists(f"{folder}/src/main.rt") else "lib"
+    words = [sys.executable, "-c", BUILD.format(tools=TOOLS, rattle=rattle, program=f"{room}/program.o", verb=verb)]
+    said = subprocess.run(words, cwd=folder, stdin=subprocess.DEVNULL, capture_output=True, text=True, errors="replace")
     modules = glob.glob(f"{room}/modules/*")
     if said.returncode or not modules:
         raise RuntimeError(f"the kit does not build {crate}: {(said.stdout + said.stderr)[-3000:]}")
-    whole = max(modules, key=os.path.getsize)
-    words = ["-x", "ir", "-O3", "-fno-pic", "-fno-vectorize", "-fno-slp-vectorize", "-fno-unroll-loops", "-S", "-emit-llvm"]
+    return max(modules, key=os.path.getsize), clang
+
+
+def module_text(top, crate, room):
+    """The module of a crate that is proved in the tree at `top`, as text, and what optimizes such a text. `room` is an empty folder."""
+    module, clang = built_module(top, crate, room)
     first, last = f"{room}/first.ll", f"{room}/last.ll"
-    subprocess.run([clang, "-x", "ir", "-O0", "-S", "-emit-llvm", whole, "-o", first, "-Xclang", "-disable-llvm-passes"], check=True, capture_output=True)
+    subprocess.run([clang, *AS_TEXT, "-O0", module, "-o", first, "-Xclang", "-disable-llvm-passes"], check=True, capture_output=True)
     with open(first, encoding="utf-8") as it:
         text = OF_ONE_MACHINE.sub("", it.read())
-    return text, (lambda prepared: optimized(clang, words, prepared, first, last))
+    return text, (lambda prepared: optimized(clang, prepared, first, last))
 
 
-def optimized(clang, words, text, first, last):
+def optimized(clang, text, first, last):
     with open(first, "w", encoding="utf-8") as it:
         it.write(text)
-    subprocess.run([clang, *words, first, "-o", last], check=True, capture_output=True)
+    subprocess.run([clang, *AS_TEXT, *OPTIMIZING, first, "-o", last], check=True, capture_output=True)
     with open(last, encoding="utf-8") as it:
         return it.read()

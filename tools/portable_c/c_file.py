@@ -1,9 +1,9 @@
-"""The C file of a proved library: its head, its tables and functions, and the functions of its header."""
+"""The C file of a proved library or program: its head, its tables and functions, and the functions of its header or what it asks of the machine."""
 import os
 import shutil
 import tempfile
 
-from library import find_library, repository
+from library import proved_repository
 from outside import listed_crates
 from packages import LICENCES, sum_of_sources, version
 
@@ -12,8 +12,11 @@ from .module import Module
 
 TOP = os.path.dirname(os.path.dirname(os.path.dirname(os.path.abspath(__file__))))
 HEADERS = {"calendar_c": "calendar.h", "layers_c": "calendar_layers.h"}
+PROGRAM = "caltool"
+# What the module of a program calls outside, and its start, by their names in runtime.h.
+OF_RUNTIME = {"read": "host_read", "write": "host_write", "rattle_errno": "host_error", exports.START: exports.START}
 HEAD = """/*
- * {name}: the functions of {header} {version}, for any compiler of C99 on a little-endian machine of 64 bits.
+ * {name}: {what} {version}, for any compiler of C99 on a little-endian machine of 64 bits.
  *
  * tools/dist made this file from the module of the crate {crate}, whose functions are proved to meet their contracts. Nothing proves
  * the translation: it is tested, as docs/trust.md says. Do not edit it. The sources have this sum by SHA-256:
@@ -29,33 +32,50 @@ def read(path):
         return it.read()
 
 
-def translated(crate, text):
+def file_name(crate):
+    """The name of the C file of a crate."""
+    return HEADERS.get(crate, f"{crate}.h").replace(".h", ".c")
+
+
+def head(crate, what):
+    """The comment at the head of a C file, and what each C file begins with."""
+    told = HEAD.format(name=file_name(crate), what=what, version=version(TOP), crate=crate, sum=sum_of_sources(TOP, crate))
+    return told + read(f"{TOP}/tools/portable_c/prelude.h")
+
+
+def translated_library(crate, text):
     """The C file of a library, from the text of its optimized module."""
     header, headers = HEADERS[crate], [read(f"{TOP}/languages/c/{it}") for it in HEADERS.values()]
     module = Module(text)
     body = module.text()
     made = exports.exports(read(f"{TOP}/languages/c/{header}"), headers, module)
-    head = HEAD.format(name=header.replace(".h", ".c"), header=header, version=version(TOP), crate=crate, sum=sum_of_sources(TOP, crate))
-    return "\n".join([head + read(f"{TOP}/tools/portable_c/prelude.h"), body, f'#include "{header}"', "", made])
+    return "\n".join([head(crate, f"the functions of {header}"), body, f'#include "{header}"', "", made])
+
+
+def translated_program(crate, text):
+    """The C file of a program, from the text of its optimized module."""
+    return "\n".join([head(crate, f"the program {crate}"), read(f"{TOP}/tools/portable_c/runtime.h"), Module(text, OF_RUNTIME).text()])
 
 
 def c_file(top, crate):
-    """The C file of a library that is proved in the tree at `top`."""
+    """The C file of a crate, over the libraries that are proved in the tree at `top`."""
     with tempfile.TemporaryDirectory(prefix="portable-") as room:
         text, optimize = build.module_text(top, crate, room)
-        return translated(crate, optimize(exports.show_inner(text, crate)))
+        if crate in HEADERS:
+            return translated_library(crate, optimize(exports.show_inner(text, crate)))
+        return translated_program(crate, optimize(exports.show_start(text, crate)))
 
 
-def write(folder, crates=tuple(HEADERS)):
-    """Proves and builds these libraries, and writes their C files and headers into a folder, with the licences; the paths of all."""
+def write(folder, crates=(*HEADERS, PROGRAM)):
+    """Proves and builds these crates, and writes their C files into a folder, with the headers and the licences; the paths of all."""
     os.makedirs(folder, exist_ok=True)
     paths = []
     for crate in crates:
-        if not find_library(crate):
-            raise RuntimeError(f"lib{crate}.a is not there, and `rt lib` does not build it: it needs the Rattle kit")
-        with repository(crate, listed_crates()) as top:
+        with proved_repository(crate, listed_crates()) as top:
+            if not top:
+                raise RuntimeError(f"not all libraries below {crate} are proved")
             made = c_file(top, crate)
-        paths.append(f"{folder}/{HEADERS[crate].replace('.h', '.c')}")
+        paths.append(f"{folder}/{file_name(crate)}")
         with open(paths[-1], "w", encoding="utf-8") as it:
             it.write(made)
-    return paths + [shutil.copy(f"{TOP}/{it}", folder) for it in (*(f"languages/c/{HEADERS[it]}" for it in crates), *LICENCES)]
+    return paths + [shutil.copy(f"{TOP}/{it}", folder) for it in (*(f"languages/c/{HEADERS[it]}" for it in crates if it in HEADERS), *LICENCES)]

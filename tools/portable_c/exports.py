@@ -1,4 +1,4 @@
-"""The functions of a header, over those of the module."""
+"""What others call: the functions of a header over those of the module, and the start of a program."""
 import re
 
 from .instructions import type_name
@@ -8,6 +8,8 @@ STRUCT = re.compile(r"typedef struct \w*\s*\{(.*?)\} (\w+);", re.S)
 PROTOTYPE = re.compile(r"^(\w+)\s+(calendar_\w+)\(([^)]*)\);", re.M)
 # What a function of the module has in front of its own name, where the header has the name alone.
 INNER = "in_"
+# The start of a program, which runtime.h calls.
+START = "program"
 
 
 def without_comments(text):
@@ -37,6 +39,13 @@ def show_inner(text, crate):
     own = rf'@"{crate}::(?:\w+::)+(calendar_\w+)"'
     text = re.sub(rf"^define internal ([^\n]*?){own}", rf"define \1@{INNER}\2", text, flags=re.M)
     return re.sub(own, rf"@{INNER}\1", text)
+
+
+def show_start(text, crate):
+    """The module in which the crate's own start stands open as program, without what prepares one machine for it."""
+    text = re.sub(r"^define [^\n]*@main\([^\n]*\{\n.*?^\}\n", "", text, flags=re.M | re.S)
+    own = f'@"{crate}::main+start"'
+    return text.replace(f"define internal noundef i32 {own}", f"define noundef i32 {own}").replace(own, f"@{START}")
 
 
 def passed(kind, name, structs, types):

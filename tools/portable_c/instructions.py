@@ -50,6 +50,49 @@ def part(text, type, index):
     return f"{text}.f{index}" if type.kind == "struct" else f"{text}.f[{index}]"
 
 
+def widened(text, type, to):
+    """A number without sign as one of more bits."""
+    if to.is_wide:
+        return text if type.is_wide else f"wide_of(0, {text})"
+    return f"({type_name(to)}){text}"
+
+
+def widened_with_sign(text, type, to):
+    if to.is_wide:
+        return cut(signed_wide(text, type) if type.is_wide else f"WIDE_OF_SIGNED({signed(text, type)})", to)
+    return cut(f"({type_name(to)}){signed(text, type)}", to)
+
+
+def narrowed(text, type, to):
+    return cut(f"wide_low({text})" if type.is_wide and not to.is_wide else text, to)
+
+
+def address_as_number(text, _, to):
+    return cut(f"(uintptr_t){text}", to)
+
+
+def number_as_address(text, *_):
+    return f"(bytes)(uintptr_t){text}"
+
+
+# The instructions that change the type of a number or of an address, and how.
+CONVERSIONS = {
+    "zext": widened,
+    "sext": widened_with_sign,
+    "trunc": narrowed,
+    "ptrtoint": address_as_number,
+    "ptrtoaddr": address_as_number,
+    "inttoptr": number_as_address,
+}
+
+
+class Same(str):
+    """A number that is each part of a vector: the index of a part behind it changes nothing. C refuses it as a whole vector."""
+
+    def __add__(self, index):
+        return str(self)
+
+
 class Instructions:
     """The instructions of one function. A method reads the words behind its name, and returns lines of C; `into` is the value that it gives."""
 
@@ -69,6 +112,11 @@ class Instructions:
             return str(int(word == "true"))
         if word in ("null", "undef", "poison", "zeroinitializer"):
             return self.nothing(type)
+        if word == "splat":
+            words.expect("(")
+            _, text = self.value(words)
+            words.expect(")")
+            return Same(text)
         if word == "getelementptr":
             words.open()
             return self.address(words, ")")
@@ -98,6 +146,14 @@ class Instructions:
         type = words.type()
         words.attributes()
         return type, self.operand(words, type)
+
+    def values(self, words, count):
+        """Reads types and values with commas between them."""
+        found = [self.value(words)]
+        while len(found) < count:
+            words.expect(",")
+            found.append(self.value(words))
+        return found
 
     def pair(self, words):
         """Reads a type, and two values of it."""
@@ -153,13 +209,9 @@ class Instructions:
 
     def select(self, into, words):
         words.attributes()
-        condition, test = self.value(words)
-        words.expect(",")
-        type, a = self.value(words)
-        words.expect(",")
-        _, b = self.value(words)
+        (condition, test), (type, a), (_, b) = self.values(words, 3)
         if condition.kind == "vector":
-            return self.each(self.function.local(into, type), type, lambda at: f"{test}{at} ? {a}{at} : {b}{at}")
+            return self.each(self.function.local(into, type), type, lambda at: f"{test + at} ? {a + at} : {b + at}")
         return [f"{self.function.local(into, type)} = {test} ? {a} : {b};"]
 
     # ---- numbers and pointers of other types
@@ -170,34 +222,7 @@ class Instructions:
         words.expect("to")
         to = words.type()
         of, target = (it.parts[0] if it.kind == "vector" else it for it in (type, to))
-        return self.each(self.function.local(into, to), to, lambda at: make(of, target, text + at))
-
-    def zext(self, into, words):
-        def make(type, to, text):
-            if to.is_wide:
-                return text if type.is_wide else f"wide_of(0, {text})"
-            return f"({type_name(to)}){text}"
-
-        return self.changed(into, words, make)
-
-    def sext(self, into, words):
-        def make(type, to, text):
-            if to.is_wide:
-                return cut(signed_wide(text, type) if type.is_wide else f"WIDE_OF_SIGNED({signed(text, type)})", to)
-            return cut(f"({type_name(to)}){signed(text, type)}", to)
-
-        return self.changed(into, words, make)
-
-    def trunc(self, into, words):
-        return self.changed(into, words, lambda type, to, text: cut(f"wide_low({text})" if type.is_wide and not to.is_wide else text, to))
-
-    def ptrtoint(self, into, words):
-        return self.changed(into, words, lambda type, to, text: cut(f"(uintptr_t){text}", to))
-
-    ptrtoaddr = ptrtoint
-
-    def inttoptr(self, into, words):
-        return self.changed(into, words, lambda type, to, text: f"(bytes)(uintptr_t){text}")
+        return self.each(self.function.local(into, to), to, lambda at: make(text + at, of, target))
 
     def bitcast(self, into, words):
         """Of a vector of bits the number that they make; of all else the same bytes."""
@@ -263,9 +288,7 @@ class Instructions:
 
     def store(self, into, words):
         words.take("volatile")
-        type, text = self.value(words)
-        words.expect(",")
-        _, address = self.value(words)
+        (type, text), (_, address) = self.values(words, 2)
         if not type.is_many:
             return [f"STORE({type_name(type)}, {address}, {text});"]
         members = [f"STORE({type_name(it)}, {address} + {type.offset(at)}, {part('many_', type, at)});" for at, it in enumerate(type.members)]
@@ -281,9 +304,7 @@ class Instructions:
         return [f"{self.function.local(into, type)} = {text};"]
 
     def insertvalue(self, into, words):
-        type, text = self.value(words)
-        words.expect(",")
-        _, new = self.value(words)
+        (type, text), (_, new) = self.values(words, 2)
         name, at, inner = self.function.local(into, type), "", type
         while words.take(","):
             index = int(words.next())
@@ -291,26 +312,18 @@ class Instructions:
         return [f"{name} = {text};", f"{name}{at} = {new};"]
 
     def extractelement(self, into, words):
-        type, text = self.value(words)
-        words.expect(",")
-        _, at = self.value(words)
+        (type, text), (_, at) = self.values(words, 2)
         return [f"{self.function.local(into, type.parts[0])} = {text}.f[{at}];"]
 
     def insertelement(self, into, words):
-        type, text = self.value(words)
-        words.expect(",")
-        _, new = self.value(words)
-        words.expect(",")
-        _, at = self.value(words)
+        (type, text), (_, new), (_, at) = self.values(words, 3)
         name = self.function.local(into, type)
         return [f"{name} = {text};", f"{name}.f[{at}] = {new};"]
 
     def shufflevector(self, into, words):
-        type, a = self.value(words)
+        (type, a), (_, b) = self.values(words, 2)
         words.expect(",")
-        _, b = self.value(words)
-        words.expect(",")
-        places, name = words.type(), None
+        places = words.type()
         made = type.__class__("vector", places.count, type.parts)
         name, count = self.function.local(into, made), type.count
         if words.peek() in ("zeroinitializer", "poison"):
@@ -384,14 +397,16 @@ class Instructions:
         word = words.next()
         if word in (*OPERATORS, *OF_SIGNED, *SHIFTS):
             return self.two(into, words, word)
+        if word in CONVERSIONS:
+            return self.changed(into, words, CONVERSIONS[word])
         if word not in INSTRUCTIONS:
             raise ValueError(f"an unknown instruction: {text}")
         return getattr(self, word)(into, words)
 
 
 # The instructions that have a method of their name.
-INSTRUCTIONS = """alloca bitcast br call extractelement extractvalue freeze getelementptr icmp insertelement insertvalue inttoptr load ptrtoaddr ptrtoint ret select
-    sext shufflevector store switch trunc unreachable zext""".split()
+INSTRUCTIONS = """alloca bitcast br call extractelement extractvalue freeze getelementptr icmp insertelement insertvalue load ret select shufflevector store switch
+    unreachable""".split()
 
 
 def loaded(name, type, address):

@@ -53,7 +53,7 @@ class Intrinsics:
         of = type.parts[0] if type.kind == "vector" else type
         name = self.function.local(into, type)
         ats = [f".f[{it}]" for it in range(type.count)] if type.kind == "vector" else [""]
-        return [f"{name}{at} = {compared(code, of, a + at, b + at)} ? {a}{at} : {b}{at};" for at in ats]
+        return [f"{name}{at} = {compared(code, of, a + at, b + at)} ? {a + at} : {b + at};" for at in ats]
 
     def of_abs(self, into, type, a, _):
         if type.is_wide:

@@ -14,12 +14,11 @@ WORDS_OF_C = """auto break case char const continue default do double else enum 
 
 
 class Module:
-    """A module as text, and the names that its functions and tables have in C."""
+    """A module as text, and the names of its functions and tables in C. `given` has those of what stands outside or is called there."""
 
-    def __init__(self, text, of_c=()):
-        self.taken, self.names, self.called = {*WORDS_OF_C, *OF_C.values()}, dict(OF_C), set()
-        self.names |= {it: it for it in of_c}
-        self.taken |= {*of_c}
+    def __init__(self, text, given=()):
+        self.given = {**OF_C, **dict(given)}
+        self.taken, self.names, self.called = {*WORDS_OF_C, *self.given.values()}, dict(self.given), set()
         # (the values of tables are read as those of a function are)
         self.module, self.instructions = self, Instructions(self)
         self.tables, self.functions = [], []
@@ -61,8 +60,8 @@ class Module:
         used = [(type, line) for type, line, name in made if any(re.search(rf"\b{name}\b", it) for it in bodies + [other for _, other, _ in made if other != line])]
         types = [type for it in self.functions for type in (*it.types.values(), it.result, *(type for _, type in it.parameters))]
         declared = constants.declarations([*types, *(type for type, _ in used)])
-        known = {it.raw[1:].strip('"') for it in self.functions} | {re.match(r'@"?([^" ]+)', it)[1] for it in self.tables} | {*OF_C}
-        lacking = {it for it in self.called if it not in known and it not in self.names.values()}
+        known = {it.raw[1:].strip('"') for it in self.functions} | {re.match(r'@"?([^" ]+)', it)[1] for it in self.tables} | {*self.given}
+        lacking = self.called - known
         if lacking:
             raise ValueError(f"called, and in no module: {' '.join(sorted(lacking))}")
         used.sort(key=lambda it: "(bytes)&" in it[1])

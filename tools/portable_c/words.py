@@ -5,7 +5,7 @@ from .types import POINTER, VOID, Type, number
 
 WORD = re.compile(r'[%@]"[^"]*"|c"[^"]*"|"[^"]*"|[%@][\w.$-]+|-?\d+\b|[A-Za-z_][\w.]*|![\w.]*|#\d+|\S')
 # Words that begin a value. All other words in front of a value are attributes, which change no answer.
-VALUES = {"true", "false", "null", "undef", "poison", "zeroinitializer", "getelementptr", "inttoptr", "ptrtoint", "ptrtoaddr", "add", "sub", "xor"}
+VALUES = {"true", "false", "null", "undef", "poison", "zeroinitializer", "splat", "getelementptr", "inttoptr", "ptrtoint", "ptrtoaddr", "add", "sub", "xor"}
 TYPES = re.compile(r"i\d+|ptr|void")
 PAIRS = {"(": ")", "[": "]", "{": "}", "<": ">"}
 
