@@ -76,6 +76,7 @@ PLACES = [
 MADE = [
     *(place._replace(path=place.path.replace("languages/c", "amalgamation")) for place in PLACES if place.path.startswith("languages/c/")),
     *(Place(f"amalgamation/{name}.c", rf"the functions of {name}\.h (.*), for", as_it_is) for name in ("calendar", "calendar_layers")),
+    Place("amalgamation/caltool.c", r"the program caltool (.*), for", as_it_is),
 ]
 # Files in which a version is no place: those with a version of their own, with past ones or with examples, what pip leaves, and the
 # reference, which is compared with the sources.
