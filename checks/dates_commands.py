@@ -1240,6 +1240,7 @@ EXPECTED = {
     "amount": "a number from 1 on, of 18 digits at most",
     "sheet": "a month as 2024-02, a year as 2024 or a day as 2024-02-29",
 }
+EXPECTED["month"] = EXPECTED["day"]
 EXPECTED["convention"] = "following, preceding, modified-following, modified-preceding, nearest or unadjusted"
 NO_WORDS = ("x", "soon", "2024-2-29", "1e3", "0x10", "é", "２０２４", "a b", "%", "-", "2024-02-29T4:00")
 NO_SCHEDULES = ("61 * * * *", "* * * *", "* * * * * *", "@dayly", "0 0 * * mom", "*/0 * * * *", "5-1 * * * *", "5/2 * * * *", ", * * * *", "", "0 0 32 * *", "x * * * *")

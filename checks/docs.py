@@ -603,7 +603,7 @@ PLANTED = [
     (version, TUTORIAL, "# ", f"# Version {packages.version(TOP)}: "),
     (pasted, README, "| tools/prove caltool", "| tools/proved caltool"),
     (pasted, README, "`2025-02-28`", "`2025-02-27`"),
-    (pasted, README, "# 2024-02-29 738945 Thu 2024-W09 60 ", "# 2024-02-29 738946 Thu 2024-W09 60 "),
+    (pasted, README, "tools/prove caltool    # 2024-02-29 738945", "tools/prove caltool    # 2024-02-29 738946"),
     (pasted, CALTOOL, "| `2025-01-01 739252 ", "| `2025-01-01 739253 "),
     (pasted, TUTORIAL, "fn my_invoices::due: proved", "fn my_invoices::due: refused"),
 ]

@@ -38,6 +38,7 @@ RUN = {
 # Of the README, what other checks run, or what cannot be run here.
 ELSEWHERE = {
     "./check": "it runs this check",
+    r"cc -O2 amalgamation/caltool.c -o caltool && printf 'ymd 1900 2 29\nymd 2024 2 29\n' | ./caltool": "checks/without_kit.py",
     "tools/setup": "`.ci/run` runs it",
     "tools/dist": "its parts are made and used by checks/languages.py and checks/javascript.py",
     "(cd dist && sha256sum --check SHA256SUMS)": "dist/ is left by tools/dist",
