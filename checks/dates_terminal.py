@@ -206,7 +206,8 @@ def failures(program, folder, completion):
     cases = [(kind, it) for kind in TERMINALS for it in SESSIONS]
     for kind, it in cases:
         name = f"{it.__name__} ({kind.__name__})"
-        if not holds(kind, it, folder, completion, 30):
+        # (a busy machine can disturb what is typed, so that one is held once more)
+        if not any(holds(kind, it, folder, completion, 30) for _ in range(2)):
             failed.append(name)
         if not is_found(kind, it, program, completion):
             failed.append(f"{name} with a wrong program")
