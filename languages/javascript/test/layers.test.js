@@ -534,6 +534,11 @@ test("parse_date_time", () => {
   assert.throws(() => new Pattern("%F").parseDateTime("2024-03-01"), wrongFrom(0, 10, "byte 0: the fields do not suffice for the value"));
 });
 
+test("pattern_names_offset", () => {
+  assert.throws(() => new Pattern("%F %R %z").parseDateTime("2024-03-01 13:00 +0530"), { name: "RangeError", message: /^"%F %R %z": it reads an offset/ });
+  assert.equal(`${new Pattern("%F %R %Z").parseDateTime("2024-03-01 13:00 CET")}`, "2024-03-01T13:00:00");
+});
+
 test("parse_zoned", () => {
   for (const [by, text, wanted] of [
     ["%F %R %z", "2024-03-01 13:00 +0530", "2024-03-01T13:00:00+05:30"], ["%FT%T%.f%:z", "2024-02-29T12:00:00.5-09:30", "2024-02-29T12:00:00.5-09:30"],
@@ -546,8 +551,6 @@ test("parse_zoned", () => {
   assert.equal(new Pattern("%F %T %::z").parseZonedDateTime("2024-03-01 13:00:00 -01:00:30").offsetNanoseconds, -3_630e9);
   // (an instant has no leap second)
   assert.equal(new Pattern("%F %T %z").parseZonedDateTime("2024-02-29 23:59:60 +0000").epochNanoseconds, 1_709_251_199_000_000_000n);
-  assert.throws(() => new Pattern("%F %R %z").parseDateTime("2024-03-01 13:00 +0530"), { name: "RangeError", message: /^"%F %R %z": it reads an offset/ });
-  assert.equal(`${new Pattern("%F %R %Z").parseDateTime("2024-03-01 13:00 CET")}`, "2024-03-01T13:00:00");
   assert.throws(() => new Pattern("%F %R %z").parseZonedDateTime("2024-03-01 13:00"), wrongFrom(16, 16, "byte 16: the text ends too soon"));
   assert.throws(() => new Pattern("%F %R").parseZonedDateTime("2024-03-01 13:00"), wrongFrom(0, 16, "byte 0: the fields do not suffice for the value"));
 });
