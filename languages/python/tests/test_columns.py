@@ -366,6 +366,11 @@ class OpenDays(Columns):
         self.assertEqual(columns.open_days_between(year, ends, years).tolist(), columns.open_days_between(year, ends, CALENDAR).tolist())
         for wrong in ("2023-12-31", "2025-01-02"):
             self.assertRaises(ValueError, columns.open_days_between, year, numpy.datetime64(wrong), years)
+        # (31 December 2022 is a Saturday; behind it a day of 2023 is as near as the Friday before it)
+        saturday = numpy.array(["2022-12-31"], "M8[D]")
+        one, two = (BusinessCalendar(first_year=2022, last_year=it) for it in (2022, 2023))
+        self.assertRaises(ValueError, columns.roll, saturday, "nearest_quantlib", one)
+        self.assertEqual(columns.roll(saturday, "nearest_quantlib", two).astype(str).tolist(), ["2022-12-30"])
 
     def test_wrong(self):
         days = numpy.array(["2024-03-28"], "M8[D]")
