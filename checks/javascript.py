@@ -127,7 +127,8 @@ ZONED = (
     ("Africa/Casablanca", "Africa/Casablanca", "30 2 * * *", "2024-04-12T12:00", 7, "02:30 on Sunday 14 April 2024"),
     ("Africa/Casablanca", "Africa/Casablanca", "30 2 20,29 4,8 *", "2012-04-01T00:00", 390,
      "02:30 on Sunday 29 April 2012, and a time on 1 more day"),
-    ("Pacific/Apia", "Pacific/Apia", "0 12 * * *", "2011-12-28T00:00", 8, "12:00 on Friday 30 December 2011"),
+    # (a gap of three hours or more is a correction of the clock, which nothing catches up)
+    ("Pacific/Apia", "Pacific/Apia", "0 12 * * *", "2011-12-28T00:00", 8, ""),
     ("Europe/Moscow", "Europe/Moscow", "30 2 * * 0", "2010-03-14T00:00", 50, "02:30 on Sunday 28 March 2010"),
     ("America/Sao_Paulo", "America/Sao_Paulo", "59 23 * * *", "2018-02-15T12:00", 7, ""),
 )

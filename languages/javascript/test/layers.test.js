@@ -200,7 +200,9 @@ test("holidays_of", () => {
   assert.deepEqual(["2026-05-06", "2026-09-22", "2026-12-31", "2027-03-22"].map((it) => japan.isOpen(it)), [false, false, false, false]);
   const sundays = BusinessCalendar.of("target", 2022, 2022, { weekend: [7] });
   assert.deepEqual([sundays.weekend, sundays.isOpen("2022-01-01"), sundays.isOpen("2022-01-08")], [[7], false, true]);
-  for (const [name, first, last] of [["target", 300_000, 300_000], ["target", 2 ** 32 + 2024, 2 ** 32 + 2024], ["target", 2_000, 2_400], ["euro", 2024, 2024]]) {
+  for (const [name, first, last] of [
+    ["target", 300_000, 300_000], ["target", 2 ** 32 + 2024, 2 ** 32 + 2024], ["target", 2024 - 2 ** 32, 2024], ["target", 2_000, 2_400], ["euro", 2024, 2024],
+  ]) {
     refused(() => BusinessCalendar.of(name, first, last));
   }
   // (years before the rules begin)
