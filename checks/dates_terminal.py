@@ -53,8 +53,9 @@ class PseudoTerminal(Terminal):
         self.shown = ""
         self.process, self.line = pty.fork()
         if not self.process:
-            # (Python ignores a pipe that is closed, and so would all that it starts)
-            signal.signal(signal.SIGPIPE, signal.SIG_DFL)
+            # (Python ignores a pipe that is closed, and what a shell starts beside it ignores the interrupt; and so would all that this starts)
+            for it in (signal.SIGPIPE, signal.SIGINT):
+                signal.signal(it, signal.SIG_DFL)
             os.environ.update(surroundings(folder), TERM="dumb")
             os.execvp(BASH[0], BASH)
 
@@ -206,8 +207,7 @@ def failures(program, folder, completion):
     cases = [(kind, it) for kind in TERMINALS for it in SESSIONS]
     for kind, it in cases:
         name = f"{it.__name__} ({kind.__name__})"
-        # (a busy machine can disturb what is typed, so that one is held once more)
-        if not any(holds(kind, it, folder, completion, 30) for _ in range(2)):
+        if not holds(kind, it, folder, completion, 30):
             failed.append(name)
         if not is_found(kind, it, program, completion):
             failed.append(f"{name} with a wrong program")
