@@ -1,8 +1,7 @@
 """What others call: the functions of a header over those of the module, and the start of a program."""
 import re
 
-from .instructions import type_name
-from .types import POINTER, VOID
+from .reading import POINTER, VOID
 
 STRUCT = re.compile(r"typedef struct \w*\s*\{(.*?)\} (\w+);", re.S)
 PROTOTYPE = re.compile(r"^(\w+)\s+(calendar_\w+)\(([^)]*)\);", re.M)
@@ -54,16 +53,16 @@ def passed(kind, name, structs, types):
         types.pop(0)
         return [f"(bytes){name}"]
     if kind not in structs:
-        return [f"({type_name(types.pop(0))}){name}"]
+        return [f"({types.pop(0).name}){name}"]
     if types[0] == POINTER:
         types.pop(0)
         return [f"(bytes)&{name}"]
-    return [f"({type_name(types.pop(0))}){name}.{field}" for _, field, _ in structs[kind]]
+    return [f"({types.pop(0).name}){name}.{field}" for _, field, _ in structs[kind]]
 
 
 def export(result, name, listed, given, structs, function):
     """A function of the header over that of the module."""
-    types, values, before = [type for _, type in function.parameters], [], []
+    types, values, before = [type for type, _ in function.parameters], [], []
     by_pointer = result != "void" and function.result == VOID
     if by_pointer:
         types.pop(0)
@@ -79,7 +78,7 @@ def export(result, name, listed, given, structs, function):
         before = [f"{result} result;", f"{call};", "return result;"]
     elif function.result.is_many:
         sets = [f"result.{field} = ({kind.strip()})made.f{at};" for at, (kind, field, _) in enumerate(structs[result])]
-        before = [f"{type_name(function.result)} made = {call};", f"{result} result;", *sets, "return result;"]
+        before = [f"{function.result.name} made = {call};", f"{result} result;", *sets, "return result;"]
     else:
         before = [f"return ({result}){call};"]
     return "\n".join([f"{result} {name}({listed})", "{", *(f"    {it}" for it in before), "}", ""])
