@@ -5,7 +5,7 @@ import re
 from .instructions import Instructions
 from .reading import Words
 
-# A label and what stands behind it, the value that a line sets, and each name of a value.
+# A label and what stands behind it, a line that sets a value, and the name of a value.
 LABEL = re.compile(r'^("[^"]*"|[\w.$-]+):.*$', re.M)
 SET = re.compile(r'(%"[^"]*"|%[\w.$-]+) = (.*)')
 NAME = re.compile(r'%"[^"]*"|%[\w.$-]+')
@@ -34,11 +34,10 @@ class Function(Instructions):
         words.expect("(")
         self.parameters = words.list(")", lambda: (words.type(), words.next()))
         _, *found = LABEL.split(body if LABEL.match(body) else f"entry:\n{body}")
-        self.blocks = [("%" + label, [it.strip() for it in text.split("\n") if it.strip()]) for label, text in zip(found[::2], found[1::2])]
+        lines = [[it.strip() for it in text.split("\n") if it.strip()] for text in found[1::2]]
+        self.blocks = [(f"%{label}", of) for label, of in zip(found[::2], lines)]
         self.uses = collections.Counter(NAME.findall(body))
-        self.names, self.labels, self.taken, self.types, self.rooms, self.targets = {}, {}, set(), {}, {}, set()
-
-    # ---- names
+        self.names, self.taken, self.types, self.rooms, self.targets = {}, set(), {}, {}, set()
 
     def name_of(self, raw):
         if raw not in self.names:
@@ -51,11 +50,6 @@ class Function(Instructions):
         self.types[name] = type
         return name
 
-    def label(self, raw):
-        if raw not in self.labels:
-            self.labels[raw] = identifier("at_" + raw, self.taken, self.module.taken)
-        return self.labels[raw]
-
     def is_used(self, raw):
         """Whether a value stands anywhere but where it is set."""
         return self.uses[raw] > 1
@@ -63,62 +57,59 @@ class Function(Instructions):
     def many(self, type, inside):
         return f"({type.name}){{{inside}}}"
 
-    # ---- from block to block
-
-    def incoming_of(self, lines):
-        """The values that a block takes from those before it: for each its name, its type, and its text by the label from which the block is reached."""
-        found = []
+    def phis(self, lines):
+        """What a block takes from those before it: names, types, and for each of those the value by its label."""
         for raw, text in (it.groups() for it in map(SET.match, lines) if it):
             words = Words(text)
-            if not words.take("phi"):
-                continue
-            type, values = words.type(), {}
-            while words.take("["):
-                value = self.operand(words, type)
-                words.expect(",")
-                values[words.next()] = value
-                words.expect("]")
-                words.take(",")
-            found.append((self.local(raw, type), type, values))
-        return found
+            if words.take("phi"):
+                type, values = words.type(), {}
+                while words.take("["):
+                    value = self.operand(words, type)
+                    words.expect(",")
+                    values[words.next()] = value
+                    words.expect("]")
+                    words.take(",")
+                yield self.local(raw, type), type, values
 
     def jump(self, target):
         """Sets what the block takes from this one, all at once, and goes on there."""
         self.targets.add(target)
-        sets = [(name, type, values[self.here]) for name, type, values in self.incoming[target] if values[self.here] != name]
-        names = [name for name, _, _ in sets]
-        if any(re.search(rf"\b{name}\b", value) for at, (_, _, value) in enumerate(sets) for name in names[:at]):
-            lines = [f"{type.name} new_{name} = {value};" for name, type, value in sets] + [f"{name} = new_{name};" for name in names]
+        sets = [(name, type, values[self.here]) for name, type, values in self.incoming[target]]
+        sets = [(name, type, value) for name, type, value in sets if value != name]
+        names, goto = [name for name, _, _ in sets], f"goto {self.name_of(f'at_{target}')};"
+        if any(re.search(rf"\b{name}\b", it[2]) for at, it in enumerate(sets) for name in names[:at]):
+            lines = [f"{type.name} new_{name} = {value};" for name, type, value in sets]
+            lines += [f"{name} = new_{name};" for name in names]
         else:
             lines = [f"{name} = {value};" for name, _, value in sets]
-        return ["{", *lines, f"goto {self.label(target)};", "}"] if lines else [f"goto {self.label(target)};"]
-
-    # ---- the whole
+        return ["{", *lines, goto, "}"] if lines else [goto]
 
     def translate(self):
         """Writes the lines of each block. What they call gets its name in the module."""
         for _, raw in self.parameters:
             self.name_of(raw)
-        self.incoming = {label: self.incoming_of(lines) for label, lines in self.blocks}
+        self.incoming = {label: list(self.phis(lines)) for label, lines in self.blocks}
         self.written = []
         for self.here, lines in self.blocks:
             pairs = [it.groups() if (it := SET.match(line)) else (None, line) for line in lines]
-            self.written.append((self.here, [it for into, text in pairs if not text.startswith("phi ") for it in self.lines_of(into, text)]))
+            made = [self.lines_of(into, text) for into, text in pairs if not text.startswith("phi ")]
+            self.written.append((self.here, [line for lines in made for line in lines]))
 
     def head(self):
         given = ", ".join(f"{type.name} {self.name_of(raw)}" for type, raw in self.parameters) or "void"
         return f"static {self.result.name} {self.module.callee(self.raw)}({given})"
 
     def text(self):
-        by_type = collections.defaultdict(list)
+        """The function as C, without the blocks to which nothing goes."""
+        by_type, body = collections.defaultdict(list), []
         for name, type in self.types.items():
             by_type[type.name].append(name)
+        for at, (label, written) in enumerate(self.written):
+            is_target = label in self.targets
+            body += [f"{self.name_of(f'at_{label}')}:;"] * is_target + written * (is_target or at == 0)
         lines = [f"{kind} {', '.join(names)};" for kind, names in by_type.items()]
         lines += [f"uint64_t room_{name}[{count}];" for name, count in self.rooms.items()]
-        body = []
-        for at, (label, written) in enumerate(self.written):
-            body += [f"{self.label(label)}:;"] if label in self.targets else []
-            body += written if at == 0 or label in self.targets else []
         read = set(re.findall(r"\w+", re.sub(r"\b\w+ = ", "", "\n".join(body))))
-        lines += [f"(void){it};" for it in (*(self.name_of(raw) for _, raw in self.parameters), *self.types) if it not in read]
+        names = [*(self.name_of(raw) for _, raw in self.parameters), *self.types]
+        lines += [f"(void){it};" for it in names if it not in read]
         return "\n".join([self.head(), "{", *(f"    {it}" for it in [*lines, *body]), "}", ""])

@@ -1,35 +1,40 @@
-"""Each instruction of LLVM as C: a row of a table here, or the method `write_` and its name. A module with any other is refused."""
+"""Each instruction of LLVM as C: a row of a table here, or the method `write_` and its name. Any other stops it."""
+import functools
 import re
 
 from .reading import BIT, POINTER, VOID, Type, Words
 from .values import Values, compared, cut, literal, part, places, risen, signed
 
-# The instructions of two numbers: what C writes between them, and how it takes each.
+# The instructions of two numbers: how C takes the first, what it writes between them, and how it takes the second.
 SUMS = {
-    "add": (risen, "+", risen), "sub": (risen, "-", risen), "mul": (risen, "*", risen), "udiv": (risen, "/", risen), "urem": (risen, "%", risen),
-    "and": (risen, "&", risen), "or": (risen, "|", risen), "xor": (risen, "^", risen), "sdiv": (signed, "/", signed), "srem": (signed, "%", signed),
+    "add": (risen, "+", risen), "sub": (risen, "-", risen), "mul": (risen, "*", risen),
+    "udiv": (risen, "/", risen), "urem": (risen, "%", risen),
+    "sdiv": (signed, "/", signed), "srem": (signed, "%", signed),
+    "and": (risen, "&", risen), "or": (risen, "|", risen), "xor": (risen, "^", risen),
     "shl": (risen, "<<", places), "lshr": (risen, ">>", places), "ashr": (signed, ">>", places),
 }
 
 
 def joined(text, type, to):
     """The number that the bits of a vector make."""
-    if type.scalar != BIT:
+    if type.kind != "vector" or type.parts[0] != BIT:
         raise ValueError(f"a bitcast of {type.key}")
     return f"({to.name})({' | '.join(f'({to.name}){text}.f[{it}] << {it}' for it in range(type.count))})"
 
 
-# The instructions that change the type of a number or of an address: the expression of a text, of its type and of the new one.
+# The instructions that give a value another type: the expression of the value, of its type and of the new one.
 CHANGES = {
-    "zext": lambda text, type, to: f"wide_of(0, {text})" if to.is_wide else f"({to.name}){text}",
-    "sext": lambda text, type, to: f"WIDE_OF_SIGNED({signed(text, type)})" if to.is_wide else cut(f"({to.name}){signed(text, type)}", to),
-    "trunc": lambda text, type, to: cut(f"wide_low({text})" if type.is_wide else text, to),
-    "ptrtoint": lambda text, type, to: cut(f"(uintptr_t){text}", to),
-    "ptrtoaddr": lambda text, type, to: cut(f"(uintptr_t){text}", to),
+    "zext": lambda a, type, to: f"wide_of(0, {a})" if to.is_wide else f"({to.name}){a}",
+    "sext": lambda a, type, to: (
+        f"WIDE_OF_SIGNED({signed(a, type)})" if to.is_wide else cut(f"({to.name}){signed(a, type)}", to)
+    ),
+    "trunc": lambda a, type, to: cut(f"wide_low({a})" if type.is_wide else a, to),
     "bitcast": joined,
-    "inttoptr": lambda text, type, to: f"(bytes)(uintptr_t){text}",
+    "ptrtoint": lambda a, type, to: cut(f"(uintptr_t){a}", to),
+    "ptrtoaddr": lambda a, type, to: cut(f"(uintptr_t){a}", to),
+    "inttoptr": lambda a, type, to: f"(bytes)(uintptr_t){a}",
 }
-# The functions of LLVM that give a number: the expression of its type and of what they are given.
+# The functions of LLVM that give a number of at most 64 bits: the expression of its type and of what they are given.
 ANSWERS = {
     "umin": lambda type, a, b: f"{compared('ult', type, a, b)} ? {a} : {b}",
     "umax": lambda type, a, b: f"{compared('ugt', type, a, b)} ? {a} : {b}",
@@ -38,24 +43,41 @@ ANSWERS = {
     "abs": lambda type, a, _: f"{signed(a, type)} < 0 ? {cut(f'0u - {a}', type)} : {a}",
     "ctlz": lambda type, a, _: cut(f"{a} ? LEADING({a}) - {64 - type.count}u : {type.count}u", type),
     "cttz": lambda type, a, _: cut(f"{a} ? TRAILING({a}) : {type.count}u", type),
-    "bswap": lambda type, a: cut(" | ".join(f"((uint64_t){a} >> {it} & 255u) << {type.count - 8 - it}" for it in range(0, type.count, 8)), type),
+    "bswap": lambda type, a: cut(
+        " | ".join(f"((uint64_t){a} >> {it} & 255u) << {type.count - 8 - it}" for it in range(0, type.count, 8)), type
+    ),
     "usub.sat": lambda type, a, b: f"{compared('ugt', type, a, b)} ? {cut(f'{a} - {b}', type)} : {literal(0, type)}",
 }
-# The functions of LLVM that give nothing: the statement of what they are given.
-STATEMENTS = {"memcpy": "memcpy({}, {}, {});", "memmove": "memmove({}, {}, {});", "memset": "memset({}, {}, {});", "trap": "TRAP();"}
-# Those that change no answer.
-SILENT = ("lifetime.start", "lifetime.end", "assume")
+# The functions of LLVM that give nothing: the statement of what they are given. Some change no answer.
+STATEMENTS = {
+    "lifetime.start": "", "lifetime.end": "", "assume": "", "trap": "TRAP();",
+    "memcpy": "memcpy({}, {}, {});", "memmove": "memmove({}, {}, {});", "memset": "memset({}, {}, {});",
+}
+
+
+def summed(word, type, a, b):
+    """The expression of an instruction of two numbers."""
+    first, sign, second = SUMS[word]
+    a, b = first(a, type), second(b, type)
+    return cut(f"wide_{word}({a}, {b})" if type.is_wide else f"{a} {sign} {b}", type)
 
 
 def loaded(name, type, address):
     """The lines that read a value, and cut what memory may have above its bits."""
-    return [f"LOAD({type.name}, {name}, {address});", *[f"{name} = {cut(name, type)};"] * (type.kind == "i" and type.count != type.width)]
+    if type.kind == "vector" and type.parts[0].count != type.parts[0].width:
+        raise ValueError(f"a vector in memory of parts of {type.parts[0].count} bits")
+    if type.parts:
+        of = [(part(name, type, it), type.part(it), f"{address} + {type.offset(it)}") for it in range(type.length)]
+        return [line for it in of for line in loaded(*it)]
+    lines = [f"LOAD({type.name}, {name}, {address});"]
+    return lines if type == POINTER or type.count == type.width else [*lines, f"{name} = {cut(name, type)};"]
 
 
 class Instructions(Values):
-    """The instructions of one function. A method reads the words behind its name, and returns lines of C; `into` is the value that it gives.
+    """The instructions of one function. A method reads the words behind its name, and gives the lines that set `into`.
 
-    The class below it says by `local` what a value is named, by `jump` how to go to a block, and by `is_used` what is asked for again.
+    A class over it says by `local` how a value is named that is set, by `jump` how to go to a block, and by `is_used`
+    whether a value is asked for.
     """
 
     def lines_of(self, into, text):
@@ -63,100 +85,81 @@ class Instructions(Values):
         words = Words(text)
         word = words.next()
         if word in SUMS:
-            return self.two(into, words, word)
-        if word in CHANGES:
-            return self.changed(into, words, CHANGES[word])
-        write = getattr(self, f"write_{word}", None)
-        if not write:
+            made = self.two(into, words, functools.partial(summed, word))
+        elif word in CHANGES:
+            made = self.changed(into, words, CHANGES[word])
+        elif hasattr(self, f"write_{word}"):
+            made = getattr(self, f"write_{word}")(into, words)
+        else:
             raise ValueError(f"an unknown instruction: {text}")
-        return write(into, words)
+        if words.peek() and word != "call":
+            raise ValueError(f"an unknown word {words.peek()!r}: {text}")
+        return made
 
-    # ---- numbers
+    def set(self, into, type, text):
+        return [f"{self.local(into, type)} = {text};"]
 
-    def each(self, into, type, make):
-        """Sets a value, or each part of a vector by an expression of its index."""
-        name = self.local(into, type)
+    def two(self, into, words, make, gives=None):
+        """An expression of two numbers, or of two vectors number by number, which gives their type or another."""
+        type, a = self.value(words)
+        words.expect(",")
+        b = self.operand(words, type)
         if type.kind != "vector":
-            return [f"{name} = {make('')};"]
-        return [f"{name}.f[{it}] = {make(f'.f[{it}]')};" for it in range(type.count)]
-
-    def two(self, into, words, word):
-        """An instruction of two numbers, or of two vectors number by number."""
-        type, a, b = self.pair(words)
-        first, sign, second = SUMS[word]
-
-        def make(at):
-            one, other = first(a + at, type.scalar), second(b + at, type.scalar)
-            return cut(f"wide_{word}({one}, {other})" if type.is_wide else f"{one} {sign} {other}", type.scalar)
-
-        return self.each(into, type, make)
+            return self.set(into, gives or type, make(type, a, b))
+        of = type.parts[0]
+        name = self.local(into, Type("vector", type.count, (gives or of,)))
+        return [f"{name}{at} = {make(of, a + at, b + at)};" for at in (f".f[{it}]" for it in range(type.count))]
 
     def write_icmp(self, into, words):
-        code = words.next()
-        type, a, b = self.pair(words)
-        bits = Type("vector", type.count, (BIT,)) if type.kind == "vector" else BIT
-        return self.each(into, bits, lambda at: compared(code, type.scalar, a + at, b + at))
+        return self.two(into, words, functools.partial(compared, words.next()), BIT)
 
     def changed(self, into, words, make):
-        """An instruction that changes the type of a value."""
+        """An instruction that gives a value another type."""
         type, text = self.value(words)
         words.expect("to")
         to = words.type()
-        return [f"{self.local(into, to)} = {make(text, type, to)};"]
+        return self.set(into, to, make(text, type, to))
 
     def write_select(self, into, words):
         (_, test), (type, a), (_, b) = self.values(words, 3)
-        return [f"{self.local(into, type)} = {test} ? {a} : {b};"]
+        return self.set(into, type, f"{test} ? {a} : {b}")
 
     def write_freeze(self, into, words):
-        type, text = self.value(words)
-        return [f"{self.local(into, type)} = {text};"]
-
-    # ---- memory
+        return self.set(into, *self.value(words))
 
     def write_getelementptr(self, into, words):
         return [f"{self.local(into, POINTER)} = {self.address(words)};"]
 
     def write_alloca(self, into, words):
-        name, size = self.local(into, POINTER), words.type().size
-        self.rooms[name] = max(1, -(-size // 8))
+        name = self.local(into, POINTER)
+        self.rooms[name] = max(1, -(-words.type().size // 8))
         return [f"{name} = (bytes)room_{name};"]
 
     def write_load(self, into, words):
         type = words.type()
         words.expect(",")
         _, address = self.value(words)
-        name = self.local(into, type)
-        if not type.is_many:
-            return loaded(name, type, address)
-        return [line for at, it in enumerate(type.members) for line in loaded(part(name, type, at), it, f"{address} + {type.offset(at)}")]
+        return loaded(self.local(into, type), type, address)
 
     def write_store(self, into, words):
         (type, text), (_, address) = self.values(words, 2)
-        if not type.is_many:
+        if not type.parts:
             return [f"STORE({type.name}, {address}, {text});"]
-        members = [f"STORE({it.name}, {address} + {type.offset(at)}, {part('many_', type, at)});" for at, it in enumerate(type.members)]
-        return [f"{{ {type.name} many_ = {text}; {' '.join(members)} }}"]
-
-    # ---- parts
+        of = [(type.part(it).name, type.offset(it), part("many_", type, it)) for it in range(type.length)]
+        stores = " ".join(f"STORE({name}, {address} + {at}, {it});" for name, at, it in of)
+        return [f"{{ {type.name} many_ = {text}; {stores} }}"]
 
     def write_extractvalue(self, into, words):
         type, text = self.value(words)
-        while words.take(","):
-            at = int(words.next())
-            text, type = part(text, type, at), type.members[at]
-        return [f"{self.local(into, type)} = {text};"]
+        words.expect(",")
+        at = int(words.next())
+        return self.set(into, type.part(at), part(text, type, at))
 
     def write_insertvalue(self, into, words):
         (type, text), (_, new) = self.values(words, 2)
         words.expect(",")
         name = self.local(into, type)
         return [f"{name} = {text};", f"{part(name, type, int(words.next()))} = {new};"]
-
-    # ---- where it goes on
-
-    def write_ret(self, into, words):
-        return ["return;"] if words.take("void") else [f"return {self.value(words)[1]};"]
 
     def target(self, words):
         """Reads a label; the lines that go there."""
@@ -175,46 +178,43 @@ class Instructions(Values):
     def write_switch(self, into, words):
         _, text = self.value(words)
         words.expect(",", "label")
-        other = words.next()
+        other, cases = words.next(), []
         words.expect("[")
-        cases = []
         while not words.take("]"):
             _, value = self.value(words)
             words.expect(",")
             cases.append(f"case {value}: {' '.join(self.target(words))}")
         return [f"switch ({text}) {{", *cases, f"default: {' '.join(self.jump(other))}", "}"]
 
+    def write_ret(self, into, words):
+        return ["return;"] if words.take("void") else [f"return {self.value(words)[1]};"]
+
     def write_unreachable(self, into, words):
         return ["UNREACHABLE();"]
 
     def write_call(self, into, words):
-        type = words.type()
-        callee = words.next()
+        type, callee = words.type(), words.next()
         words.expect("(")
         given = words.list(")", lambda: self.value(words))
         if callee.startswith("@llvm."):
-            return self.called_of_llvm(into, type, re.sub(r"(?:\.[ip]\d+)+$", "", callee.removeprefix("@llvm.")), given)
+            return self.called_of_llvm(into, type, re.sub(r"(?:\.[ip]\d+)+$", "", callee[6:]), given)
         text = f"{self.module.callee(callee)}({', '.join(it for _, it in given)})"
-        if type == VOID or not self.is_used(into):
-            return [f"{'(void)' if type != VOID else ''}{text};"]
-        return [f"{self.local(into, type)} = {text};"]
-
-    # ---- the functions of LLVM
+        if type != VOID and self.is_used(into):
+            return self.set(into, type, text)
+        return [f"{'(void)' if type != VOID else ''}{text};"]
 
     def called_of_llvm(self, into, type, name, given):
         """A call of one of LLVM's own functions."""
-        texts = [text for _, text in given]
-        if name in SILENT:
-            return []
+        of, texts = given[0][0] if given else VOID, [it for _, it in given]
         if name in STATEMENTS:
-            return [STATEMENTS[name].format(*texts)]
-        if name in ANSWERS and not type.is_wide:
-            return [f"{self.local(into, type)} = {ANSWERS[name](type, *texts)};"]
-        if name == "uadd.sat" and not type.is_wide:
-            made = self.local(into, type)
-            return [f"{made} = {cut(f'{texts[0]} + {texts[1]}', type)};", f"if ({made} < {texts[0]}) {made} = {literal(-1, type)};"]
-        if name == "sadd.with.overflow" and given[0][0].count <= 32:
-            made, of, (a, b) = self.local(into, type), given[0][0], (f"(int64_t){signed(text, of)}" for of, text in given)
-            sets = f"{made}.f0 = {cut('sum_', of)}; {made}.f1 = sum_ != (int64_t){signed('sum_', of)};"
-            return [f"{{ int64_t sum_ = {a} + {b}; {sets} }}"]
-        raise ValueError(f"an unknown function of LLVM: {name}")
+            return [it for it in [STATEMENTS[name].format(*texts)] if it]
+        if name in ANSWERS and not of.is_wide:
+            return self.set(into, type, ANSWERS[name](type, *texts))
+        if name == "uadd.sat" and not of.is_wide:
+            made, sum = self.local(into, type), cut(" + ".join(texts), type)
+            return [f"{made} = {sum};", f"if ({made} < {texts[0]}) {made} = {literal(-1, type)};"]
+        if name == "sadd.with.overflow" and of.count <= 32:
+            made, sum = self.local(into, type), " + ".join(f"(int64_t){signed(it, of)}" for it in texts)
+            fits = f"(int64_t){signed('sum_', of)}"
+            return [f"{{ int64_t sum_ = {sum}; {made}.f0 = {cut('sum_', of)}; {made}.f1 = sum_ != {fits}; }}"]
+        raise ValueError(f"an unknown function of LLVM: {name} of {of.key}")

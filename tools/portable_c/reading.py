@@ -1,18 +1,16 @@
 """Reads the text of an LLVM module, word by word, and the types in it."""
 import dataclasses
-import functools
 import re
 
-WIDTHS = (8, 16, 32, 64, 128)
 PAIRS = {"(": ")", "[": "]", "{": "}", "<": ">"}
 # What LLVM says beside a value or a call. It promises more than C needs, and changes no answer.
-PROMISES = r"""(?:dereferenceable|captures|range|initializes)\((?:[^()]|\([^()]*\))*\)|(?:,\ )?align\ \d+|,\ ![\w.]+(?:\ !\d+)?|\b(?:
-    tail|musttail|notail|fastcc|internal|private|dso_local|noundef|nonnull|noalias|readonly|readnone|writeonly|zeroext|signext|returned|immarg|
-    nuw|nsw|nneg|nusw|exact|disjoint|samesign|inbounds)\b"""
+PROMISES = r"""(?:dereferenceable|captures|range|initializes)\((?:[^()]|\([^()]*\))*\)
+    |(?:,\ )?align\ \d+|,\ ![\w.]+(?:\ !\d+)?|\b(?:tail|fastcc|internal|private|noundef|nonnull|noalias
+    |readonly|writeonly|zeroext|signext|nuw|nsw|nneg|nusw|exact|disjoint|samesign|inbounds)\b"""
 WORD = re.compile(rf"""[%@]"[^"]*"|c"[^"]*"|[%@][\w.$-]+|({PROMISES})|-?\d+\b|[A-Za-z_][\w.]*|\S""", re.X)
 
 
-@dataclasses.dataclass(frozen=True)
+@dataclasses.dataclass
 class Type:
     """A number ("i") of some bits, a pointer, nothing, or parts behind each other: a struct, an array or a vector."""
 
@@ -20,59 +18,28 @@ class Type:
     count: int = 0
     parts: tuple = ()
 
-    @functools.cached_property
-    def key(self):
+    def __post_init__(self):
+        """Finds how C names it, the bits of the number of C that holds it, and the bytes that it takes in memory."""
+        self.width = next((it for it in (8, 16, 32, 64, 128) if self.count <= it), 0)
+        self.is_wide = self.kind == "i" and self.width == 128
         count = self.count if self.kind in ("i", "array", "vector") else ""
-        return "_".join([f"{self.kind}{count}", *(it.key for it in self.parts), *["end"] * bool(self.parts)])
+        self.key = "_".join([f"{self.kind}{count}", *(it.key for it in self.parts), *["end"] * bool(self.parts)])
+        of_kind = {"i": "wide" if self.is_wide else f"uint{self.width}_t", "ptr": "bytes", "void": "void"}
+        self.name = of_kind.get(self.kind, f"t_{self.key}")
+        self.length = len(self.parts) if self.kind == "struct" else self.count
+        self.align = max(it.align for it in self.parts) if self.parts else 8 if self.kind == "ptr" else self.width // 8
+        self.size = -(-self.offset(self.length) // self.align) * self.align if self.parts else self.align
 
-    @functools.cached_property
-    def name(self):
-        """The type as C names it."""
-        if self.kind == "i":
-            return "wide" if self.is_wide else f"uint{self.width}_t"
-        return {"ptr": "bytes", "void": "void"}.get(self.kind, f"t_{self.key}")
-
-    @property
-    def is_many(self):
-        return bool(self.parts)
-
-    @property
-    def is_wide(self):
-        return self.kind == "i" and self.count == 128
-
-    @property
-    def width(self):
-        """The bits of the number of C that holds it."""
-        return next(it for it in WIDTHS if self.count <= it)
-
-    @property
-    def scalar(self):
-        """The type of each part of a vector, or the type itself."""
-        return self.parts[0] if self.kind == "vector" else self
-
-    @property
-    def members(self):
-        """The types of the parts, one by one."""
-        return self.parts if self.kind == "struct" else self.parts * self.count
-
-    @functools.cached_property
-    def align(self):
-        return max(it.align for it in self.parts) if self.parts else self.size
-
-    @functools.cached_property
-    def size(self):
-        if not self.parts:
-            return 8 if self.kind == "ptr" else self.width // 8
-        return -(-self.offset(len(self.members)) // self.align) * self.align
+    def part(self, index):
+        """The type of a part."""
+        return self.parts[index if self.kind == "struct" else 0]
 
     def offset(self, index):
         """Where a part begins, or what all take if there is no such part."""
         if self.kind != "struct":
-            if self.kind == "vector" and self.parts[0].count != self.parts[0].width:
-                raise ValueError(f"parts of {self.parts[0].count} bits in memory")
             return index * self.parts[0].size
         end = self.offset(index - 1) + self.parts[index - 1].size if index else 0
-        return -(-end // self.parts[index].align) * self.parts[index].align if index < len(self.parts) else end
+        return -(-end // self.parts[index].align) * self.parts[index].align if index < self.length else end
 
 
 BIT, POINTER, VOID = Type("i", 1), Type("ptr"), Type("void")
@@ -119,7 +86,7 @@ class Words:
             return Type("struct", 0, tuple(self.list("}", self.type)))
         if word == "<" and self.peek() == "{":
             return self.packed()
-        if word not in PAIRS:
+        if word not in ("[", "<"):
             raise ValueError(f"an unknown type {word!r}: {self.text}")
         count = int(self.next())
         self.expect("x")
@@ -128,7 +95,7 @@ class Words:
         return made
 
     def packed(self):
-        """Reads a struct whose parts have to lie without gaps, as they do in C."""
+        """Reads a struct without gaps between its parts. C has to leave none either."""
         made = self.type()
         self.expect(">")
         if made.size != sum(it.size for it in made.parts):

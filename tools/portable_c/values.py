@@ -1,4 +1,4 @@
-"""Values of LLVM as expressions of C. A number has no sign in C, and is cut to its bits after each sum."""
+"""Values of LLVM as expressions of C. A number has no sign there, and is cut to its bits after each sum."""
 import re
 
 from .reading import PAIRS, POINTER, Type
@@ -34,7 +34,7 @@ def risen(text, type):
 
 
 def places(text, type):
-    """The places of a shift. LLVM asks for fewer than the width; they are cut all the same, so that C defines each shift."""
+    """The places of a shift. LLVM wants fewer than the width; they are cut too, so that C defines each shift."""
     if re.fullmatch(r"\d+u?", text):
         return text
     return f"(unsigned)wide_low({text}) & 127u" if type.is_wide else f"({text} & {type.width - 1}u)"
@@ -47,7 +47,7 @@ def compared(code, type, a, b):
         return f"{'!' if order == 'ne' else ''}wide_eq({a}, {b})"
     if type.is_wide:
         a, b = (b, a) if order in ("gt", "le") else (a, b)
-        return f"{'!' if order[1] == 'e' else ''}wide_{code[0]}lt({a}, {b})"
+        return f"{'!' if order in ('le', 'ge') else ''}wide_{code[0]}lt({a}, {b})"
     if type == POINTER and code not in SIGNS:
         a, b = f"(uintptr_t){a}", f"(uintptr_t){b}"
     elif code[0] == "s":
@@ -56,18 +56,19 @@ def compared(code, type, a, b):
 
 
 def part(text, type, index):
+    """A part of a struct, an array or a vector."""
     return f"{text}.f{index}" if type.kind == "struct" else f"{text}.f[{index}]"
 
 
 class Same(str):
-    """A number that is each part of a vector: the index of a part behind it changes nothing. C refuses it as a whole vector."""
+    """A number that is each part of a vector: an index behind it changes nothing. C refuses it as a whole vector."""
 
     def __add__(self, index):
         return str(self)
 
 
 class Values:
-    """Reads values. A class below it says by `name_of` what a name is in C, and by `many` how the parts of a value are written."""
+    """Reads values. A class over it says by `name_of` and `module` how C names them, by `many` how it writes parts."""
 
     def operand(self, words, type):
         """Reads a value of a known type, as an expression."""
@@ -79,15 +80,15 @@ class Values:
         if word in ("true", "false"):
             return str(int(word == "true"))
         if word in ("null", "undef", "poison", "zeroinitializer"):
-            return self.many(type, "0") if type.is_many else "(bytes)0" if type == POINTER else literal(0, type)
-        if word in PAIRS and type.is_many:
-            packed = word == "<" and words.take("{")
-            given = [text for _, text in words.list(PAIRS[packed or word], lambda: self.value(words))]
-            words.expect(*[">"] * bool(packed))
-            return self.many(type, ", ".join(given))
+            return self.many(type, "0") if type.parts else "(bytes)0" if type == POINTER else literal(0, type)
         if word.startswith('c"'):
             data = re.sub(rb"\\(\w\w)", lambda it: bytes([int(it[1], 16)]), word[2:-1].encode("latin-1"))
             return self.many(type, ", ".join(map(str, data)))
+        if word in PAIRS:
+            is_packed = words.take("{")
+            given = words.list("}" if is_packed else PAIRS[word], lambda: self.value(words)[1])
+            words.expect(*[">"] * bool(is_packed))
+            return self.many(type, ", ".join(given))
         return self.constant(words, word)
 
     def constant(self, words, word):
@@ -95,16 +96,14 @@ class Values:
         words.expect("(")
         if word == "getelementptr":
             text = self.address(words)
-        else:
+        elif word == "splat":
+            text = Same(self.value(words)[1])
+        elif word in ("inttoptr", "ptrtoint", "ptrtoaddr"):
             _, text = self.value(words)
-            if word == "splat":
-                text = Same(text)
-            elif word in ("inttoptr", "ptrtoint", "ptrtoaddr"):
-                words.expect("to")
-                words.type()
-                text = f"(bytes)(uintptr_t){text}" if word == "inttoptr" else f"(uint64_t)(uintptr_t)({text})"
-            else:
-                raise ValueError(f"an unknown value {word!r}: {words.text}")
+            words.expect("to")
+            text = f"(bytes)(uintptr_t){text}" if words.type() == POINTER else f"(uint64_t)(uintptr_t)({text})"
+        else:
+            raise ValueError(f"an unknown value {word!r}: {words.text}")
         words.expect(")")
         return text
 
@@ -121,12 +120,6 @@ class Values:
             found.append(self.value(words))
         return found
 
-    def pair(self, words):
-        """Reads a type, and two values of it."""
-        type, first = self.value(words)
-        words.expect(",")
-        return type, first, self.operand(words, type)
-
     def address(self, words):
         """Reads a type, a pointer and places; the address to which they lead."""
         type = Type("array", 0, (words.type(),))
@@ -139,5 +132,5 @@ class Values:
                 fixed += type.offset(int(index))
             else:
                 text += f" + {signed(place, of)}" + (f" * {step}" if step != 1 else "")
-            type = type.parts[int(index) if type.kind == "struct" else 0]
+            type = type.part(int(index) if type.kind == "struct" else 0)
         return f"({text} {'-' if fixed < 0 else '+'} {abs(fixed)})" if fixed else f"({text})"
