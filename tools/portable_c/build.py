@@ -1,4 +1,4 @@
-"""Takes the LLVM module of a proved crate: what the kit hands to its compiler, optimized for machines without vectors."""
+"""Takes the LLVM module of a proved crate, which the kit hands to its compiler, optimized without vectors."""
 import glob
 import os
 import re
@@ -15,7 +15,7 @@ KEEPING = """#!/bin/sh
 for it in "$@"; do case "$it" in *.bc) cp "$it" "{room}/$$-${{it##*/}}";; esac; done
 exec "{kit}/bin/clang" "$@"
 """
-# The kit's `rt lib` or `rt run` with that compiler. A program is compiled, and neither linked nor run: what stands in its folder stays.
+# The kit's `rt lib` or `rt run` with that compiler. A program is compiled, and neither linked nor run.
 BUILD = """import sys
 sys.path.insert(0, {tools!r})
 from gate import load_rt
@@ -26,9 +26,7 @@ rt.rtlib.Crate.run = lambda crate, flags, *_, **__: crate.compile(flags, {room!r
 sys.exit(rt.main([{verb!r}, "--jobs", "1"]))
 """
 # What the module says of one machine, which C does not need.
-OF_ONE_MACHINE = re.compile(
-    r' "(?:target-cpu|target-features|probe-stack|stack-probe-size|frame-pointer|tune-cpu)"="[^"]*"'
-)
+OF_ONE_MACHINE = re.compile(r' "(?:target-\w+|probe-stack|stack-probe-size|frame-pointer|tune-cpu)"="[^"]*"')
 AS_IT_IS = ["-O0", "-Xclang", "-disable-llvm-passes"]
 OPTIMIZED = ["-O3", "-fno-pic", "-fno-vectorize", "-fno-slp-vectorize", "-fno-unroll-loops"]
 

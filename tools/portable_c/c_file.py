@@ -19,7 +19,8 @@ OF_RUNTIME = {"read": "host_read", "write": "host_write", "rattle_errno": "host_
 HEAD = """/*
  * {name}: {what} {version}, for any compiler of C99 on a little-endian machine of 64 bits.
  *
- * tools/dist made this file from the module of the crate {crate}, whose functions are proved to meet their contracts. Nothing proves
+ * tools/dist made this file from the module of the crate {crate}, whose functions are proved to meet \
+their contracts. Nothing proves
  * the translation: it is tested, as docs/trust.md says. Do not edit it. The sources have this sum by SHA-256:
  * {sum}
  *

@@ -17,7 +17,7 @@ START = "program"
 
 
 def show_inner(text, crate):
-    """The module in which the crate's own functions stand open as in_NAME, and those of one machine's calls are gone."""
+    """The module in which the crate's own functions stand open as in_NAME, without those of one machine's calls."""
     text = re.sub(r"^define (?!internal)[^\n]*@calendar_\w+\([^\n]*\{\n.*?^\}\n", "", text, flags=re.M | re.S)
     own = rf'@"{crate}::(?:\w+::)+(calendar_\w+)"'
     text = re.sub(rf"^define internal ([^\n]*?){own}", rf"define \1@{INNER}\2", text, flags=re.M)
@@ -38,7 +38,8 @@ def passed(listed, structs, types):
         if fields and first == POINTER:
             yield f"(bytes)&{name}"
         elif fields:
-            yield from (f"({it.name}){name}.{field}" for (_, field), it in zip(fields, itertools.chain([first], types)))
+            for (_, field), type in zip(fields, itertools.chain([first], types)):
+                yield f"({type.name}){name}.{field}"
         else:
             yield f"({first.name}){name}"
 

@@ -95,6 +95,9 @@ class Function(Instructions):
             made = [self.lines_of(into, text) for into, text in pairs if not text.startswith("phi ")]
             self.written.append((self.here, [line for lines in made for line in lines]))
 
+    def all_types(self):
+        return [*self.types.values(), self.result, *(type for type, _ in self.parameters)]
+
     def head(self):
         given = ", ".join(f"{type.name} {self.name_of(raw)}" for type, raw in self.parameters) or "void"
         return f"static {self.result.name} {self.module.callee(self.raw)}({given})"

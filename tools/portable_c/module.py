@@ -6,8 +6,9 @@ from .reading import Words
 from .values import Values
 
 # Words that C and the head of each file have.
-WORDS_OF_C = """auto break case char const continue default do double else enum extern float for goto if inline int long register restrict return short signed
-    sizeof static struct switch typedef union unsigned void volatile while bytes wide main abort memcpy memmove memset memcmp LOAD STORE""".split()
+WORDS_OF_C = """auto break case char const continue default do double else enum extern float for goto if inline int
+    long register restrict return short signed sizeof static struct switch typedef union unsigned void volatile while
+    bytes wide main abort memcpy memmove memset LOAD STORE""".split()
 TABLE = re.compile(r'^@(?:"[^"]*"|\S+) = [a-z_ ]*constant .*$', re.M)
 FUNCTION = re.compile(r"^(define [^\n]*) \{\n(.*?)^\}$", re.M | re.S)
 
@@ -37,7 +38,7 @@ def declarations(types):
 
 
 class Module(Values):
-    """A module as text, and the names of its functions and tables in C. `given` has those of what stands outside or is called there."""
+    """A module as text, and the names of its functions and tables in C. `given` has those of what stands outside."""
 
     def __init__(self, text, given=()):
         self.module, self.names = self, dict(given)
@@ -45,7 +46,7 @@ class Module(Values):
         self.tables = [Words(line) for line in TABLE.findall(text)]
         # (the cases of a switch stand in lines of their own)
         self.functions = [Function(self, *it) for it in FUNCTION.findall(re.sub(r"\n    +|\n  (?=\])", " ", text))]
-        self.known = {*self.names, *(plain(it.raw) for it in self.functions), *(plain(it.peek()) for it in self.tables)}
+        self.known = {*given, *(plain(it.raw) for it in self.functions), *(plain(it.peek()) for it in self.tables)}
 
     def callee(self, raw):
         """The name of a function or of a table in C."""
@@ -73,7 +74,7 @@ class Module(Values):
             it.translate()
         bodies = [it.text() for it in self.functions]
         tables = [self.table(it) for it in self.tables]
-        types = [type for it in self.functions for type in (*it.types.values(), it.result, *(type for type, _ in it.parameters))]
+        types = [type for it in self.functions for type in it.all_types()]
         declared = declarations([*types, *(type for type, _ in tables)])
         # (a table that has addresses stands behind those to which they lead)
         lines = sorted((line for _, line in tables), key=lambda it: "(bytes)&" in it)
