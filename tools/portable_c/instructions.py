@@ -62,13 +62,17 @@ def summed(word, type, a, b):
     return cut(f"wide_{word}({a}, {b})" if type.is_wide else f"{a} {sign} {b}", type)
 
 
-def loaded(name, type, address):
-    """The lines that read a value, and cut what memory may have above its bits."""
+def members(text, type, address):
+    """Of each part of a value its expression, its type and its address."""
     if type.kind == "vector" and type.parts[0].count != type.parts[0].width:
         raise ValueError(f"a vector in memory of parts of {type.parts[0].count} bits")
+    return [(part(text, type, it), type.part(it), f"{address} + {type.offset(it)}") for it in range(type.length)]
+
+
+def loaded(name, type, address):
+    """The lines that read a value, and cut what memory may have above its bits."""
     if type.parts:
-        of = [(part(name, type, it), type.part(it), f"{address} + {type.offset(it)}") for it in range(type.length)]
-        return [line for it in of for line in loaded(*it)]
+        return [line for it in members(name, type, address) for line in loaded(*it)]
     lines = [f"LOAD({type.name}, {name}, {address});"]
     return lines if type == POINTER or type.count == type.width else [*lines, f"{name} = {cut(name, type)};"]
 
@@ -145,8 +149,7 @@ class Instructions(Values):
         (type, text), (_, address) = self.values(words, 2)
         if not type.parts:
             return [f"STORE({type.name}, {address}, {text});"]
-        of = [(type.part(it).name, type.offset(it), part("many_", type, it)) for it in range(type.length)]
-        stores = " ".join(f"STORE({name}, {address} + {at}, {it});" for name, at, it in of)
+        stores = " ".join(f"STORE({of.name}, {at}, {it});" for it, of, at in members("many_", type, address))
         return [f"{{ {type.name} many_ = {text}; {stores} }}"]
 
     def write_extractvalue(self, into, words):
