@@ -7,7 +7,7 @@ The C files of amalgamation/ have to be those that are made of the proved crates
 warning, by the widths of 128 bits that the compiler has and by two words, and with sanitizers. Compilers for other machines build it too, and an
 emulator runs what they build. languages/c/test.c has to pass each time. A program that calls each function of calendar.h with random arguments has
 to give the same sum of all answers as over the proved library. Machines that are not served have to be refused. Faults planted in the translation
-have to be found by the test or by the sums. checks/caltool_c.py says what caltool.c is held to.
+have to be found by the test or by the sums. What the translator does not know has to stop it. checks/caltool_c.py says what caltool.c is held to.
 """
 import os
 import re
@@ -24,6 +24,7 @@ from caltool_c import check_program  # noqa: E402
 from library import CALENDAR, proved_repository, take_library  # noqa: E402
 from outside import listed_crates  # noqa: E402
 from portable_c.c_file import HEADERS, PROGRAM, c_file, file_name  # noqa: E402
+from portable_c.module import Module  # noqa: E402
 from results import LANGUAGES, Results, read, run, succeeds  # noqa: E402
 
 COUNTS = (r"^(\d+) passed", r"(\d+) failed")
@@ -38,6 +39,14 @@ OWN_FAULTS = {
     "a wrong factor": (r"\* 1461u", "* 1460u"),
     "an exchanged choice": (r" = (\w+) \? (366u) : (365u);", r" = \1 ? \3 : \2;"),
 }
+# A function of LLVM, and lines that may stand in it: the first two are known, and each other stops the translator.
+FUNCTION = "define i32 @f(i32 %a, ptr %p) {{\nstart:\n  %b = {}\n  ret i32 %b\n}}\n"
+KNOWN = ("add nuw i32 %a, 1", "tail call i32 @llvm.umin.i32(i32 %a, i32 7)")
+UNKNOWN = (
+    "fneg float %a", "fadd i32 %a, 1", "add strange i32 %a, 1", "add i32 %a, 1, strange", "add i65 %a, 1", "add i32 %a, @elsewhere",
+    "call i32 @elsewhere(i32 %a)", "call i32 @llvm.ctpop.i32(i32 %a)", "call i128 @llvm.umin.i128(i128 1, i128 2)",
+    "load volatile i32, ptr %p", "load <16 x i1>, ptr %p", "load <{ i8, i32 }>, ptr %p", "bitcast i32 %a to <4 x i8>",
+)
 
 
 def sum_of(words, rounds, timeout=3600):
@@ -94,6 +103,20 @@ def try_faults(results, room, made, wanted):
         results.count(not programs or is_found(programs, wanted), f"the planted fault is not found: {name}")
 
 
+def is_stopped(line):
+    """Whether a line stops the translator."""
+    try:
+        return not Module(FUNCTION.format(line)).text()
+    except ValueError:
+        return True
+
+
+def try_unknown(results):
+    """Gives the translator what it knows, and what it does not know."""
+    for line in (*KNOWN, *UNKNOWN):
+        results.count(is_stopped(line) == (line in UNKNOWN), f"the translator {'takes' if line in UNKNOWN else 'stops at'} {line}")
+
+
 def is_found(programs, wanted):
     """Whether the test or the sums find a fault; a program that runs on for two minutes is found too."""
     try:
@@ -136,6 +159,7 @@ def check_library(results, room, proved, rounds):
 def main():
     results, rounds = Results(), int(sys.argv[1]) if len(sys.argv) > 1 else 100_000
     with tempfile.TemporaryDirectory(prefix="portable-") as room:
+        try_unknown(results)
         compare_tree(results)
         proved = take_library(results, CALENDAR)
         if proved:
