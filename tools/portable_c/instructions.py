@@ -38,8 +38,8 @@ CHANGES = {
 ANSWERS = {
     "umin": lambda type, a, b: f"{compared('ult', type, a, b)} ? {a} : {b}",
     "umax": lambda type, a, b: f"{compared('ugt', type, a, b)} ? {a} : {b}",
-    "smin": lambda type, a, b: f"{compared('slt', type, a, b)} ? {a} : {b}",
-    "smax": lambda type, a, b: f"{compared('sgt', type, a, b)} ? {a} : {b}",
+    "smin": lambda type, a, b: f"({type.name})LESSER{type.width}({signed(a, type)}, {signed(b, type)})",
+    "smax": lambda type, a, b: f"({type.name})GREATER{type.width}({signed(a, type)}, {signed(b, type)})",
     "abs": lambda type, a, _: f"{signed(a, type)} < 0 ? {cut(f'0u - {a}', type)} : {a}",
     "ctlz": lambda type, a, _: cut(f"{a} ? LEADING({a}) - {64 - type.count}u : {type.count}u", type),
     "cttz": lambda type, a, _: cut(f"{a} ? TRAILING({a}) : {type.count}u", type),
