@@ -32,7 +32,7 @@ static unsigned TRAILING(uint64_t x) { unsigned n = 0; while (!(x & 1)) { x >>= 
 static unsigned ONES(uint64_t x) { unsigned n = 0; for (; x; x &= x - 1) n++; return n; }
 #endif
 
-/* The lesser and the greater of two numbers with their sign. Compilers find their vector instructions by this form alone. */
+/* The lesser and the greater of two numbers with their sign. In columns, gcc finds the vector instructions of this form alone. */
 #define ENDS(bits) \
     MAYBE_UNUSED static inline int##bits##_t LESSER##bits(int##bits##_t a, int##bits##_t b) { return a < b ? a : b; } \
     MAYBE_UNUSED static inline int##bits##_t GREATER##bits(int##bits##_t a, int##bits##_t b) { return a > b ? a : b; }
