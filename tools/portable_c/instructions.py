@@ -34,6 +34,13 @@ CHANGES = {
     "ptrtoaddr": lambda a, type, to: cut(f"(uintptr_t){a}", to),
     "inttoptr": lambda a, type, to: f"(bytes)(uintptr_t){a}",
 }
+def shifted(type, high, low, by):
+    """The upper bits of two numbers behind each other, that many places to the left."""
+    by = f"({by} % {type.count}u)"
+    both = cut(f"{risen(high, type)} << {by} | {risen(low, type)} >> ({type.count}u - {by})", type)
+    return f"{by} ? {both} : {high}"
+
+
 # The functions of LLVM that give a number of at most 64 bits: the expression of its type and of what they are given.
 ANSWERS = {
     "umin": lambda type, a, b: f"{compared('ult', type, a, b)} ? {a} : {b}",
@@ -46,6 +53,7 @@ ANSWERS = {
     "bswap": lambda type, a: cut(
         " | ".join(f"((uint64_t){a} >> {it} & 255u) << {type.count - 8 - it}" for it in range(0, type.count, 8)), type
     ),
+    "fshl": shifted,
     "usub.sat": lambda type, a, b: f"{compared('ugt', type, a, b)} ? {cut(f'{a} - {b}', type)} : {literal(0, type)}",
 }
 # The functions of LLVM that give nothing: the statement of what they are given. Some change no answer.
