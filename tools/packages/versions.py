@@ -58,7 +58,9 @@ PLACES = [
     Place("languages/javascript/index.d.ts", r"The version of the library, such as `(.*)`", as_it_is),
     Place("languages/javascript/test/layers.test.js", r'assert\.equal\(version\(\), "(.*)"\)', as_it_is),
     Place("languages/postgresql/proved_calendar.control", r"^default_version = '(.*)'$", as_it_is),
-    Place(SQL, r"^-- proved_calendar--(.*)\.sql:", as_it_is),
+    *(Place(path, pattern, as_it_is) for path, pattern in (
+        (SQL, r"^-- proved_calendar--(.*)\.sql:"), ("languages/postgresql/wrong_lines.txt", r"^file: proved_calendar--(.*)\.sql$"),
+        ("docs/architecture.md", r"/proved_calendar--(.*)\.sql`"))),
     Place("crates/numbers_c/src/version.rt", r'write_over\(bytes, b"(.*)"\)', as_it_is),
     Place("crates/numbers_c/src/version.rt", r'let mut bytes = \*b"(\.+)";', dots),
     Place("crates/numbers_c/src/version.rt", r"write_version\(&mut bytes\) // (\d+)", bytes_of),

@@ -1,4 +1,4 @@
--- proved_calendar--0.1.0.sql: what CREATE EXTENSION makes.
+-- proved_calendar--0.2.0-dev.sql: what CREATE EXTENSION makes.
 \echo Use "CREATE EXTENSION proved_calendar" to load this file. \quit
 
 -- Dates. What an instant's date is depends on the session's zone, so those functions are STABLE.
