@@ -1,4 +1,4 @@
-"""Where the version of this repository stands: the one table of these places, by which `tools/version` sets it and `checks/docs.py` compares it.
+"""Where the version of this repository stands: the one table of these places, by which `tools/version` sets it and `checks/tree/docs.py` compares it.
 
 A version is as 0.2.0, or as 0.2.0-dev while it is being made. The header of C has it, and each other place repeats it in a form of its own.
 """

@@ -1,5 +1,5 @@
 //! `timed_business CALL COUNT` makes one call of `chrono_business` on so many pseudo-random dates and prints the sum
-//! of the answers. `benches/business.py` times it.
+//! of the answers. `benches/business_speed.py` times it.
 //!
 //! The holidays are the day numbers on the first line of standard input; Saturday and Sunday are the weekend. The
 //! call `none` draws the dates and adds their numbers up.

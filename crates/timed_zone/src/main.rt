@@ -1,11 +1,11 @@
-//! `timed_zone CALL COUNT` makes one call of a zone so many times and prints the sum of the answers. `benches/zones.py` times it.
+//! `timed_zone CALL COUNT` makes one call of a zone so many times and prints the sum of the answers. `benches/zones_speed.py` times it.
 //!
 //! Standard input is the TZif file of the zone. `offset` and `local` are asked at pseudo-random seconds of the years 1901 to 2038,
 //! `later_offset` and `later_local` of the years 2038 to 2174. `none` draws the seconds and adds them up. `read` reads the file, its
 //! rows and its rule.
 //!
 //! `timed_zone mutate COUNT SEED` changes up to four bytes of the file, reads all of it, and does so anew so many times. It prints
-//! how far the files could be read, and the longest time of one. `checks/zones.py` looks that none of them stops the program.
+//! how far the files could be read, and the longest time of one. `checks/zones/zones.py` looks that none of them stops the program.
 #![tactic(auto)]
 
 mod calls;
