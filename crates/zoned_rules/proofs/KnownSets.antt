@@ -102,3 +102,19 @@ set_left_out r ahead bound d h = both_ways (lists_second (d ∷ []) (epoch_secon
 
 pub set_in_both : (r : LocalParts) (ahead : ℤ → ℤ) (bound : Bound) (d : Zoned ℤ) → ¬ IsInZonedSet r ahead bound (d ∷ []) (d ∷ []) (epoch_second d.utc)
 set_in_both r ahead bound d h = both_ways (lists_second (d ∷ []) (epoch_second d.utc)) h.kept (lists_itself d)
+
+-- an instance of the rule is in the set where nothing is listed
+set_of_rule : (r : LocalParts) (ahead : ℤ → ℤ) (bound : Bound) (u : ℤ) → HasDates ahead u → RecursWithin r ahead bound u → IsInZonedSet {Z = ℤ} r ahead bound [] [] u
+set_of_rule r ahead bound u dates recurs = record { included = record { has_dates = dates; included = inl recurs }; kept = refl }
+
+-- the second after an instant that is listed is in no set without it
+lists_no_other : (d : Zoned ℤ) → lists_second (d ∷ []) (epoch_second d.utc +ℤ pos 1) ≡ false
+lists_no_other d =
+    let u = epoch_second d.utc in
+    let other : int_eq u (u +ℤ pos 1) ≡ false = grind (arith, ints) in
+    ap (λ b. b || false) other
+
+set_without_other : (r : LocalParts) (ahead : ℤ → ℤ) (bound : Bound) (d : Zoned ℤ) → ¬ RecursWithin r ahead bound (epoch_second d.utc +ℤ pos 1)
+    → ¬ IsInZonedSet r ahead bound (d ∷ []) [] (epoch_second d.utc +ℤ pos 1)
+set_without_other r ahead bound d none h =
+    ⊎_elim none (λ listed. both_ways (lists_second (d ∷ []) (epoch_second d.utc +ℤ pos 1)) (lists_no_other d) listed) h.included.included
