@@ -9,7 +9,9 @@ to fail.
 """
 import argparse
 import concurrent.futures
+import os
 import re
+import shutil
 import subprocess
 import sys
 import tempfile
@@ -38,15 +40,15 @@ def run(name):
 
 
 def fails_if_turned():
-    """Whether a test fails once its answer is turned."""
+    """Whether a test of a module fails once its answer is turned. The copy has this module alone."""
     module, name, old, new = TURNED
     with tempfile.TemporaryDirectory(prefix="turned-") as room:
         folder = put_apart(room, f"checks/{NAMES[0]}")
-        write(f"{folder}/src/lib.rt", f"#[cfg(test)]\nmod {module};\n")
-        path = f"{folder}/src/{module}/{name}"
-        text = read(path)
-        assert text.count(old) == 1, f"{path}: {old}"
-        write(path, text.replace(old, new))
+        sources = {it: read(f"{folder}/src/{it}") for it in (f"{module}.rt", *(f"{module}/{it}" for it in os.listdir(f"{folder}/src/{module}")))}
+        shutil.rmtree(f"{folder}/src")
+        assert sources[f"{module}/{name}"].count(old) == 1, f"{module}/{name}: {old}"
+        for path, text in {**sources, "lib.rt": f"#[cfg(test)]\nmod {module};\n"}.items():
+            write(f"{folder}/src/{path}", text.replace(old, new))
         passed, failed, _ = told(folder)
     return passed > 0 and failed == 1
 
