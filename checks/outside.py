@@ -29,7 +29,8 @@ APART = {
     "benches/timed_chrono": "chrono_text chrono_clock chrono_calendar chrono_stored chrono_datetime chrono_zoned chrono_reading chrono_stamps".split(),
     "benches/timed_business": ["chrono_datetime", "chrono_business"],
     "benches/timed_zone": "chrono_datetime zone_table zone_rule zone_text zone_file zone".split(),
-    "checks/tests_chrono": "chrono_units chrono_clock chrono_calendar chrono_internals chrono_stored chrono_naive chrono_datetime chrono_zoned chrono_uses".split(),
+    "checks/tests_chrono": "chrono_units chrono_clock chrono_calendar chrono_internals chrono_stored chrono_naive chrono_datetime chrono_zoned "
+    "chrono_uses".split(),
     "checks/tests_caltool": "chrono_calendar chrono_stored caltool_dates chrono_uses".split(),
 }
 QUOTED = re.compile(r"^`(crates(?:\.txt|/[\w/.]+))`:\n\n```\w*\n(.*?)^```$", re.M | re.S)

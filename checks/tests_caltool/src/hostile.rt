@@ -194,7 +194,7 @@ fn is_alike_in_pieces<A: Runner>(
 ) -> Result<bool, AllocError> {
     for size in [1usize, 2, 7, 16, 17, 120, 121, 100_000] {
         for taken in [1usize, 3, 64, 100_000] {
-            let mut reader = Pieces::new(input, size.max(1));
+            let mut reader = Pieces::new(input, size);
             let mut writer = Sink::new(Vec::new(alloc), taken);
             let outcome = A::run(&mut reader, &mut writer);
             if outcome != Ok(()) || writer.held() != whole || writer.flushes() != 1 {

@@ -8,7 +8,7 @@ use std::cell::Cell;
 use std::io::Read;
 use std::test::Fail;
 
-// Lines and their answers, a row each: the line, `=`, the answer. One literal is proved faster than two hundred.
+// Lines and their answers, a row each: the line, `=`, the answer.
 #[rattlefmt::skip]
 const ROWS: &[u8] = b"ymd 1900 2 29=none
 ymd 2024 2 29=2024-02-29 738945 Thu 2024-W09 60
@@ -234,7 +234,6 @@ fn lines_about_the_longest(rt: HostRuntime) -> Result<(), Fail> {
     for (length, wanted) in &cases {
         for ended in [false, true] {
             for size in [1usize, 60, 120, 121, 100000] {
-                assert!(rt; size > 0);
                 let mut input = long_line(rt.alloc(), *length)?;
                 assert_eq!(rt; input.len(), *length);
                 if ended {
@@ -258,7 +257,6 @@ fn ten_thousand_nines(rt: HostRuntime) -> Result<(), Fail> {
     }
     input.extend_from_slice(b"\nymd 2023 2 29")?;
     for size in [1usize, 120, 121, 100000] {
-        assert!(rt; size > 0);
         let mut reader = Pieces::new(input.as_slice(), size);
         let mut writer = Sink::new(Vec::new(rt.alloc()), 1000);
         assert_eq!(rt; run(&mut reader, &mut writer), Ok(()));
