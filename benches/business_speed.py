@@ -8,20 +8,20 @@ made on pseudo-random dates of the years 2019 to 2030, and a count goes to anoth
 The best of seven rounds counts, by processor time, less that of drawing the dates alone. numpy's calls go over an array of as many
 dates, so that what is compared is the time for an element.
 
-It needs crates/timed_business/out/timed_business, which `rt run` and `rt ci` leave there, and for the comparison python3-numpy.
+It proves and builds benches/timed_business over what is proved of the libraries here. The comparison needs python3-numpy.
 """
 import os
 import resource
 import subprocess
 import sys
+import tempfile
 import time
 
 TOP = os.path.dirname(os.path.dirname(os.path.abspath(__file__)))
-sys.path.insert(0, TOP)
+sys.path[:0] = [TOP, f"{TOP}/tools"]
+from checks.layers import business  # noqa: E402
+from repositories import build_apart  # noqa: E402
 
-from checks.layers import business
-
-TIMED = os.path.join(TOP, "crates", "timed_business", "out", "timed_business")
 ROUNDS = 7
 NUMPY = {"is_open": "is_busday", "open_days": "busday_count", "add_open_days": "busday_offset"}
 
@@ -59,16 +59,15 @@ def of_numpy(calendar, count):
 
 
 def main():
-    if not os.path.exists(TIMED):
-        print("there is no crates/timed_business/out/timed_business: `rt run` in crates/timed_business builds it")
-        return 1
     business.restart_without(business.numpy)
     count = int(sys.argv[1]) if len(sys.argv) > 1 else 5_000_000
     days = [it.toordinal() for year in range(2020, 2031) for it in business.federal(year)]
     calendar = business.Calendar("1111100", days, min(days), min(days))
     text = " ".join(map(str, calendar.holidays)) + "\n"
     names = ["none", *NUMPY]
-    best = {it: min(processor_time([TIMED, it, str(count)], text) for _ in range(ROUNDS)) / count * 1e9 for it in names}
+    with tempfile.TemporaryDirectory(prefix="business-") as room:
+        timed = build_apart(room, "benches/timed_business")
+        best = {it: min(processor_time([timed, it, str(count)], text) for _ in range(ROUNDS)) / count * 1e9 for it in names}
     beside = of_numpy(calendar, min(count, 1_000_000)) if business.numpy else {}
     if not beside:
         print("not run: numpy's calls, since there is no numpy")
@@ -77,8 +76,7 @@ def main():
         taken = best[name] - best["none"]
         by = f"{beside[name]:.0f} | {beside[name] / taken:.1f}" if beside else "- | -"
         print(f"| `{name}` | {taken:.0f} | `{other}` | {by} |")
-    return 0
 
 
 if __name__ == "__main__":
-    sys.exit(main())
+    main()

@@ -10,7 +10,7 @@ local one. Ours are counted in instructions too, by valgrind, which a busy machi
 best of seven rounds counts, by processor time, less that of drawing the seconds and making the others' instants and date-times of
 them. chrono reads no file that it is handed.
 
-It needs crates/timed_zone/out/timed_zone, which `rt run` and `rt ci` leave there, valgrind, and a database of time zones. chrono is
+It proves and builds benches/timed_zone over what is proved of the libraries here. It needs valgrind and a database of time zones. chrono is
 measured if there is librust-chrono-dev with cargo, and jiff_tz once `rt run` has proved a small program over it, here each time.
 """
 import argparse
@@ -25,11 +25,10 @@ import time
 import zoneinfo
 
 TOP = os.path.dirname(os.path.dirname(os.path.abspath(__file__)))
-sys.path += [os.path.join(TOP, "tools"), TOP]
+sys.path[:0] = [f"{TOP}/tools"]
 from debian import build_over_chrono, why_no_chrono  # noqa: E402
-from repositories import put_program  # noqa: E402
+from repositories import build_apart, put_program  # noqa: E402
 
-TIMED = os.path.join(TOP, "crates", "timed_zone", "out", "timed_zone")
 ROUNDS = 7
 # Calls of each whose answers are compared before any is timed.
 COMPARED = 20_000
@@ -194,8 +193,8 @@ def processor_time(program, call, count, data):
     return spent() - before
 
 
-def instructions(call, count, data):
-    words = ["valgrind", "--tool=callgrind", f"--callgrind-out-file={os.devnull}", TIMED, call, str(count)]
+def instructions(program, call, count, data):
+    words = ["valgrind", "--tool=callgrind", f"--callgrind-out-file={os.devnull}", program, call, str(count)]
     ran = subprocess.run(words, input=data, stdout=subprocess.DEVNULL, stderr=subprocess.PIPE, check=True)
     return int(re.search(rb"Collected *: *(\d+)", ran.stderr).group(1))
 
@@ -211,7 +210,7 @@ def best_of(call):
 
 def programs(room):
     """The programs that are measured."""
-    found = {"ours": TIMED}
+    found = {"ours": build_apart(room, "benches/timed_zone")}
     if not why_no_chrono():
         found["chrono"] = build_over_chrono(room, "benches/chrono_zones")
     folder = put_program(room, "jiff_zones", [], JIFF, ("jiff_core", "jiff_tz"))
@@ -249,8 +248,6 @@ def main():
     parser.add_argument("--zone", default="America/New_York")
     parser.add_argument("count", nargs="?", type=int, default=100_000)
     options = parser.parse_args()
-    if not os.path.exists(TIMED):
-        sys.exit("there is no crates/timed_zone/out/timed_zone: `rt run` in crates/timed_zone builds it")
     os.environ["TZ"] = options.zone
     path, zone = path_of(options.zone), zoneinfo.ZoneInfo(options.zone)
     with open(path, "rb") as it:
@@ -260,7 +257,8 @@ def main():
         found = programs(room)
         compare_sums(found, zone, data)
         taken = best_times(found, count, data)
-    counted = {it: (instructions(it, count // 10, data) - instructions(it, 1, data)) / (count // 10 - 1) for it in ("none", *CALLS, "read")}
+        ours = found["ours"]
+        counted = {it: (instructions(ours, it, count // 10, data) - instructions(ours, it, 1, data)) / (count // 10 - 1) for it in ("none", *CALLS, "read")}
     for call in CALLS:
         asked = questions(zone, call, min(count, 20_000))
         taken["zoneinfo", call] = best_of(lambda: answers(zone, call, asked)) / len(asked) * 1e9

@@ -7,6 +7,16 @@ import sys
 from gate import load_rt
 
 TOP = os.path.dirname(os.path.dirname(os.path.abspath(__file__)))
+# The crates that stand outside crates/, so that the gate does not prove them, and the libraries that they use. Benches prove theirs when they
+# run, and checks run theirs unproved.
+APART = {
+    "benches/timed_chrono": "chrono_text chrono_clock chrono_calendar chrono_stored chrono_datetime chrono_zoned chrono_reading chrono_stamps".split(),
+    "benches/timed_business": ["chrono_datetime", "chrono_business"],
+    "benches/timed_zone": "chrono_datetime zone_table zone_rule zone_text zone_file zone".split(),
+    "checks/rows/tests_chrono": "chrono_units chrono_clock chrono_calendar chrono_internals chrono_stored chrono_naive chrono_datetime chrono_zoned "
+    "chrono_uses".split(),
+    "checks/programs/tests_caltool": "chrono_calendar chrono_stored caltool_dates chrono_uses".split(),
+}
 
 
 def listed_crates():
@@ -37,18 +47,30 @@ def copy_crates(room, names):
                 shutil.copytree(f"{TOP}/crates/{name}/{part}", f"{room}/crates/{name}/{part}")
 
 
-def put_program(room, name, uses, source, kit=()):
-    """Puts a program and all libraries below it into a repository; the program's folder. It may use crates of the kit too."""
+def put_libraries(room, name, uses, kit=()):
+    """Puts all libraries below a crate of this name into a repository, with its line of crates.txt; the crate's folder. It may use crates of the kit too."""
     crates = listed_crates()
     used = all_below(uses, crates)
     copy_crates(room, used)
     with open(f"{room}/crates.txt", "w", encoding="utf-8") as it:
         it.writelines(f"{library}: {' '.join(crates[library])}\n" for library in used)
         it.write(f"{name}: {' '.join([*uses, *kit])}\n")
-    folder = f"{room}/crates/{name}"
+    return f"{room}/crates/{name}"
+
+
+def put_program(room, name, uses, source, kit=()):
+    """Puts a program of one file and all libraries below it into a repository; the program's folder."""
+    folder = put_libraries(room, name, uses, kit)
     os.makedirs(f"{folder}/src")
     with open(f"{folder}/src/main.rt", "w", encoding="utf-8") as it:
         it.write(source)
+    return folder
+
+
+def put_apart(room, path):
+    """Puts a crate of APART and all libraries below it into a repository; the crate's folder there."""
+    folder = put_libraries(room, os.path.basename(path), APART[path])
+    shutil.copytree(f"{TOP}/{path}", folder)
     return folder
 
 
@@ -61,6 +83,13 @@ def build_proved(room, folder, uses):
     if not os.path.isfile(program):
         sys.exit(built.stdout[-3000:])
     return program
+
+
+def build_apart(room, path):
+    """Proves and builds a program of APART in a new folder of a repository; the path of what is built."""
+    repository = f"{room}/{os.path.basename(path)}"
+    os.makedirs(repository)
+    return build_proved(repository, put_apart(repository, path), APART[path])
 
 
 def answers_in_parts(room, folder, lines, most):

@@ -1,6 +1,6 @@
 """caltool as one C file, for checks/packages/portable.py: built by each compiler that is found, it has to answer as the proved program does.
 
-It gets lines that come near to being wrong, whose answers are counted (checks/programs/fuzz.py), and the rows of rows_caltool. On this machine its statuses
+It gets lines that come near to being wrong, whose answers are counted (checks/programs/fuzz.py), and the rows of caltool. On this machine its statuses
 are tried too, with streams that fail (checks/programs/statuses.py). Faults planted in the translation have to be found by the lines.
 """
 import os
@@ -17,10 +17,10 @@ LINES, SEED = 20_000, 1
 
 
 def rows():
-    """The lines of rows_caltool, and their answers."""
+    """The rows of caltool: lines, and their answers."""
     given = []
     for name in ("stdin", "stdout"):
-        with open(f"{TOP}/crates/rows_caltool/{name}", "rb") as it:
+        with open(f"{TOP}/crates/caltool/{name}", "rb") as it:
             given.append(it.read())
     return given
 
@@ -43,7 +43,7 @@ def try_build(results, room, name, lines):
     results.count(fuzz.is_answered([*runner, path], SEED, *lines), f"caltool.c by {name} answers otherwise")
     asked, has_to = rows()
     did = subprocess.run([*runner, path], input=asked, stdout=subprocess.PIPE, timeout=600).stdout
-    results.count(did == has_to, f"caltool.c by {name} answers rows of rows_caltool otherwise")
+    results.count(did == has_to, f"caltool.c by {name} answers its rows otherwise")
     if name == "Windows":
         return
     # (sanitizers take more memory than the long inputs are allowed, and an emulator too)

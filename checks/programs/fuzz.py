@@ -8,7 +8,7 @@ have, signs, zeros and spaces where they do not belong, numbers past every width
 or struck wrong, lines about as long as a line may be, lines and numbers about as long as the bytes that are read at once, bytes
 of any kind; and each byte in each place of two short lines. What they answer is counted (checks/shared/counted.py); nothing is taken
 from the program's own sources. The first line answered otherwise is printed with its seed. The answers that stand in
-crates/rows_caltool, which another library gave, are counted again too.
+crates/caltool/stdout, which another library gave, are counted again too.
 """
 import argparse
 import os
@@ -23,7 +23,7 @@ from checks.shared.counted import (DAY, FIRST_DAY, FIRST_YEAR, LAST_DAY, LAST_YE
                      weekday_of, years_between)
 
 CALTOOL = os.path.join(TOP, "crates", "caltool", "out", "caltool")
-ROWS = os.path.join(TOP, "crates", "rows_caltool")
+ROWS = os.path.join(TOP, "crates", "caltool")
 
 WEEKDAYS = ["Mon", "Tue", "Wed", "Thu", "Fri", "Sat", "Sun"]
 LONGEST_LINE = 120
@@ -278,13 +278,13 @@ def each_byte():
 
 
 def are_rows_counted():
-    """Whether the answers of rows_caltool are what counting gives."""
+    """Whether the answers of the rows of caltool are what counting gives."""
     with open(f"{ROWS}/stdin", "rb") as lines, open(f"{ROWS}/stdout", "rb") as answers:
         lines, answers = (it.read().decode("latin-1").removesuffix("\n").split("\n") for it in (lines, answers))
     otherwise = [it for it, did in zip(lines, answers) if answer(it.encode("latin-1")) != did]
     for it in otherwise[:10]:
-        print(f"crates/rows_caltool: {it!r} has to be {answer(it.encode('latin-1'))!r}")
-    print(f"{len(lines)} lines of crates/rows_caltool counted again")
+        print(f"crates/caltool/stdin: {it!r} has to be {answer(it.encode('latin-1'))!r}")
+    print(f"{len(lines)} lines of crates/caltool/stdin counted again")
     return 0 < len(lines) == len(answers) and not otherwise
 
 

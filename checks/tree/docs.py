@@ -445,15 +445,15 @@ def cases_of_statuses(_):
 
 def length(tree, path, array):
     """The length of an array of a source, which the compiler holds to what stands in it."""
-    return int(re.search(rf"^const {array}: \[.*; (\d+)\] =", tree.files[f"crates/{path}"], re.M)[1])
+    return int(re.search(rf"^const {array}: \[.*; (\d+)\] =", tree.files[path], re.M)[1])
 
 
 def kinds_of_error(tree):
-    return length(tree, "tests_caltool/src/hostile.rt", "KINDS")
+    return length(tree, "checks/programs/tests_caltool/src/hostile.rt", "KINDS")
 
 
 def fractions_and_moves(tree):
-    return tuple(length(tree, "tests_chrono/src/naive_time/every_second.rt", it) for it in ("FRACTIONS", "MOVES"))
+    return tuple(length(tree, "checks/rows/tests_chrono/src/naive_time/every_second.rt", it) for it in ("FRACTIONS", "MOVES"))
 
 
 def lines_of_fuzz(tree):
@@ -507,10 +507,9 @@ COUNTS = [
     (r"finds (\d+) wrong bodies planted", lambda _: len(rules.PLANTED)),
     (r"(\w+) (?:cases|arms) or\s+more", lambda _: rules.MANY),
     (r"`(?P<crate>rows_chrono)` \(([\d,]+) single calls", lines_of),
-    (r"`(?P<crate>rows_caltool)`\s+\(([\d,]+)\s+lines", lines_of),
+    (r"rows of `(?P<crate>caltool)`\s+\(([\d,]+)\s+lines", lines_of),
     (r"([\d,]+) texts of `rows_layers`", lambda tree: len(texts_read(tree))),
     (r"`rows_layers`, ([\d,]+) of them of no value", texts_of_none),
-    (r"`caltool` over ([\d,]+) lines", lambda tree: lines_of(tree, "rows_caltool")),
     (r"([\d,]+) rows of `rows_chrono` at the ends", rows_at_ends),
     (r"at the ends of the types of (\d+) calls", lambda _: len(ends.CALLS)),
     (r"(\d+) cases of the program", cases_of_statuses),
@@ -561,7 +560,7 @@ PLANTED = [
     (files, README, "(docs/reference/README.md)", "(docs/reference/READER.md)"),
     (files, README, "(docs/reference/README.md)", "(docs/reference/README.md#chrono_days)"),
     (files, README, "(cd crates/dates && rt try", "(cd crates/date && rt try"),
-    (files, CONTRIBUTING, "cd ../tests_chrono", "cd ../chrono_tests"),
+    (files, CONTRIBUTING, "checks/rows/tests.py", "checks/test.py"),
     (names, CALLING, "`Datelike::num_days_from_ce`", "`Datelike::num_days_from_bce`"),
     (names, CALLING, "`Datelike::num_days_from_ce`", "`Timelike::num_days_from_ce`"),
     (names, CHRONO, "`chrono_units::year`", "`chrono_units::years`"),

@@ -4,7 +4,7 @@
     python3 -m checks.tree.names
 
 A definition is what a file of `specs/` exports. A type is a public struct, enum or trait of a library. Two lemmas are one if their
-statements differ in the names of variables alone. The crates of tests and measures are left out, since nothing lists them. Lemmas of
+statements differ in the names of variables alone. The crates of rows and of callers are left out, since nothing lists them. Lemmas of
 TWICE may stand in two crates, and have to. The check then plants a second definition, a second type and a second lemma, and has to find
 all three.
 """
@@ -16,7 +16,7 @@ import sys
 from checks import TOP
 
 # The crates that no library lists.
-APART = re.compile(r"(tests|rows)_|timed_(?!cron$)|chrono_uses|zoned_uses|chrono_internals")
+APART = re.compile(r"rows_|chrono_uses|chrono_internals")
 DEFINITION = re.compile(r"^(?:(?:abbrev|unfoldable) )?pub (?:(?:record|data|ruleset) )?(?!use\b)([^\s:(]+)", re.M)
 TYPE = re.compile(r"^pub (?:struct|enum|trait) (\w+)", re.M)
 # The root of a crate's definitions, which only names the other files.

@@ -74,7 +74,7 @@ def read_sources():
     sources = {}
     for at, _, names in os.walk(f"{TOP}/crates"):
         crate, _, inside = os.path.relpath(at, f"{TOP}/crates").partition("/")
-        if (inside == "src" or inside.startswith("src/")) and not crate.startswith("tests_"):
+        if inside == "src" or inside.startswith("src/"):
             for name in (it for it in names if it.endswith(".rt")):
                 with open(f"{at}/{name}", encoding="utf-8") as it:
                     sources[f"{crate}/{inside}/{name}"] = it.read()

@@ -10,7 +10,7 @@ and zoneinfo has to change there. Rules are asked past the year 9999 and before 
 random. For these a second reading counts days and tries nine years. It also says which texts and files with one byte changed are right. `rt try` runs a small program unproved, in a copy of the
 crates: it answers the lines, and what differs is printed. A second run of the same lines with one answer changed has to find it.
 
-Then timed_zone reads files with up to four bytes changed, with all its checks at run time. None may stop it, and in each zone that
+Then benches/timed_zone reads files with up to four bytes changed, with all its checks at run time. None may stop it, and in each zone that
 it makes of one an instant has to be among those of its own local time.
 """
 import argparse
@@ -26,10 +26,8 @@ import sys
 import tempfile
 import zoneinfo
 
-from checks import TOP
-from repositories import put_program
+from repositories import put_apart, put_program
 
-TIMED = os.path.join(TOP, "crates", "timed_zone")
 UTC = datetime.timezone.utc
 DAY = 86_400
 # What zoneinfo has, two days from the ends of its years.
@@ -542,6 +540,7 @@ def mutated(room, zones, seed, count):
     """What goes wrong in reading changed files, and how many were read."""
     cases = os.path.join(room, "cases")
     os.mkdir(cases)
+    timed = put_apart(f"{room}/changed", "benches/timed_zone")
     found = [it for it in zones if it.info.key in MUTATED]
     for zone in found:
         path = os.path.join(cases, zone.info.key.replace("/", "_"))
@@ -549,7 +548,7 @@ def mutated(room, zones, seed, count):
             it.write(zone.data)
         with open(f"{path}.args", "w") as it:
             it.write(f"mutate\n{count // len(found)}\n{seed}\n")
-    ran = subprocess.run(["rt", "try", "--seconds", "1200", "--cases", cases], cwd=TIMED, stdout=subprocess.PIPE, stderr=subprocess.STDOUT, text=True, errors="replace")
+    ran = subprocess.run(["rt", "try", "--seconds", "1200", "--cases", cases], cwd=timed, stdout=subprocess.PIPE, stderr=subprocess.STDOUT, text=True, errors="replace")
     counts = re.findall(r"^Counts \{ read: (\d+), .*wrong: (\d+), refused: (\d+),", ran.stdout, re.M)
     if ran.returncode or len(counts) != len(found) or any(int(wrong) for _, wrong, _ in counts):
         sys.exit(f"a changed file stops timed_zone, or makes a wrong zone:\n{ran.stdout[-3000:]}")
