@@ -45,7 +45,7 @@ README, TUTORIAL, CALLING, CALTOOL, TRUST = "README.md", "docs/tutorial.md", "CA
 CONTRIBUTING, CHANGELOG = "CONTRIBUTING.md", "CHANGELOG.md"
 CHRONO, PROMISES, ARCHITECTURE, PROVING = "docs/chrono.md", "docs/promises.md", "docs/architecture.md", "docs/proving.md"
 # Folders with nothing of the tree's own, beside which a caller from Python may build a shared object.
-LEFT_OUT = (".git", "out", "dist", "target", "__pycache__")
+LEFT_OUT = (".git", "env", "out", "dist", "target", "__pycache__")
 # The comments of each kind of source.
 COMMENTS = {".rt": r"//[^\n]*", ".rs": r"//[^\n]*", ".antt": r"--[^\n]*", ".c": r"//[^\n]*|/\*.*?\*/", ".h": r"//[^\n]*|/\*.*?\*/",
             ".py": r'""".*?"""|#[^\n]*', ".pyi": r"#[^\n]*", ".toml": r"#[^\n]*", ".js": r"//[^\n]*|/\*.*?\*/", ".ts": r"//[^\n]*|/\*.*?\*/", ".sql": r"--[^\n]*"}
@@ -75,11 +75,12 @@ ABSENT = {
     "texts and digits of a text": "CET CEST P0D PT59M59 PT90S PT5400S PT0S P1Y2M h30min",
     "made by tools/dist": "SHA256SUMS",
     "of tzcode": "zic slim",
+    "packages of Debian": "libsqlite3-dev postgresql-server-dev-all python3-dev",
     "in the place of a name, or a part of names": "LAW ARGS with_ _milli _micro _nano",
 }
 # Files and folders that are rightly not there, by the reason.
 NO_FILES = {
-    "left by a build": "dist/sqlite crates/caltool/out/caltool crates/dates/out/dates out out/libcalendar_c.a",
+    "left by a build": "dist/sqlite languages/sqlite/proved_calendar crates/caltool/out/caltool crates/dates/out/dates out out/libcalendar_c.a",
     "a day count": "actual/actual actual/360 actual/365 30/360 30e/360",
     "where a package is installed": """
         include/calendar.h include/calendar_layers.h lib/libcalendar-v3.a lib/libcalendar.a lib/libcalendar.so

@@ -46,7 +46,7 @@ ELSEWHERE = {
     "python3 -m venv env && env/bin/pip install ./languages/python": "checks/packages/without_kit.py",
     "cargo add --path ~/proved_calendar/languages/rust": "checks/packages/without_kit.py",
     "npm install ~/proved_calendar/languages/javascript": "checks/packages/without_kit.py",
-    "sudo make -C languages/sqlite install": "checks/packages/without_kit.py, in a folder of its own",
+    "make -C languages/sqlite": "checks/packages/without_kit.py, in a folder of its own",
     "make -C languages/postgresql && sudo make -C languages/postgresql install": "checks/packages/without_kit.py, in a folder of its own",
     "tools/prove dates": "the gate proves and builds the program, and checks/programs/dates.py runs it",
 }
