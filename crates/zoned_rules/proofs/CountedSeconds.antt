@@ -1,8 +1,8 @@
 -- The seconds of which a claim holds, counted in ranges that follow one another.
-use Rattle.std.proofs.Common.{◌≡◌, ℕ, zero, suc, ◌+◌, ◌-◌, ◌*◌, ◌<◌, ◌≤◌, ◌&&◌, Bool, true, false, cond, refl, sym, ap, ◌∙◌, ℤ, pos, ◌+ℤ◌, ◌-ℤ◌, ◌≤ℤ◌, ◌<ℤ◌, arith, subst}
+use Rattle.std.proofs.Common.{◌≡◌, ℕ, zero, suc, ◌+◌, ◌-◌, ◌*◌, ◌<◌, ◌≤◌, ◌&&◌, Bool, true, false, cond, refl, ap, ◌∙◌, ℤ, pos, ◌+ℤ◌, ◌≤ℤ◌, ◌<ℤ◌, arith, subst}
 use Rattle.std.proofs.lemmas.Int.{by_lt_z, ints}
 use Rattle.chrono_datetime.specs.PassedOver.{PassedNumbers}
-use Rattle.zoned_rules.specs.Recurs.{IsLeastOf, IsOneOf}
+use Rattle.zoned_rules.specs.Recurs.{IsOneOf}
 use Rattle.zoned_rules.specs.Private.{AreBehind, count_below}
 use Rattle.zoned_rules.proofs.Numbered.{EndsFirst, inside, one_more, outside}
 

@@ -1,4 +1,4 @@
-use Rattle.std.proofs.Common.{◌≡◌, ℤ, pos, neg_ℤ, ◌+◌, ◌≤ℤ◌, ◌<ℤ◌, of_z, to_z, w64, arith, refl, subst, sym}
+use Rattle.std.proofs.Common.{◌≡◌, ℤ, pos, neg_ℤ, ◌+◌, ◌≤ℤ◌, ◌<ℤ◌, to_z, w64, arith, refl, subst, sym}
 use Rattle.std.proofs.lemmas.Int.{by_lt_z, ints}
 use Rattle.zoned_rules.specs.LocalTimes.{LocalParts}
 use Rattle.zoned_rules.specs.Recurs.{IsOneOf, Recurs}
