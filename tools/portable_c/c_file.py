@@ -3,7 +3,7 @@ import os
 import shutil
 
 from library import proved_repository
-from outside import listed_crates
+from repositories import listed_crates
 from packages import LICENCES, sum_of_sources, version
 
 from .build import optimized_module

@@ -1,0 +1,122 @@
+#!/usr/bin/env python3
+"""Holds zoned_rules to known instances of rules that start near a gap or a fold of the clock, and to the last ones of large counts.
+
+    python3 -m checks.zones.rule_starts
+
+The instances were listed once by dateutil over local times, and by two sentences of RFC 5545: which instant a local time stands for (3.3.5), and that
+no instance is earlier than the start, neither by the clock nor as an instant. The program of checks/zones/zoned_rules.py answers.
+"""
+import datetime
+import tempfile
+
+from checks.zones.zoned_rules import DAY, LINES, PROGRAM, USES, line_of
+from checks.zones.zoned_schedules import end
+from repositories import answers_of, put_program
+
+# Zones, starts, rules, and their first instances.
+STARTS = (
+    ("Europe/Dublin", "20240331T021500", "FREQ=MINUTELY;INTERVAL=7;COUNT=6",
+     "2024-03-31T02:15:00+01:00 2024-03-31T02:22:00+01:00 2024-03-31T02:29:00+01:00 2024-03-31T02:36:00+01:00 2024-03-31T02:43:00+01:00 2024-03-31T02:50:00+01:00"),
+    ("Europe/Dublin", "20240331T020000", "FREQ=MINUTELY;INTERVAL=7;COUNT=6",
+     "2024-03-31T02:00:00+01:00 2024-03-31T02:07:00+01:00 2024-03-31T02:14:00+01:00 2024-03-31T02:21:00+01:00 2024-03-31T02:28:00+01:00 2024-03-31T02:35:00+01:00"),
+    ("Europe/Berlin", "20240331T030000", "FREQ=MINUTELY;INTERVAL=20;COUNT=5",
+     "2024-03-31T03:00:00+02:00 2024-03-31T03:20:00+02:00 2024-03-31T03:40:00+02:00 2024-03-31T04:00:00+02:00 2024-03-31T04:20:00+02:00"),
+    ("Europe/Berlin", "20240331T031000", "FREQ=MINUTELY;INTERVAL=7;COUNT=6",
+     "2024-03-31T03:10:00+02:00 2024-03-31T03:17:00+02:00 2024-03-31T03:24:00+02:00 2024-03-31T03:31:00+02:00 2024-03-31T03:38:00+02:00 2024-03-31T03:45:00+02:00"),
+    ("Europe/Berlin", "20240331T031500", "FREQ=DAILY;BYHOUR=2,3;BYMINUTE=15,30;COUNT=5",
+     "2024-03-31T03:15:00+02:00 2024-03-31T03:30:00+02:00 2024-04-01T02:15:00+02:00 2024-04-01T02:30:00+02:00 2024-04-01T03:15:00+02:00"),
+    ("Europe/Berlin", "20240331T033000", "FREQ=DAILY;BYHOUR=2,3,4;BYMINUTE=45,30;COUNT=5",
+     "2024-03-31T03:30:00+02:00 2024-03-31T03:45:00+02:00 2024-03-31T04:30:00+02:00 2024-03-31T04:45:00+02:00 2024-04-01T02:30:00+02:00"),
+    ("Europe/Berlin", "20240331T023000", "FREQ=DAILY;COUNT=3",
+     "2024-03-31T03:30:00+02:00 2024-04-01T02:30:00+02:00 2024-04-02T02:30:00+02:00"),
+    ("Europe/Berlin", "20240331T023000", "FREQ=MINUTELY;INTERVAL=30;COUNT=4",
+     "2024-03-31T03:30:00+02:00 2024-03-31T04:00:00+02:00 2024-03-31T04:30:00+02:00 2024-03-31T05:00:00+02:00"),
+    ("Europe/Berlin", "20240331T023000", "FREQ=HOURLY;COUNT=4",
+     "2024-03-31T03:30:00+02:00 2024-03-31T04:30:00+02:00 2024-03-31T05:30:00+02:00 2024-03-31T06:30:00+02:00"),
+    ("Europe/Berlin", "20240331T021500", "FREQ=MINUTELY;INTERVAL=7;COUNT=6",
+     "2024-03-31T03:15:00+02:00 2024-03-31T03:18:00+02:00 2024-03-31T03:22:00+02:00 2024-03-31T03:25:00+02:00 2024-03-31T03:29:00+02:00 2024-03-31T03:32:00+02:00"),
+    ("Europe/Berlin", "20240331T023000", "FREQ=DAILY;BYHOUR=2,3;BYMINUTE=0,30;COUNT=5",
+     "2024-03-31T03:30:00+02:00 2024-04-01T02:00:00+02:00 2024-04-01T02:30:00+02:00 2024-04-01T03:00:00+02:00 2024-04-01T03:30:00+02:00"),
+    ("Europe/Berlin", "20240331T015900", "FREQ=MINUTELY;COUNT=4",
+     "2024-03-31T01:59:00+01:00 2024-03-31T03:00:00+02:00 2024-03-31T03:01:00+02:00 2024-03-31T03:02:00+02:00"),
+    ("Europe/Berlin", "20240331T014500", "FREQ=MINUTELY;INTERVAL=30;COUNT=5",
+     "2024-03-31T01:45:00+01:00 2024-03-31T03:15:00+02:00 2024-03-31T03:45:00+02:00 2024-03-31T04:15:00+02:00 2024-03-31T04:45:00+02:00"),
+    ("Europe/Berlin", "20240330T023000", "FREQ=DAILY;COUNT=3",
+     "2024-03-30T02:30:00+01:00 2024-03-31T03:30:00+02:00 2024-04-01T02:30:00+02:00"),
+    ("Europe/Berlin", "20241027T023000", "FREQ=DAILY;COUNT=3",
+     "2024-10-27T02:30:00+02:00 2024-10-28T02:30:00+01:00 2024-10-29T02:30:00+01:00"),
+    ("Europe/Berlin", "20241027T023000", "FREQ=HOURLY;COUNT=3",
+     "2024-10-27T02:30:00+02:00 2024-10-27T03:30:00+01:00 2024-10-27T04:30:00+01:00"),
+    ("Europe/Berlin", "20241027T021500", "FREQ=MINUTELY;INTERVAL=25;COUNT=4",
+     "2024-10-27T02:15:00+02:00 2024-10-27T02:40:00+02:00 2024-10-27T03:05:00+01:00 2024-10-27T03:30:00+01:00"),
+    ("Europe/Berlin", "20241027T030000", "FREQ=MINUTELY;INTERVAL=20;COUNT=3",
+     "2024-10-27T03:00:00+01:00 2024-10-27T03:20:00+01:00 2024-10-27T03:40:00+01:00"),
+    ("Europe/Berlin", "20241027T023000", "FREQ=DAILY;BYHOUR=2;BYMINUTE=15,30,45;COUNT=4",
+     "2024-10-27T02:30:00+02:00 2024-10-27T02:45:00+02:00 2024-10-28T02:15:00+01:00 2024-10-28T02:30:00+01:00"),
+    ("America/New_York", "20240310T030700", "FREQ=MINUTELY;INTERVAL=11;COUNT=6",
+     "2024-03-10T03:07:00-04:00 2024-03-10T03:18:00-04:00 2024-03-10T03:29:00-04:00 2024-03-10T03:40:00-04:00 2024-03-10T03:51:00-04:00 2024-03-10T04:02:00-04:00"),
+    ("America/New_York", "20240310T023000", "FREQ=WEEKLY;COUNT=3",
+     "2024-03-10T03:30:00-04:00 2024-03-17T02:30:00-04:00 2024-03-24T02:30:00-04:00"),
+    ("America/New_York", "20240310T030500", "FREQ=SECONDLY;INTERVAL=97;COUNT=6",
+     "2024-03-10T03:05:00-04:00 2024-03-10T03:06:37-04:00 2024-03-10T03:08:14-04:00 2024-03-10T03:09:51-04:00 2024-03-10T03:11:28-04:00 2024-03-10T03:13:05-04:00"),
+    ("America/New_York", "20240310T033000", "FREQ=HOURLY;BYMINUTE=15,30,45;COUNT=5",
+     "2024-03-10T03:30:00-04:00 2024-03-10T03:45:00-04:00 2024-03-10T04:15:00-04:00 2024-03-10T04:30:00-04:00 2024-03-10T04:45:00-04:00"),
+    ("Australia/Lord_Howe", "20241006T023500", "FREQ=MINUTELY;INTERVAL=6;COUNT=6",
+     "2024-10-06T02:35:00+11:00 2024-10-06T02:41:00+11:00 2024-10-06T02:47:00+11:00 2024-10-06T02:53:00+11:00 2024-10-06T02:59:00+11:00 2024-10-06T03:05:00+11:00"),
+    ("Australia/Lord_Howe", "20241006T021500", "FREQ=DAILY;COUNT=3",
+     "2024-10-06T02:45:00+11:00 2024-10-07T02:15:00+11:00 2024-10-08T02:15:00+11:00"),
+    ("Australia/Lord_Howe", "20240407T014500", "FREQ=MINUTELY;INTERVAL=10;COUNT=5",
+     "2024-04-07T01:45:00+11:00 2024-04-07T01:55:00+11:00 2024-04-07T02:05:00+10:30 2024-04-07T02:15:00+10:30 2024-04-07T02:25:00+10:30"),
+    ("Antarctica/Troll", "20240331T031500", "FREQ=MINUTELY;INTERVAL=50;COUNT=5",
+     "2024-03-31T03:15:00+02:00 2024-03-31T04:05:00+02:00 2024-03-31T04:55:00+02:00 2024-03-31T05:45:00+02:00 2024-03-31T06:35:00+02:00"),
+    ("Antarctica/Troll", "20240331T013000", "FREQ=HOURLY;COUNT=4",
+     "2024-03-31T03:30:00+02:00 2024-03-31T04:30:00+02:00 2024-03-31T05:30:00+02:00 2024-03-31T06:30:00+02:00"),
+    ("Pacific/Apia", "20111231T001500", "FREQ=HOURLY;INTERVAL=5;COUNT=6",
+     "2011-12-31T00:15:00+14:00 2011-12-31T05:15:00+14:00 2011-12-31T10:15:00+14:00 2011-12-31T15:15:00+14:00 2011-12-31T20:15:00+14:00 2012-01-01T01:15:00+14:00"),
+    ("Pacific/Apia", "20111230T120000", "FREQ=DAILY;COUNT=3",
+     "2011-12-31T12:00:00+14:00 2012-01-01T12:00:00+14:00 2012-01-02T12:00:00+14:00"),
+    ("Pacific/Apia", "20111231T120000", "FREQ=DAILY;BYHOUR=6,12;COUNT=4",
+     "2011-12-31T12:00:00+14:00 2012-01-01T06:00:00+14:00 2012-01-01T12:00:00+14:00 2012-01-02T06:00:00+14:00"),
+    ("America/Sao_Paulo", "20181104T010500", "FREQ=MINUTELY;INTERVAL=13;COUNT=6",
+     "2018-11-04T01:05:00-02:00 2018-11-04T01:18:00-02:00 2018-11-04T01:31:00-02:00 2018-11-04T01:44:00-02:00 2018-11-04T01:57:00-02:00 2018-11-04T02:10:00-02:00"),
+    ("America/Sao_Paulo", "20181104T000000", "FREQ=DAILY;UNTIL=20181106T020000Z",
+     "2018-11-04T01:00:00-02:00 2018-11-05T00:00:00-02:00 2018-11-06T00:00:00-02:00"),
+    ("Africa/Cairo", "20240426T003000", "FREQ=MONTHLY;COUNT=3",
+     "2024-04-26T01:30:00+03:00 2024-05-26T00:30:00+03:00 2024-06-26T00:30:00+03:00"),
+)
+# Zones, starts, rules with a large COUNT, and their last instances. Python's zoneinfo listed the instants of all their local times.
+COUNTS = (
+    ("Etc/UTC", "20240229T000000", "FREQ=MINUTELY;COUNT=99999999", "2214-04-18T10:38:00+00:00"),
+    ("Etc/UTC", "20240229T000000", "FREQ=SECONDLY;COUNT=4294967295", "2160-04-06T06:28:14+00:00"),
+    ("America/New_York", "20240101T003000", "FREQ=HOURLY;COUNT=100000", "2035-05-30T03:30:00-04:00"),
+    ("Europe/Berlin", "20240229T090000", "FREQ=MINUTELY;INTERVAL=5;COUNT=300000", "2027-01-06T03:55:00+01:00"),
+    ("Australia/Lord_Howe", "20240331T011500", "FREQ=DAILY;BYHOUR=1,2,3;BYMINUTE=0,15,30;COUNT=20000", "2030-05-01T03:30:00+10:30"),
+    ("Antarctica/Troll", "20200101T000000", "FREQ=MINUTELY;INTERVAL=30;COUNT=50000", "2022-11-07T21:30:00+00:00"),
+)
+# What FREQ says where the rule counts units of the clock.
+LETTERS = {"HOURLY": "H", "MINUTELY": "M", "SECONDLY": "S"}
+
+
+def question(zone, start, text, instances, count=None, before=DAY):
+    """The question on instances of a rule from so many seconds before the first of them on, and what the program has to answer.
+    The first instances of the rule, if there is no count."""
+    parts = dict(it.split("=") for it in text.split(";"))
+    seconds = [int(datetime.datetime.fromisoformat(it).timestamp()) for it in instances.split()]
+    numbers = [parts.get(it, "") for it in ("BYHOUR", "BYMINUTE", "BYSECOND")]
+    letter = LETTERS.get(parts["FREQ"])
+    rule = ("FREQ=DAILY", *numbers, f"{letter}{parts.get('INTERVAL', 1)}") if letter else (f"FREQ={parts['FREQ']}", *numbers)
+    begun = datetime.datetime.strptime(start, "%Y%m%dT%H%M%S")
+    return f"{zone} {line_of('next', seconds[0] - before, seconds[-1] + DAY, begun, 'count', count or len(seconds), rule)}", " ".join(map(str, seconds))
+
+
+def main():
+    rows = [question(*it) for it in STARTS]
+    rows += [question(*it, count=int(it[2].split("COUNT=")[1]), before=0) for it in COUNTS]
+    with tempfile.TemporaryDirectory(prefix="rule_starts-") as room:
+        folder = put_program(room, "instants", USES, PROGRAM)
+        answers = [it.strip() for it in answers_of(room, folder, USES, [it for it, _ in rows], LINES)]
+    end(rows, answers)
+
+
+if __name__ == "__main__":
+    main()
