@@ -9,7 +9,7 @@ import subprocess
 
 import fuzz
 import statuses
-from c_builds import BUILDS, FAULTS, PLANTED, WARNINGS, planted, why_not
+from c_builds import BUILDS, FAULTS, PLANTED, WARNINGS, planted, program, why_not
 from results import read, succeeds
 
 TOP = os.path.dirname(os.path.dirname(os.path.abspath(__file__)))
@@ -38,7 +38,7 @@ def as_one_program(room, runner, path):
 def try_build(results, room, name, lines):
     """Builds the program one way, and compares its answers and its statuses."""
     words, runner = BUILDS[name]
-    path = f"{room}/caltool"
+    path = program(f"{room}/caltool", words)
     if succeeds(results, [*words, *WARNINGS, SOURCE, "-o", path]) is None:
         return
     results.count(fuzz.is_answered([*runner, path], SEED, *lines), f"caltool.c by {name} answers otherwise")
