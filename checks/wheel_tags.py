@@ -1,14 +1,16 @@
 """The wheels of tools/wheels.py, for checks/without_kit.py: their tags, their bytes, and that ARM and this machine run them.
 
 Each wheel has to have the tag that its extension allows. Objects that need more than a tag says have to be refused, and a wheel by a wrong name has
-to be found. The wheel of this machine is installed by pip, and made twice it has the same bytes. The one for ARM runs its tests by qemu, where
-tools/setup put a Python for ARM.
+to be found. The wheel of this machine is installed by pip, and made twice it has the same bytes. The one for ARM runs a test by qemu, where
+tools/setup put a Python for ARM. The one for musl is loaded over musl, without a Python.
 """
 import glob
 import os
+import re
 import shutil
 import subprocess
 import sys
+import tempfile
 import zipfile
 
 from results import LANGUAGES, TOP, compare_bytes, run
@@ -19,7 +21,16 @@ import wheels  # noqa: E402
 from debian import ARM  # noqa: E402
 
 COUNTS = (r"\.\.\. ok()$", r"\.\.\. (?:FAIL|ERROR)()$")
-TESTS = ("test_calls.py", "test_layers.py")
+# A program that loads an extension, and calls a function of the library in it. What the extension takes of Python stands before it, as memory alone.
+LOADING = """
+#include <dlfcn.h>
+int main(int count, char **words)
+{
+    void *library = count > 1 ? dlopen(words[1], RTLD_NOW) : 0;
+    int (*from_ymd)(int, unsigned, unsigned) = library ? (int (*)(int, unsigned, unsigned))dlsym(library, "calendar_from_ymd") : 0;
+    return !from_ymd || from_ymd(2024, 2, 29) != 738945;
+}
+"""
 # Objects in C: the compiler, what it takes besides, the text, and the tag on a machine of x86-64; None where no tag may be given.
 SHARED, PLAIN, NEW = ["-shared", "-fPIC", "-O1"], "int one(void) { return 1; }", "unsigned arc4random(void); unsigned one(void) { return arc4random(); }"
 OBJECTS = {
@@ -53,15 +64,20 @@ def try_objects(results, room):
         results.count(found == tag, f"the tag of {what} is {found}, and has to be {tag}")
 
 
-def has_own_tag(room, wheel):
-    """Whether the name of a wheel and its file WHEEL have the tag that its extension allows."""
-    folder = f"{room}/unpacked"
-    shutil.rmtree(folder, ignore_errors=True)
+def unpacked(room, wheel):
+    """A new folder of what a wheel holds, and its extension."""
+    folder = tempfile.mkdtemp(dir=room)
     with zipfile.ZipFile(wheel) as it:
         it.extractall(folder)
-    (extension,), (told,) = glob.glob(f"{folder}/proved_calendar/*.so"), glob.glob(f"{folder}/*.dist-info/WHEEL")
+    (extension,) = glob.glob(f"{folder}/proved_calendar/*.so")
+    return folder, extension
+
+
+def has_own_tag(room, wheel):
+    """Whether the name of a wheel and its file WHEEL have the tag that its extension allows."""
+    folder, extension = unpacked(room, wheel)
     tag = f"cp310-abi3-{tag_or_none(extension)}"
-    with open(told, encoding="utf-8") as it:
+    with open(*glob.glob(f"{folder}/*.dist-info/WHEEL"), encoding="utf-8") as it:
         return os.path.basename(wheel).endswith(f"-{tag}.whl") and f"Tag: {tag}\n" in it.read()
 
 
@@ -74,16 +90,23 @@ def try_wrong_names(results, room, wheel):
 
 
 def try_arm(results, room, wheel):
-    """The tests of all calls over the wheel for ARM."""
+    """The test of all calls of dates over the wheel for ARM."""
     emulator, program = "qemu-aarch64-static", f"{ARM}/usr/bin/python3.11"
     if not shutil.which(emulator) or not os.path.exists(program):
         print(f"not run: the wheel for ARM, since there is no {emulator} or no {program}")
         return
-    with zipfile.ZipFile(wheel) as it:
-        it.extractall(f"{room}/arm")
-    env = {**os.environ, "PYTHONPATH": f"{room}/arm", "PYTHONDONTWRITEBYTECODE": "1"}
-    for name in TESTS:
-        run(results, f"{name} on ARM", [emulator, "-L", ARM, program, f"{LANGUAGES}/python/tests/{name}", "-v"], COUNTS, env=env)
+    env = {**os.environ, "PYTHONPATH": unpacked(room, wheel)[0], "PYTHONDONTWRITEBYTECODE": "1"}
+    words = [emulator, "-L", ARM, program, f"{LANGUAGES}/python/tests/test_calls.py", "-v"]
+    run(results, "test_calls.py on ARM", words, COUNTS, env=env)
+
+
+def try_musl(results, room, wheel):
+    """The extension for musl is loaded over musl, and its library answers."""
+    _, extension = unpacked(room, wheel)
+    names = sorted(name for name, _ in wheels.symbols(extension)[0] if re.match("_?Py", name))
+    text = "".join(f"char {name}[64];\n" for name in names) + LOADING
+    packages.run(["musl-gcc", "-rdynamic", "-x", "c", "-", "-o", f"{room}/loading"], input=text)
+    results.count(subprocess.run([f"{room}/loading", extension]).returncode == 0, f"{wheel} is not loaded over musl")
 
 
 def try_own(results, wheel):
@@ -101,6 +124,7 @@ def try_wheels(results, room):
     os.makedirs(f"{room}/again")
     try_objects(results, room)
     made = {it: wheels.build(it, room) for it in wheels.COMPILERS if shutil.which(it)}
+    results.count(len(set(made.values())) == len(made), f"two compilers make one wheel: {made}")
     for it in wheels.COMPILERS:
         if it in made:
             results.count(has_own_tag(room, made[it]), f"{made[it]} has not the tag that its extension allows")
@@ -113,4 +137,5 @@ def try_wheels(results, room):
     if "aarch64-linux-gnu-gcc" in made:
         try_arm(results, room, made["aarch64-linux-gnu-gcc"])
     if "musl-gcc" in made:
-        print("not run: the wheel for musl, since there is no Python over musl: its symbols are those of musl and of Python")
+        try_musl(results, room, made["musl-gcc"])
+        print("not run: a Python over musl with its wheel, since Debian has none")

@@ -31,6 +31,8 @@ MACHINES = {"Advanced Micro Devices X86-64": "x86_64", "AArch64": "aarch64"}
 OF_GLIBC = re.compile(r"(?:libc\.so\.6|libm\.so\.6|libpthread\.so\.0|libdl\.so\.2|ld-linux-[\w-]+\.so\.\d)")
 OF_MUSL = re.compile(r"libc\.(?:so|musl-\w+\.so\.1)")
 OLDEST = (2, 17)
+# The shared library of musl for a machine.
+MUSL = "/lib/ld-musl-{}.so.1"
 
 
 def symbols(path):
@@ -54,9 +56,9 @@ def tag_of(path):
     if not machine or level and level[1].strip() != "x86-64-baseline":
         raise ValueError(f"{path} is for {level[1] if level else 'another machine'}")
     if needed and all(map(OF_GLIBC.fullmatch, needed)) and all(it.startswith("GLIBC_2.") for it in versions):
-        glibc = max(OLDEST, *(tuple(map(int, it.removeprefix("GLIBC_").split(".")[:2])) for it in versions))
+        glibc = max([OLDEST, *(tuple(map(int, it.removeprefix("GLIBC_").split(".")[:2])) for it in versions)])
         return f"manylinux_{glibc[0]}_{glibc[1]}_{machine}"
-    musl = f"/lib/ld-musl-{machine}.so.1"
+    musl = MUSL.format(machine)
     if needed and all(map(OF_MUSL.fullmatch, needed)) and not versions and os.path.exists(musl):
         unknown = {name for name, _ in taken if not re.match("_?Py", name)} - symbols(musl)[1]
         if unknown:
@@ -93,20 +95,25 @@ def build(compiler, folder):
     machine = packages.run([compiler, "-dumpmachine"]).split("-")[0]
     with tempfile.TemporaryDirectory(prefix="wheel-") as room:
         source = put_sources(room)
-        env = {**os.environ, **python.ONE_TIME, "CC": compiler, "LDSHARED": f"{compiler} -shared", "CPPFLAGS": f"-I{room}/headers",
+        # (Python names the folder of its own C library to the linker, so musl's has to stand before it)
+        first = f" -L{os.path.dirname(os.path.realpath(MUSL.format(machine)))}" if compiler == "musl-gcc" else ""
+        env = {**os.environ, **python.ONE_TIME, "CC": compiler, "LDSHARED": f"{compiler} -shared{first}", "CPPFLAGS": f"-I{room}/headers",
                "_PYTHON_HOST_PLATFORM": f"linux-{machine}"}
         packages.run([python.python(), "setup.py", "--quiet", "build"], cwd=source, env=env)
         (extension,) = glob.glob(f"{source}/made/proved_calendar/*.so")
-        words = ["--skip-build", "--plat-name", tag_of(extension), "--dist-dir", os.path.abspath(folder)]
+        words = ["--skip-build", "--plat-name", tag_of(extension), "--dist-dir", f"{room}/wheel"]
         packages.run([python.python(), "setup.py", "--quiet", "bdist_wheel", *words], cwd=source, env=env)
-    return max(glob.glob(f"{folder}/*.whl"), key=os.path.getmtime)
+        (wheel,) = glob.glob(f"{room}/wheel/*.whl")
+        return shutil.copy(wheel, folder)
 
 
 def build_own(folder):
     """Makes the wheel of a machine that has no Linux; its path."""
-    words = ["-m", "pip", "wheel", "--quiet", "--no-deps", "--no-build-isolation", "--wheel-dir", folder, f"{TOP}/languages/python"]
-    packages.run([sys.executable, *words], env={**os.environ, **python.ONE_TIME})
-    return max(glob.glob(f"{folder}/*.whl"), key=os.path.getmtime)
+    with tempfile.TemporaryDirectory(prefix="wheel-") as room:
+        words = ["-m", "pip", "wheel", "--quiet", "--no-deps", "--no-build-isolation", "--wheel-dir", room, f"{TOP}/languages/python"]
+        packages.run([sys.executable, *words], env={**os.environ, **python.ONE_TIME})
+        (wheel,) = glob.glob(f"{room}/*.whl")
+        return shutil.copy(wheel, folder)
 
 
 def test(wheel):
