@@ -48,7 +48,8 @@ def parts_of(parameter):
 
 def added(kind, place, structs):
     """The words that add a value of a type: a number, or a struct by its fields."""
-    return " ".join(f"add((uint64_t){place}{field});" for field in [f".{name}" for _, name in structs[kind]]) if kind in structs else f"add((uint64_t){place});"
+    places = [f"{place}.{name}" for _, name in structs[kind]] if kind in structs else [place]
+    return " ".join(f"add((uint64_t){it});" for it in places)
 
 
 def written(parameters, structs):

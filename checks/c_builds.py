@@ -3,10 +3,10 @@ import os
 import re
 import shutil
 import subprocess
+import tempfile
 
-TOP = os.path.dirname(os.path.dirname(os.path.abspath(__file__)))
-# wine keeps its folders where it does for no other program, and says nothing of itself.
-WINE = ["env", "WINEDEBUG=-all", f"WINEPREFIX={TOP}/out/wine", "wine"]
+# wine says nothing of itself, and keeps its folders apart from a user's own. (They have a link to the root, so they do not stand in this tree.)
+WINE = ["env", "WINEDEBUG=-all", f"WINEPREFIX={tempfile.gettempdir()}/wine-of-user-{os.getuid()}", "wine"]
 WARNINGS = ["-std=c99", "-Wall", "-Wextra", "-Werror"]
 SANITIZERS = ["-O1", "-g1", "-fsanitize=undefined,address", "-fno-sanitize-recover=all"]
 # The builds of this machine, and those of others with what runs them.

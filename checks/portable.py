@@ -150,7 +150,6 @@ def check_library(results, room, library, proved, rounds):
 
 def main():
     results, rounds = Results(), int(sys.argv[1]) if len(sys.argv) > 1 else 100_000
-    os.makedirs(f"{TOP}/out", exist_ok=True)
     with tempfile.TemporaryDirectory(prefix="portable-") as room:
         compare_tree(results)
         calendar_random.write_program(f"{room}/calls.c", 0)

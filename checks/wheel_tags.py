@@ -123,13 +123,13 @@ def try_wheels(results, room):
     room = f"{room}/wheels"
     os.makedirs(f"{room}/again")
     try_objects(results, room)
-    made = {it: wheels.build(it, room) for it in wheels.COMPILERS if shutil.which(it)}
+    made = {it: wheels.build(it, room) for it in wheels.compilers()}
     results.count(len(set(made.values())) == len(made), f"two compilers make one wheel: {made}")
     for it in wheels.COMPILERS:
         if it in made:
             results.count(has_own_tag(room, made[it]), f"{made[it]} has not the tag that its extension allows")
         else:
-            print(f"not run: the wheel by {it}, which is not there")
+            print(f"not run: the wheel by {it}, which is not there or makes none of its own")
     own = made["cc"]
     compare_bytes(results, [own], [wheels.build("cc", f"{room}/again")])
     try_wrong_names(results, room, own)

@@ -73,6 +73,11 @@ def musl_version(path):
     return re.search(r"^Version (\d+)\.(\d+)", said, re.M).groups()
 
 
+def compilers():
+    """Those of COMPILERS that are there. What builds for other machines is left out on its own one, where it makes the same wheel as cc."""
+    return [it for it in COMPILERS if shutil.which(it) and not it.startswith(platform.machine())]
+
+
 def put_sources(room):
     """The source of the package with the C files, and Python's headers as a compiler for another machine or another C library finds them."""
     source = f"{room}/source"
@@ -134,10 +139,9 @@ def main():
     if sys.platform != "linux":
         wheels = [build_own(folder)]
     else:
-        wheels = [build(it, folder) for it in COMPILERS if shutil.which(it)]
-        for it in COMPILERS:
-            if not shutil.which(it):
-                print(f"not made: the wheel by {it}, which is not there")
+        wheels = [build(it, folder) for it in compilers()]
+        for it in set(COMPILERS) - set(compilers()):
+            print(f"not made: the wheel by {it}, which is not there or makes none of its own")
     print("\n".join(wheels))
     test(wheels[0])
     print(f"installed and called: {os.path.basename(wheels[0])}, on {platform.platform()}")
