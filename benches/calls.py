@@ -6,8 +6,8 @@
 It makes COUNT calls of each: 20 million if left out, 100,000 with --instructions, which counts instructions by valgrind in place
 of the time. A busy machine does not change those. FOLDER is the package of another version of chrono than Debian's.
 
-It needs crates/timed_chrono/out/timed_chrono, which `rt run` leaves there, and librust-chrono-dev with cargo: benches/chrono_timed
-is its twin over that library.
+It proves and builds benches/timed_chrono over what is proved of the libraries here. It needs librust-chrono-dev with cargo:
+benches/chrono_timed is the twin over that library.
 
 A call of a date is made of a `NaiveDate`, as a user makes it, and of both stored forms, by their own calls and those of
 `chrono_calendar::forms` that a `NaiveDate` makes. One field alone stands beside the bare formula for it, which the twin has.
@@ -24,10 +24,10 @@ import sys
 import tempfile
 
 TOP = os.path.dirname(os.path.dirname(os.path.abspath(__file__)))
-sys.path.insert(0, os.path.join(TOP, "tools"))
+sys.path[:0] = [f"{TOP}/tools"]
 from debian import build_over_chrono  # noqa: E402
+from repositories import build_apart  # noqa: E402
 
-CHRONO_SUMS = os.path.join(TOP, "crates", "timed_chrono", "out", "timed_chrono")
 ROUNDS = 21
 
 # Calls of each whose answers are compared before any is timed.
@@ -157,7 +157,7 @@ def main():
     count = arguments.count or (100_000 if arguments.instructions else 20_000_000)
     with tempfile.TemporaryDirectory() as folder:
         others = OTHERS if arguments.chrono else OTHERS + OF_INSTANTS
-        runs = list(all_runs(CHRONO_SUMS, build_over_chrono(folder, "benches/chrono_timed", arguments.chrono), others))
+        runs = list(all_runs(build_apart(folder, "benches/timed_chrono"), build_over_chrono(folder, "benches/chrono_timed", arguments.chrono), others))
         compare_sums(runs)
         best = counts_of_instructions(runs, count) if arguments.instructions else best_times(runs, count)
     unit = "instructions" if arguments.instructions else "nanoseconds"

@@ -3,7 +3,7 @@
 
     benches/dates_quick.py [PROGRAM] [--commands N] [--seed N]      (crates/dates/out/dates and 10,000 commands from seed 1, if left out)
 
-Each command has at most 80 bytes. Half of them are those of checks/dates_commands.py, and the others are made of words that lead far: years up to the
+Each command has at most 80 bytes. Half of them are those of checks/programs/dates_commands.py, and the others are made of words that lead far: years up to the
 calendar's ends, great counts, rules and schedules that are seldom due, sequences that leave most days out. A command that has no answer, or is wrong, counts until it
 ends. Those above the limit are timed again, three times and alone, and the best time counts. The ten slowest are printed, and the exit status is 1 if
 one takes more than half a second.
@@ -18,9 +18,9 @@ import time
 from concurrent.futures import ThreadPoolExecutor
 
 TOP = os.path.dirname(os.path.dirname(os.path.abspath(__file__)))
-sys.path.insert(0, os.path.join(TOP, "checks"))
+sys.path.insert(0, TOP)
 sys.path.insert(0, os.path.join(TOP, "tools"))
-import dates_commands  # noqa: E402
+from checks.programs import dates_commands  # noqa: E402
 from debian import restart_without  # noqa: E402
 
 MOST_BYTES, LIMIT, PATIENCE = 80, 0.5, 20

@@ -12,7 +12,7 @@ import sys
 import tempfile
 
 TOP = __file__.rsplit("/", 2)[0]
-sys.path[:0] = [f"{TOP}/{it}" for it in ("checks", "tools")]
+sys.path[:0] = [TOP, f"{TOP}/tools"]
 from packages import javascript  # noqa: E402
 
 SCRIPT = """

@@ -17,8 +17,8 @@ import sys
 import tempfile
 
 TOP = os.path.dirname(os.path.dirname(os.path.abspath(__file__)))
-sys.path.append(os.path.join(TOP, "checks"))
-from outside import put_program  # noqa: E402
+sys.path.append(TOP)
+from repositories import put_program  # noqa: E402
 
 # How many elements a column of the program has.
 LENGTH = 4096

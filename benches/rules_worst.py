@@ -19,8 +19,8 @@ import subprocess
 import sys
 
 TOP = os.path.dirname(os.path.dirname(os.path.abspath(__file__)))
-sys.path.insert(0, os.path.join(TOP, "checks"))
-from row_programs import PROGRAM, section
+sys.path.insert(0, TOP)
+from checks.shared.row_programs import PROGRAM, section
 
 FIRST, TODAY, LAST = -95_746_129, 739_000, 95_745_399
 WEEKDAYS = ("MO", "TU", "WE", "TH", "FR", "SA", "SU")

@@ -18,9 +18,9 @@ import tempfile
 import zoneinfo
 
 TOP = os.path.dirname(os.path.dirname(os.path.abspath(__file__)))
-sys.path += [os.path.join(TOP, "checks")]
-from outside import build_proved, put_program  # noqa: E402
-from zoned_schedules import DAY, Schedule, cron, policy_of, walk  # noqa: E402
+sys.path += [TOP]
+from repositories import build_proved, put_program  # noqa: E402
+from checks.zones.zoned_schedules import DAY, Schedule, cron, policy_of, walk  # noqa: E402
 
 TEXTS = ("30 2 * * *", "*/15 9-17 * * 1-5", "30 4 1,15 * 5")
 USED = ["chrono_datetime", "chrono_instant", "zone_rule", "zoned_cron"]

@@ -34,7 +34,7 @@ def cargo_environment(room, built=None):
 def restart_without(module):
     """Runs the same command again by Debian's Python, if the module is None, which says that this Python lacks it."""
     if module is None and sys.executable != PYTHON and os.path.exists(PYTHON):
-        os.execv(PYTHON, [PYTHON, *sys.argv])
+        os.execv(PYTHON, [PYTHON, *sys.orig_argv[1:]])
 
 
 def why_no_chrono():

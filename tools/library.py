@@ -11,9 +11,10 @@ import sys
 import time
 
 TOP = os.path.dirname(os.path.dirname(os.path.abspath(__file__)))
-sys.path[:0] = [f"{TOP}/checks", f"{TOP}/tools"]
+sys.path[:0] = [f"{TOP}/tools"]
 import packages  # noqa: E402
-from outside import below, copy_crates, listed_crates, load_rt, take_proved, time_of  # noqa: E402
+from gate import load_rt  # noqa: E402
+from repositories import below, copy_crates, listed_crates, take_proved, time_of  # noqa: E402
 from side_by_side import proved  # noqa: E402
 
 # The crates of the static libraries: that of calendar.h, and that of calendar_layers.h.

@@ -7,13 +7,11 @@ sources, and so it does at the end for the tree.
 import contextlib
 import os
 import subprocess
-import sys
 import tempfile
 import time
 
 TOP = os.path.dirname(os.path.dirname(os.path.abspath(__file__)))
-sys.path[:0] = [f"{TOP}/checks"]
-from outside import below, copy_crates  # noqa: E402
+from repositories import below, copy_crates  # noqa: E402
 
 # Each job more loads all libraries once more, and so gains less than the one before it.
 MOST_JOBS = 3

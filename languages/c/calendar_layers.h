@@ -22,7 +22,7 @@ extern "C" {
 
 /* ---- versions */
 
-/* Writes CALENDAR_VERSION, such as 0.1.0, over the first bytes and returns their number. Returns CALENDAR_NONE if room is too small.
+/* Writes CALENDAR_VERSION, such as 0.2.0-dev, over the first bytes and returns their number. Returns CALENDAR_NONE if room is too small.
  * The version is this library's. calendar_version of calendar.h tells that of the other. */
 int32_t calendar_layers_version(uint8_t *text, size_t room);
 

@@ -1,4 +1,4 @@
-/* An example of each layer in C. What stands behind `=` is what its line prints. checks/cells.py looks for these parts. */
+/* An example of each layer in C. What stands behind `=` is what its line prints. checks/packages/cells.py looks for these parts. */
 #include "calendar_layers.h"
 
 #include <stdio.h>

@@ -287,7 +287,7 @@ export function isLeapYear(year: number): boolean;
 /** The days from a weekday on to the first of some weekdays, 0 to 6; undefined if there are none of them. */
 export function daysUntil(dayOfWeek: number, ...daysOfWeek: number[]): number | undefined;
 
-/** The version of the library, such as `0.1.0`. */
+/** The version of the library, such as `0.2.0-dev`. */
 export function version(): string;
 
 /** A text is wrong, from the place `start` on and before `end`; both are the same if something is missing there. */

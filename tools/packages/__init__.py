@@ -79,7 +79,7 @@ def pack(package, path, name):
 
 def sum_of_sources(top, crate):
     """The sum of what is made from a crate for machines without the kit: the sources of the crate and of those below it, and the translator to C."""
-    from outside import below, listed_crates
+    from repositories import below, listed_crates
 
     crates, made = listed_crates(), hashlib.sha256()
     line = next(it for it in crates if it.split()[0] == crate)

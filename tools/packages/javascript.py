@@ -70,7 +70,7 @@ def line_of(crate, crates):
 
 def build_module(top, room, wanted):
     """Proves a crate as one of the kind wasm64 and builds its module; the module's path."""
-    from outside import below, copy_crates, listed_crates, take_proved
+    from repositories import below, copy_crates, listed_crates, take_proved
 
     crates, crate = listed_crates(), wanted.crate
     line = line_of(crate, crates)
@@ -107,8 +107,8 @@ def lower(wide, module):
 
 def module(top, wanted):
     """The bytes of a module: the one that is kept, if it is newer than what it is made of, or else one that is built now."""
-    sys.path[:0] = [f"{top}/tools", f"{top}/checks"]
-    from outside import below, listed_crates, time_of
+    sys.path[:0] = [f"{top}/tools"]
+    from repositories import below, listed_crates, time_of
 
     crates, kept = listed_crates(), f"{top}/{wanted.kept}"
     parts = [f"{top}/crates/{name.split()[0]}/{part}" for name in below(line_of(wanted.crate, crates), crates) for part in ("src", "specs", "proofs")]

@@ -1,4 +1,4 @@
-"""Where the version of this repository stands: the one table of these places, by which `tools/version` sets it and `checks/docs.py` compares it.
+"""Where the version of this repository stands: the one table of these places, by which `tools/version` sets it and `checks/tree/docs.py` compares it.
 
 A version is as 0.2.0, or as 0.2.0-dev while it is being made. The header of C has it, and each other place repeats it in a form of its own.
 """
@@ -58,7 +58,9 @@ PLACES = [
     Place("languages/javascript/index.d.ts", r"The version of the library, such as `(.*)`", as_it_is),
     Place("languages/javascript/test/layers.test.js", r'assert\.equal\(version\(\), "(.*)"\)', as_it_is),
     Place("languages/postgresql/proved_calendar.control", r"^default_version = '(.*)'$", as_it_is),
-    Place(SQL, r"^-- proved_calendar--(.*)\.sql:", as_it_is),
+    *(Place(path, pattern, as_it_is) for path, pattern in (
+        (SQL, r"^-- proved_calendar--(.*)\.sql:"), ("languages/postgresql/wrong_lines.txt", r"^file: proved_calendar--(.*)\.sql$"),
+        ("docs/architecture.md", r"/proved_calendar--(.*)\.sql`"))),
     Place("crates/numbers_c/src/version.rt", r'write_over\(bytes, b"(.*)"\)', as_it_is),
     Place("crates/numbers_c/src/version.rt", r'let mut bytes = \*b"(\.+)";', dots),
     Place("crates/numbers_c/src/version.rt", r"write_version\(&mut bytes\) // (\d+)", bytes_of),

@@ -4,7 +4,7 @@ import shutil
 import tempfile
 
 from library import proved_repository
-from outside import listed_crates
+from repositories import listed_crates
 from packages import LICENCES, sum_of_sources, version
 
 from . import build, exports

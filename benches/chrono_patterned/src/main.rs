@@ -1,5 +1,5 @@
 //! `chrono_patterned CALL COUNT PATTERN` makes one call of chrono so many times and prints the sum of its answers: the twin of the program that
-//! `benches/patterns.py` writes over `chrono_pattern`.
+//! `benches/patterns_speed.py` writes over `chrono_pattern`.
 
 use chrono::{Datelike, NaiveDate, NaiveDateTime, NaiveTime, Timelike};
 use std::env;

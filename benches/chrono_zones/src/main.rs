@@ -1,6 +1,6 @@
-//! What `benches/zones.py` measures of chrono: `chrono_zones CALL COUNT` makes one call of `Local` so many times and prints the sum.
+//! What `benches/zones_speed.py` measures of chrono: `chrono_zones CALL COUNT` makes one call of `Local` so many times and prints the sum.
 //!
-//! The zone is that of `TZ`. The calls and the seconds are those of `crates/timed_zone`.
+//! The zone is that of `TZ`. The calls and the seconds are those of `benches/timed_zone`.
 
 use chrono::{FixedOffset, Local, LocalResult, NaiveDateTime, TimeZone};
 use std::env;

@@ -1,14 +1,16 @@
 -- The texts of rules over date-times (RFC 5545, section 3.3.10), as `FREQ=DAILY;BYHOUR=9,17;UNTIL=20241231T230000Z`. `IsTimedRuleText` says it.
 -- What stands in quotation marks is from that section.
-use Rattle.std.specs.Prelude.{◌≡◌, ℕ, Bool, ◌&&◌, ◌||◌, true, false, List, [], ◌∷◌, ◌++◌, drop, if◌then◌else◌, Option, Some, None, codes, refl}
+use Rattle.std.specs.Prelude.{◌≡◌, ℕ, Bool, ◌&&◌, ◌||◌, true, false, List, [], ◌∷◌, ◌++◌, drop, if◌then◌else◌, Option, Some, None, codes, pos, refl}
 use Rattle.std.specs.Option.{option_and_then, option_map}
 use Rattle.std.specs.Str.{byte, str_eq_ignore_ascii_case}
-use Rattle.chrono_datetime.specs.Moment.{Moment}
+use Rattle.chrono_datetime.specs.Days.{date_of_ymd, days_before_year, days_of_months_in, days_of_years}
+use Rattle.chrono_datetime.specs.Moment.{Moment, moment}
+use Rattle.chrono_datetime.specs.Time.{time_at}
 use Rattle.chrono_sets.specs.FiniteSets.{FiniteSet, no_numbers, numbers, with_number}
 use Rattle.chrono_text.specs.Numbers.{digits_of, if_within, natural_of}
 use Rattle.chrono_text.specs.Lists.{begins_alike, pieces, through}
 use Rattle.chrono_rules.specs.RuleParts.{lacks_positions, lacks_weeks}
-use Rattle.chrono_rules.specs.RuleTexts.{IsRuleText, lacks_numbers, parts, rule_body, said, values_in}
+use Rattle.chrono_rules.specs.RuleTexts.{IsRuleText, date_of, lacks_numbers, parts, rule_body, said, values_in}
 use Rattle.chrono_rules.specs.declared.rule.End.{End}
 use Rattle.chrono_rules.specs.declared.rule.End.TheVariants.{Never, Count, Until}
 use Rattle.chrono_rules.specs.declared.rule.Frequency.TheVariants.{Daily}
@@ -19,7 +21,7 @@ use Rattle.zoned_rules.specs.declared.bound.Bound.TheVariants.{Never as Endless,
 use Rattle.zoned_rules.specs.declared.clock_steps.ClockSteps.{ClockSteps}
 use Rattle.zoned_rules.specs.declared.clock_steps.ClockUnit.{ClockUnit}
 use Rattle.zoned_rules.specs.declared.clock_steps.ClockUnit.TheVariants.{Day, Hour, Minute, Second}
-use Rattle.calendar_text.specs.CalendarTimes.{time_of}
+use Rattle.calendar_text.specs.CalendarTimes.{clock_of, moment_of, time_of}
 use Rattle.calendar_text.specs.declared.calendar_time.CalendarTime.{CalendarTime}
 use Rattle.calendar_text.specs.declared.calendar_time.CalendarTime.TheVariants.{Date, Local, Utc}
 use Rattle.calendar_rules.specs.declared.clock_part.ClockPart.{ClockPart}
@@ -171,3 +173,16 @@ number_list_of-minute_past = refl
 number_list_of-leap_second : number_list_of BySecond (codes "60") ≡ Some (numbers (60 ∷ []))
 unfolding number_list_of with_number_text greatest_number digits_of natural_of
 number_list_of-leap_second = refl
+
+-- UNTIL is a time of UTC, and neither a local time nor a date
+until_of-utc : until_of (codes "19970902T090000Z") ≡ Some (moment (pos 729_269) (time_at 9 0 0 0))
+unfolding until_of time_of moment_of clock_of date_of date_of_ymd days_before_year days_of_years days_of_months_in digits_of natural_of
+until_of-utc = refl
+
+until_of-local : until_of (codes "19970902T090000") ≡ None
+unfolding until_of time_of moment_of clock_of date_of date_of_ymd days_before_year days_of_years days_of_months_in digits_of natural_of
+until_of-local = refl
+
+until_of-date : until_of (codes "19970902") ≡ None
+unfolding until_of time_of date_of date_of_ymd days_before_year days_of_years days_of_months_in digits_of natural_of
+until_of-date = refl

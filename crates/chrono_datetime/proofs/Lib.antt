@@ -24,6 +24,7 @@ pub use Rattle.chrono_naive.proofs.LastWeekdays
 pub use Rattle.chrono_naive.proofs.DateTextLemmas
 pub use Rattle.chrono_naive.proofs.RisingLists
 pub use Rattle.chrono_naive.proofs.DateListLemmas
+pub mod DatesOfOneName
 pub mod MonthPlaces
 -- The rest serve this crate's own proofs alone.
 mod ReachLemmas

@@ -1,5 +1,5 @@
 //! Why a text is none of ISO 8601, and at which byte.
-ghost use Rattle.std.specs.Prelude.{◌≡◌, ◌≤◌, drop};
+ghost use Rattle.std.specs.Prelude.{◌≡◌, ◌≤◌};
 ghost use Rattle.chrono_reading.specs.DateErrors.{error_at};
 ghost use Rattle.chrono_reading.specs.declared.error.ReadCause.TheVariants.{DateOutOfRange};
 ghost use Rattle.chrono_stamps.specs.IsoErrors.{IsErrorWithoutTime, further_error, is_of_form, iso_offset_error, size_error};

@@ -1,5 +1,5 @@
 //! Reads date-times with their offset (ISO 8601).
-ghost use Rattle.std.specs.Prelude.{◌≡◌, ◌≤◌, ℕ, ℤ, Ok, Some, IfOk, IfErr, IfSome, IfNone, IsOkAnd, ◌≢◌, pos, length};
+ghost use Rattle.std.specs.Prelude.{◌≡◌, ◌≤◌, ℤ, Ok, Some, IfOk, IfErr, IfSome, IfNone, IsOkAnd, ◌≢◌, pos, length};
 ghost use Rattle.std.specs.Str.{byte};
 ghost use Rattle.std.specs.List.{prefix_len};
 ghost use Rattle.chrono_datetime.specs.Moment.{Moment};

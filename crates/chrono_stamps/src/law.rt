@@ -5,7 +5,7 @@ ghost use Rattle.chrono_datetime.specs.Time.{FractionFits, second_of, time_at};
 ghost use Rattle.chrono_instant.specs.Instants.{IsEpochSecond, epoch_second};
 ghost use Rattle.chrono_instant.specs.Offsets.{IsOffset};
 ghost use Rattle.chrono_stamps.specs.IsoForms.{IsIso8601Text};
-ghost use Rattle.chrono_stamps.specs.Rfc2822.{IsRfc2822Text, hours_behind};
+ghost use Rattle.chrono_stamps.specs.Rfc2822.{IsMailZone, IsRfc2822Text, hours_behind};
 ghost use Rattle.chrono_stamps.specs.Rfc3339.{IsRfc3339Text};
 ghost use Rattle.chrono_stamps.specs.WrittenStamps.{HasStampText, moment_cut, rfc2822_text, rfc3339_text};
 ghost use Rattle.chrono_stamps.specs.declared.seconds_format.SecondsFormat.{SecondsFormat};
@@ -81,6 +81,7 @@ pub fn known_rfc2822_texts()
 /// The names of zones of RFC 2822 (4.3), by the hours that each lies behind UTC.
 ///
 /// The RFC gives EDT as `-0400`, EST and CDT as `-0500`, CST and MDT as `-0600`, MST and PDT as `-0700`, and PST as `-0800`.
+/// So the clock of EST is 18,000 seconds behind UTC.
 #[tactic(auto, unfolding(crate::specs::Rfc2822::hours_behind))]
 pub fn known_rfc2822_zones()
     ensures ut { hours_behind (codes "UT") ≡ Some 0 }
@@ -93,6 +94,7 @@ pub fn known_rfc2822_zones()
     ensures mst { hours_behind (codes "MST") ≡ Some 7 }
     ensures pdt { hours_behind (codes "PDT") ≡ Some 7 }
     ensures pst { hours_behind (codes "PST") ≡ Some 8 }
+    ensures offset { IsMailZone (codes "EST") (neg_ℤ (pos 18_000)) }
 {}
 
 /// Texts of ISO 8601, each with its value:

@@ -1,5 +1,5 @@
 //! Why a text is none of RFC 2822, and at which byte.
-ghost use Rattle.std.specs.Prelude.{◌≡◌, ◌≤◌, length, take, Some, None, IfSome, IfNone};
+ghost use Rattle.std.specs.Prelude.{◌≡◌, ◌≤◌, length, Some, None, IfSome, IfNone};
 ghost use Rattle.chrono_datetime.specs.Names.{month_of_letters, weekday_of_letters};
 ghost use Rattle.chrono_reading.specs.DateErrors.{error_at};
 ghost use Rattle.chrono_reading.specs.NameErrors.{month_error, weekday_error};

@@ -1,5 +1,5 @@
 //! Reads date-times with their offset (RFC 2822).
-ghost use Rattle.std.specs.Prelude.{◌≡◌, ◌↔◌, ◌≤◌, ◌⊎◌, ◌∷◌, [], ℕ, ℤ, Some, IfSome, IfNone, IfOk, IfErr, IsOkAnd, IsSomeAnd, IsTrue, ◌-ℤ◌, pos, length};
+ghost use Rattle.std.specs.Prelude.{◌≡◌, ◌↔◌, ◌≤◌, ◌⊎◌, ◌∷◌, [], ℕ, ℤ, Some, IfSome, IfNone, IfOk, IfErr, IsOkAnd, IsSomeAnd, IsTrue, ◌-ℤ◌, length};
 ghost use Rattle.chrono_datetime.specs.Moment.{Moment};
 ghost use Rattle.chrono_datetime.specs.Time.{TimeOfDay};
 ghost use Rattle.chrono_instant.specs.Instants.{IsEpochSecond, epoch_second};

@@ -1,5 +1,5 @@
 //! `SecondsFormat`: how many digits of a second's fraction a text has.
-ghost use Rattle.std.specs.Prelude.{◌≡◌, ◌<◌, ◌≤◌, ◌+◌, ◌++◌, ◌⊎◌, length};
+ghost use Rattle.std.specs.Prelude.{◌≡◌, ◌<◌, ◌≤◌, ◌+◌, ◌++◌, length};
 ghost use Rattle.std.specs.Str.{IsAscii};
 ghost use Rattle.chrono_text.specs.Text.{nanos_per_second};
 ghost use Rattle.chrono_stamps.specs.Fractions.{IsPlaces, fewest_places, fraction_in, places_of};

@@ -75,7 +75,7 @@ reply_text (replies.Nothing key) = codes "none"
 reply_text replies.NoParts = codes "none"
 reply_text (replies.NoWeek first) = codes "none"
 reply_text replies.NoClock = codes "none"
-reply_text replies.Version = codes "dates 0.1.0"
+reply_text replies.Version = codes "dates 0.2.0-dev"
 
 -- the weekday of the day n, its number and the number of days since 1970-01-01, as they stand in an object
 unfoldable pub numbers_in_object : ℤ → List ℕ
@@ -107,7 +107,7 @@ reply_object replies.NoParts = codes "{\"years\":null,\"months\":null,\"days\":n
 reply_object (replies.NoWeek None) = codes "{\"first\":null,\"last\":null}"
 reply_object (replies.NoWeek (Some first)) = codes "{\"first\":\"" ++ (date_text first ++ codes "\",\"last\":null}")
 reply_object replies.NoClock = codes "{\"moment\":null,\"name\":null}"
-reply_object replies.Version = codes "{\"version\":\"0.1.0\"}"
+reply_object replies.Version = codes "{\"version\":\"0.2.0-dev\"}"
 
 -- the line of an answer in a form
 abbrev pub line_text : OutputForm → Reply → List ℕ

@@ -199,7 +199,7 @@ fn write_text<W: fmt::Write>(reply: &Reply, f: &mut fmt::Formatter<W>) -> fmt::R
         Reply::Nothing(_) | Reply::NoParts | Reply::NoWeek(_) | Reply::NoClock => {
             f.write_str("none")
         }
-        Reply::Version => f.write_str("dates 0.1.0"),
+        Reply::Version => f.write_str("dates 0.2.0-dev"),
     }
 }
 
@@ -234,7 +234,7 @@ fn write_object<W: fmt::Write>(reply: &Reply, f: &mut fmt::Formatter<W>) -> fmt:
         Reply::NoWeek(None) => f.write_str("{\"first\":null,\"last\":null}"),
         Reply::NoWeek(Some(first)) => write!(f, "{{\"first\":\"{first}\",\"last\":null}}"),
         Reply::NoClock => f.write_str("{\"moment\":null,\"name\":null}"),
-        Reply::Version => f.write_str("{\"version\":\"0.1.0\"}"),
+        Reply::Version => f.write_str("{\"version\":\"0.2.0-dev\"}"),
     }
 }
 

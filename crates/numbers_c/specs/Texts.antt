@@ -18,4 +18,4 @@ length_of None = None
 
 -- the version of the libraries for C
 abbrev pub version : List ℕ
-version = codes "0.1.0"
+version = codes "0.2.0-dev"

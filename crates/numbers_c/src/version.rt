@@ -10,13 +10,13 @@ use crate::written::write_over;
 /// Returns [`NONE`](crate::NONE) if they are not enough.
 ///
 /// ```
-/// let mut bytes = *b"......";
-/// write_version(&mut bytes) // 5
+/// let mut bytes = *b"..........";
+/// write_version(&mut bytes) // 9
 /// ```
 #[inline]
 pub fn write_version(bytes: &mut [u8]) -> i32
     ensures length { result ≡ count_or_none (length_of (text_within (length bytes.old) (Some version))) }
     ensures bytes { bytes.new ≡ overwritten (text_within (length bytes.old) (Some version)) bytes.old }
 {
-    write_over(bytes, b"0.1.0")
+    write_over(bytes, b"0.2.0-dev")
 }

@@ -3,7 +3,7 @@ ghost use Rattle.std.specs.Prelude.{◌≡◌, ◌<◌, ◌<ℤ◌, ◌≤ℤ◌
 ghost use Rattle.zone_rule.specs.Rules.{rule_offset};
 ghost use Rattle.zone_rule.specs.declared.rule.ZoneRule.{ZoneRule};
 ghost use Rattle.zone_table.specs.Changes.{ChangesAt};
-ghost use Rattle.zone_table.specs.Table.{IsTable, table_offset};
+ghost use Rattle.zone_table.specs.Table.{table_offset};
 ghost use Rattle.zone_table.specs.declared.row.Row.{Row};
 ghost use Rattle.zone.specs.KnownRules.{northern_rows, northern_rule, southern_rule};
 ghost use Rattle.zone.specs.Parts.{IsZone, ZoneParts, last_row, zone_offset};

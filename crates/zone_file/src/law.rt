@@ -1,11 +1,13 @@
 //! Known values of files.
 ghost use Rattle.std.specs.Prelude.{◌≡◌, true, false, pos, neg_ℤ, [], ◌∷◌, codes};
-ghost use Rattle.zone_file.specs.Blocks.{are_counts, kind_count, leap_count, name_bytes, standard_count, time_count, ut_count};
+ghost use Rattle.zone_file.specs.Blocks.{are_counts, kind_count, leap_count, name_bytes, standard_count, time_count, trailer_length, ut_count};
 ghost use Rattle.zone_file.specs.Kinds.{IsFileRow, IsKind};
 ghost use Rattle.zone_file.specs.KnownFiles.{known_file, known_footer, known_header, known_kinds, known_names, known_times};
 ghost use Rattle.zone_file.specs.ZoneFiles.{IsZoneFile, version_in};
 
 /// States which numbers a header has where, in the order of RFC 9636, section 3.1, and which counts a file may have.
+///
+/// With times of eight bytes, three leap seconds, two indicators of standard time and one of UT fill 39 bytes.
 pub fn known_headers()
     ensures version { version_in (known_header 1 2 3 4 5 6) ≡ 50 }
     ensures ut { ut_count (known_header 1 2 3 4 5 6) ≡ 1 }
@@ -14,6 +16,7 @@ pub fn known_headers()
     ensures times { time_count (known_header 1 2 3 4 5 6) ≡ 4 }
     ensures kinds { kind_count (known_header 1 2 3 4 5 6) ≡ 5 }
     ensures names { name_bytes (known_header 1 2 3 4 5 6) ≡ 6 }
+    ensures trailer { trailer_length 8 (known_header 1 2 3 4 5 6) ≡ 39 }
     ensures right { are_counts (known_header 2 0 0 9 2 4) ≡ true }
     ensures no_kind { are_counts (known_header 0 0 0 9 0 4) ≡ false }
     ensures no_name { are_counts (known_header 0 0 0 9 2 0) ≡ false }

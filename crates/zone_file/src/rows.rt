@@ -1,5 +1,5 @@
 //! The rows of the table of a file.
-ghost use Rattle.std.specs.Prelude.{◌≡◌, ◌<◌, ◌+◌, ◌*◌, ◌≤◌, ℤ, Some, IfSome, IfOk, IfErr, length};
+ghost use Rattle.std.specs.Prelude.{◌≡◌, ◌<◌, ◌+◌, ◌*◌, ◌≤◌, Some, IfSome, IfOk, IfErr, length};
 ghost use Rattle.zone_file.specs.Kinds.{IsFileRow, time_length, transition_time};
 ghost use Rattle.zone_file.specs.Tables.{AreFileRows, IsRowsError};
 ghost use Rattle.zone_table.specs.declared.row.Row.{Row};

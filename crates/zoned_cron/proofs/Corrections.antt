@@ -1,7 +1,6 @@
 -- What fires where a clock is set by three hours, or by about as much.
-use Rattle.std.proofs.Common.{◌↔◌, ◌⊎◌, ⊎_elim, inl, inr, ◌≡◌, ℤ, pos, ◌+ℤ◌, ◌-ℤ◌, ◌≤ℤ◌, ◌<ℤ◌, arith, refl, subst}
+use Rattle.std.proofs.Common.{◌↔◌, ◌⊎◌, ⊎_elim, inl, inr, ◌≡◌, ℤ, pos, arith, refl, subst}
 use Rattle.std.proofs.lemmas.Int.{by_lt_z, ints}
-use Rattle.chrono_zoned.specs.Zones.{Shows}
 use Rattle.chrono_zoned.proofs.OneChangeLemmas.{ChangesOnce-test, never, once_late, twice}
 use Rattle.zoned_cron.specs.Fires.{ChangesAreShort, IsBehindGap, IsShortStep, Takes, as_planned, once_each}
 use Rattle.zoned_cron.specs.KnownClocks.{set_once}

@@ -1,16 +1,14 @@
 //! Laws of schedules in a zone, each as the contract of a function that does nothing.
-ghost use Rattle.std.specs.Prelude.{◌≡◌, ◌↔◌, ◌⊎◌, ◌≤ℤ◌, ◌<ℤ◌, true, ℕ, ℤ, pos, neg_ℤ, List, [], ◌∷◌, Some};
+ghost use Rattle.std.specs.Prelude.{◌≡◌, ◌↔◌, ◌⊎◌, ◌≤ℤ◌, ◌<ℤ◌, true, ℕ, ℤ, pos, neg_ℤ, List, [], ◌∷◌};
 ghost use Rattle.std.specs.List.{Contains};
 ghost use Rattle.chrono_datetime.specs.Moment.{IsMoment, Moment};
 ghost use Rattle.chrono_instant.specs.Instants.{epoch_second};
 ghost use Rattle.chrono_instant.specs.Offsets.{IsOffset, moment_ahead};
 ghost use Rattle.chrono_zoned.specs.KnownZones.{set_ahead, set_back};
-ghost use Rattle.chrono_zoned.specs.Zoned.{local_at};
-ghost use Rattle.chrono_zoned.specs.Zones.{IsMapped, IsOnly, earliest_of, latest_of};
+ghost use Rattle.chrono_zoned.specs.Zones.{IsMapped, IsOnly};
 ghost use Rattle.chrono_zoned.specs.declared.mapped_local_time.MappedLocalTime.{MappedLocalTime};
-ghost use Rattle.chrono_zoned.specs.declared.mapped_local_time.MappedLocalTime.TheVariants.{Ambiguous, Single};
 ghost use Rattle.chrono_cron.specs.Due.{is_due};
-ghost use Rattle.chrono_cron.specs.KnownSchedules.{each_minute, known_moment, no_minute};
+ghost use Rattle.chrono_cron.specs.KnownSchedules.{each_minute, no_minute};
 ghost use Rattle.chrono_cron.specs.declared.field_sets.FieldSets.{FieldSets};
 ghost use Rattle.zoned_cron.specs.DayFirings.{AreDifferent, FireOnceEach, FireTogether, ShowsMinutes, minute_of_day, planned_minutes};
 ghost use Rattle.zoned_cron.specs.Fires.{ChangesAreShort, FiresAt, FollowsClock, IsGap, IsInstant, Takes, TakesShown, as_planned, as_shown, as_shown_last, once_each};
@@ -99,17 +97,6 @@ pub fn known_policies()
     ensures clock { FollowsClock each_minute }
     ensures fixed { ¬ FollowsClock no_minute }
     ensures quartz { as_shown_last ≡ record { gap = Skip; fold = Later } }
-{}
-
-/// What the readings of a local time are that the clock shows twice, and what a clock shows.
-///
-/// Of two offsets that of the earlier instant comes first. At the second 1,000 a clock that is set an hour ahead there shows 01:16:40.
-pub fn known_local_times()
-    ensures earliest { earliest_of (Ambiguous (pos 3_600) (pos 0)) ≡ Some (pos 3_600) }
-    ensures latest { latest_of (Ambiguous (pos 3_600) (pos 0)) ≡ Some (pos 0) }
-    ensures only { latest_of (Single (pos 3_600)) ≡ earliest_of (Single (pos 3_600)) }
-    ensures before { local_at set_ahead (known_moment (pos 719_163) 0 16 39 0) ≡ known_moment (pos 719_163) 0 16 39 0 }
-    ensures behind { local_at set_ahead (known_moment (pos 719_163) 0 16 40 0) ≡ known_moment (pos 719_163) 1 16 40 0 }
 {}
 
 /// What becomes of the local second 2,000 where the clock is set ahead from 1,000 to 4,600.

@@ -1,5 +1,5 @@
 -- Known starts, ends and sets.
-use Rattle.std.proofs.Common.{◌≡◌, ◌⊎◌, ⊎_elim, inl, inr, Bool, true, false, ◌||◌, List, [], ◌∷◌, ℤ, pos, ◌+ℤ◌, ◌-ℤ◌, ◌≤ℤ◌, ◌<ℤ◌, arith, ap, refl, subst, sym}
+use Rattle.std.proofs.Common.{◌≡◌, ◌⊎◌, ⊎_elim, inl, inr, Bool, true, false, ◌||◌, List, [], ◌∷◌, ℤ, pos, neg_ℤ, ◌+ℤ◌, ◌-ℤ◌, ◌≤ℤ◌, ◌<ℤ◌, arith, ap, refl, subst, sym}
 use Rattle.std.specs.Ordering.{int_eq}
 use Rattle.std.proofs.lemmas.Bool.{both_ways}
 use Rattle.std.proofs.lemmas.Int.{by_lt_z, ints}
@@ -10,7 +10,7 @@ use Rattle.chrono_zoned.specs.Zoned.{Zoned}
 use Rattle.chrono_zoned.proofs.OneChangeLemmas.{ChangesOnce-set_ahead}
 use Rattle.zoned_rules.specs.LocalInstants.{HasDates, IsInstantOf}
 use Rattle.zoned_rules.specs.LocalTimes.{IsLocalSecond, LocalParts}
-use Rattle.zoned_rules.specs.Recurs.{IsLeastOf, IsNumbered, IsOneOf, IsWithin, Recurs}
+use Rattle.zoned_rules.specs.Recurs.{IsLeastOf, IsNumbered, IsOneOf, IsWithin, Recurs, RecursWithin}
 use Rattle.zoned_rules.specs.ZonedSets.{IsInZonedSet, lists_second}
 use Rattle.zoned_rules.specs.declared.bound.Bound.{Bound}
 use Rattle.zoned_rules.specs.declared.bound.Bound.TheVariants.{Count, Until}
@@ -51,6 +51,14 @@ until_last P m = omega (arith, ints)
 
 pub until_past : (P : ℤ → Type 0) (m : Moment) → ¬ IsWithin (Until m) P (epoch_second m +ℤ pos 1)
 until_past P m within = omega (arith, ints, within)
+
+-- UNTIL is an instant, whatever the clock shows there. An UNTIL of 2,000 keeps the instance at 1,500, which a clock shows as 5,100
+until_by_utc : (r : LocalParts) (m : Moment) → epoch_second m ≡ pos 2_000 → Recurs r (λ _. pos 3_600) (pos 1_500) → RecursWithin r (λ _. pos 3_600) (Until m) (pos 1_500)
+until_by_utc r m until recurs = record { recurs = recurs; within = omega (arith, ints, until) }
+
+-- and it leaves out one at 3,000, which a clock shows as -600
+until_past_utc : (r : LocalParts) (m : Moment) → epoch_second m ≡ pos 2_000 → ¬ RecursWithin r (λ _. neg_ℤ (pos 3_600)) (Until m) (pos 3_000)
+until_past_utc r m until h = omega (arith, ints, until, h.within)
 
 abbrev three : ℤ → Type 0
 three u = (u ≡ pos 10) ⊎ ((u ≡ pos 20) ⊎ (u ≡ pos 30))
@@ -94,3 +102,19 @@ set_left_out r ahead bound d h = both_ways (lists_second (d ∷ []) (epoch_secon
 
 pub set_in_both : (r : LocalParts) (ahead : ℤ → ℤ) (bound : Bound) (d : Zoned ℤ) → ¬ IsInZonedSet r ahead bound (d ∷ []) (d ∷ []) (epoch_second d.utc)
 set_in_both r ahead bound d h = both_ways (lists_second (d ∷ []) (epoch_second d.utc)) h.kept (lists_itself d)
+
+-- an instance of the rule is in the set where nothing is listed
+set_of_rule : (r : LocalParts) (ahead : ℤ → ℤ) (bound : Bound) (u : ℤ) → HasDates ahead u → RecursWithin r ahead bound u → IsInZonedSet {Z = ℤ} r ahead bound [] [] u
+set_of_rule r ahead bound u dates recurs = record { included = record { has_dates = dates; included = inl recurs }; kept = refl }
+
+-- the second after an instant that is listed is in no set without it
+lists_no_other : (d : Zoned ℤ) → lists_second (d ∷ []) (epoch_second d.utc +ℤ pos 1) ≡ false
+lists_no_other d =
+    let u = epoch_second d.utc in
+    let other : int_eq u (u +ℤ pos 1) ≡ false = grind (arith, ints) in
+    ap (λ b. b || false) other
+
+set_without_other : (r : LocalParts) (ahead : ℤ → ℤ) (bound : Bound) (d : Zoned ℤ) → ¬ RecursWithin r ahead bound (epoch_second d.utc +ℤ pos 1)
+    → ¬ IsInZonedSet r ahead bound (d ∷ []) [] (epoch_second d.utc +ℤ pos 1)
+set_without_other r ahead bound d none h =
+    ⊎_elim none (λ listed. both_ways (lists_second (d ∷ []) (epoch_second d.utc +ℤ pos 1)) (lists_no_other d) listed) h.included.included

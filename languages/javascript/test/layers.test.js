@@ -23,7 +23,7 @@ const EASTER = ["2024-03-29", "2024-04-01"];
 const END = "+262142-12-31T23:59:59";
 
 test("layers_version", () => {
-  assert.equal(version(), "0.1.0");
+  assert.equal(version(), "0.2.0-dev");
 });
 
 test("schedule_read", () => {

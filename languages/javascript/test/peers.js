@@ -1,5 +1,5 @@
 /**
- * Compares the layers with the answers of other programs, which stand in a file that checks/peer_answers.py writes.
+ * Compares the layers with the answers of other programs, which stand in a file that checks/packages/peer_answers.py writes.
  *
  * Prints as JSON how many answers were alike and how many were left out, and the first that differ.
  */

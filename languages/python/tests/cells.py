@@ -1,4 +1,4 @@
-"""An example of each layer in Python. What stands behind `=` is what its line prints. checks/cells.py looks for these parts."""
+"""An example of each layer in Python. What stands behind `=` is what its line prints. checks/packages/cells.py looks for these parts."""
 from proved_calendar import Date, DateTime
 
 # == texts read

@@ -1,6 +1,6 @@
 #!/usr/bin/env python3
 """Calls every method of proved_calendar.dask on two partitions and more, beside proved_calendar.pandas on one Series, and tries what
-is wrong. It needs numpy, pandas and dask.dataframe; checks/dask_columns.py runs processes."""
+is wrong. It needs numpy, pandas and dask.dataframe; checks/packages/dask_columns.py runs processes."""
 import doctest
 import unittest
 

@@ -1,7 +1,7 @@
 #!/usr/bin/env python3
 """Compares proved_calendar with calendars that are made otherwise: with datetime on each of its 3,652,059 days, and beyond them
-with checks/counted.py and with a walk that counts day after day by the leap rule alone, over 400 years at both ends and around
-year 0. Moves and date-times are compared with checks/counted.py on samples from the whole calendar.
+with checks/shared/counted.py and with a walk that counts day after day by the leap rule alone, over 400 years at both ends and around
+year 0. Moves and date-times are compared with checks/shared/counted.py on samples from the whole calendar.
 """
 import datetime
 import itertools
@@ -13,9 +13,9 @@ import unittest
 
 from proved_calendar import Date, DateTime, Duration, days_in_month, days_until, is_leap_year
 
-sys.path.append(os.path.join(os.path.dirname(os.path.abspath(__file__)), "..", "..", "..", "checks"))
-import counted  # noqa: E402
-from counted import FIRST_DAY, FIRST_YEAR, LAST_DAY, LAST_YEAR, NANOS  # noqa: E402
+sys.path.append(os.path.join(os.path.dirname(os.path.abspath(__file__)), "..", "..", ".."))
+from checks.shared import counted  # noqa: E402
+from checks.shared.counted import FIRST_DAY, FIRST_YEAR, LAST_DAY, LAST_YEAR, NANOS  # noqa: E402
 
 # The days of 400 years, after which the calendar comes again, and those of datetime.
 CYCLE = 146_097

@@ -1,4 +1,4 @@
-//! An example of each layer in Rust. What stands behind `=` is what its line prints. checks/cells.py looks for these parts.
+//! An example of each layer in Rust. What stands behind `=` is what its line prints. checks/packages/cells.py looks for these parts.
 
 use proved_calendar::{columns, easter, BusinessCalendar, CalendarText, Date, DateTime, DayCount};
 use proved_calendar::{Dialect, KnownCalendar, Pattern, Rule, RuleSet, Schedule, TimedSchedule};

@@ -1,4 +1,4 @@
-//! Compares the layers with the answers of other programs, in the file that PEER_ANSWERS names. checks/peer_answers.py writes it.
+//! Compares the layers with the answers of other programs, in the file that PEER_ANSWERS names. checks/packages/peer_answers.py writes it.
 
 use proved_calendar::{BusinessCalendar, Date, DateTime, Rule, Schedule, Weekday, WeekdaySet};
 

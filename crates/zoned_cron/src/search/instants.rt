@@ -3,7 +3,7 @@ ghost use Rattle.std.specs.Prelude.{◌≡◌, ◌↔◌, ◌<◌, ℤ, pos, ◌
 ghost use Rattle.chrono_datetime.specs.Moment.{IsMoment};
 ghost use Rattle.chrono_instant.specs.Instants.{IsEpochSecond, LiesIn, epoch_second};
 ghost use Rattle.chrono_zoned.specs.Offsets.{IsOffset};
-ghost use Rattle.chrono_zoned.specs.Zones.{AreAll, IsAmong, Shows};
+ghost use Rattle.chrono_zoned.specs.Zones.{AreAll, IsAmong};
 ghost use Rattle.zoned_cron.specs.Fires.{Fires, IsGap, IsShortStep};
 ghost use Rattle.zoned_cron.specs.Private.{BeginsBefore, EndsGap, EndsShortGap, IfTwo, IsFirstOrLate, IsHeld, IsInTwo, IsLastIn, IsNearADate, IsOnceIn, IsOnceInTwo, IsSettledAt, TakesDated};
 

@@ -1,5 +1,5 @@
-use Rattle.std.proofs.Common.{◌≡◌, ◌∙◌, inl, inr, refl, ℕ, pos, ◌<◌, ℤ, ◌≤ℤ◌, ◌<ℤ◌, true, false, ap, length, subst, sym, to_z, of_z, w64}
-use Rattle.std.specs.Prelude.{◌⊎◌, None, Option, Some}
+use Rattle.std.proofs.Common.{◌≡◌, ◌∙◌, ℕ, pos, ◌<◌, ℤ, ◌≤ℤ◌, ◌<ℤ◌, true, false, ap, length, subst, sym, to_z, of_z, w64}
+use Rattle.std.specs.Prelude.{◌⊎◌, None, Option}
 use Rattle.std.proofs.lemmas.Int.{to_z-of_z}
 use Rattle.chrono_zoned.specs.Offsets.{IsOffset}
 use Rattle.chrono_zoned.specs.Zones.{HoldsUntil}

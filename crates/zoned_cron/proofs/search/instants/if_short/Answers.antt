@@ -2,7 +2,6 @@ use Rattle.std.proofs.Common.{◌≡◌, ℤ, pos, SFits, ◌+ℤ◌, ◌-ℤ◌
 use Rattle.std.proofs.lemmas.Bool.{false≢true}
 use Rattle.std.proofs.lemmas.Int.{ints, to_z-of_z}
 use Rattle.chrono_datetime.proofs.Signed.{casts}
-use Rattle.zoned_cron.specs.Fires.{IsShortStep}
 use Rattle.zoned_cron.specs.Private.{IsNearADate}
 use Rattle.zoned_cron.proofs.Instants.{short_no, short_yes}
 use Rattle.zoned_cron.proofs.search.instants.if_short.Goals as goal
