@@ -34,8 +34,8 @@ REFUSED = {
     "a big-endian machine": ["s390x-linux-gnu-gcc", "-ffreestanding"],
     "pointers of 32 bits": ["clang", "--target=i386-linux-gnu", "-ffreestanding"],
 }
-# A library: the name of its C file and of its header, its test, its program of random calls, what that program takes before the number of rounds,
-# one round of how many that are asked for it makes, the warnings that it may give, the builds that it is left out of, and faults of its C file alone.
+# A library: the name of its C file and of its header, its test, its program of random calls and the words before its number of rounds, by what that
+# number is divided, the warnings that its C file may give, the builds that it is left out of and why, and faults of its C file alone.
 Library = collections.namedtuple("Library", "name test calls words part allowed apart faults")
 LIBRARIES = {
     CALENDAR: Library("calendar", "test.c", "calls.c", [], 1, [], {}, {
