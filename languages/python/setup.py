@@ -19,7 +19,7 @@ SOURCES = next((it for it in ("amalgamation", "../../amalgamation") if os.path.e
 IS_LINUX, IS_WINDOWS = sys.platform == "linux", sys.platform == "win32"
 # ctypes calls functions of the library, which are hidden in the C files if nothing says otherwise. On Windows a list of them says it.
 EXPORTS = [] if HAS_LIBRARIES or IS_WINDOWS else ["-include", "src/exports.h"]
-FLAGS = ["-std=c99", "-O2", "-g0", "-fvisibility=hidden", *EXPORTS, "-Wall", "-Wextra", "-Wpedantic", *(["-fno-plt"] if IS_LINUX else [])]
+FLAGS = ["-std=c99", "-O3", "-g0", "-fvisibility=hidden", *EXPORTS, "-Wall", "-Wextra", "-Wpedantic", *(["-fno-plt"] if IS_LINUX else [])]
 
 
 def functions():
