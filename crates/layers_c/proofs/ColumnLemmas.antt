@@ -69,11 +69,11 @@ open_within-there years c n d b e is =
 
 pub open_within-other : (years : KnownYears) (c : Closed) (n d : ℤ) → Some d ≡ date_of_day n
     → None ≡ (if is_known years d then Some (is_open c d) else None) → 2 ≡ open_within_entry years c n
-open_within-other years c n d e is = rw (there n d e, ← (some-date_of_day n d e).1) (by-cases (is_known years d) is)
+open_within-other years c n d e is = rw (there n d e, ← (some-date_of_day n d e).1, not-known (is_known years d) is) refl
   where
-    by-cases : (known : Bool) → None ≡ (if known then Some (is_open c d) else None) → 2 ≡ (cond known (cond (is_open c d) 1 0) 2)
-    by-cases true is = absurd (none-some (is_open c d) is)
-    by-cases false is = refl
+    not-known : (known : Bool) → None ≡ (if known then Some (is_open c d) else None) → known ≡ false
+    not-known true is = absurd (none-some (is_open c d) is)
+    not-known false is = refl
 
 pub open_within-none : (years : KnownYears) (c : Closed) (n : ℤ) → None ≡ date_of_day n → 0 ≡ open_within_entry years c n
 open_within-none years c n e = rw (not-there n e) refl

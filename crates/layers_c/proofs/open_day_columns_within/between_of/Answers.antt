@@ -1,4 +1,4 @@
-use Rattle.std.proofs.Common.{◌≡◌, ◌∙◌, sym, refl, FitsSigned, rules, w32, w64}
+use Rattle.std.proofs.Common.{◌∙◌, sym, refl, FitsSigned, rules, w32, w64}
 use Rattle.std.proofs.lemmas.Int.{to_z-of_z}
 use Rattle.chrono_calendar.proofs.NamedDates.{date_of_day-number, none-date_of_day}
 use Rattle.layers_c.proofs.FoundNumbers.{named-is-date}
