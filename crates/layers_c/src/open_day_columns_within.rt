@@ -57,7 +57,7 @@ pub extern "C" fn calendar_column_add_open_days_within(
     ensures every { IsCalendar weekend holidays.now → length moved.old ≡ length dates.now → result ≡ true }
     ensures filled { result ≡ true → (i : ℕ) → i < length dates.now
         → IsMovedWithin (years_from_c first_year last_year) (closed_from_c weekend holidays.now) n
-            (slice_index_or dates.now i (pos 0)) (slice_index_or moved.new i (pos 0)) }
+        (slice_index_or dates.now i (pos 0)) (slice_index_or moved.new i (pos 0)) }
     ensures kept { result ≡ false → moved.new ≡ moved.old }
 {
     if moved.len() != dates.len() {
@@ -88,7 +88,7 @@ pub extern "C" fn calendar_column_open_days_between_within(
     ensures every { IsCalendar weekend holidays.now → length to.now ≡ length from.now → length days.old ≡ length from.now → result ≡ true }
     ensures filled { result ≡ true → (i : ℕ) → i < length from.now
         → IsBetweenWithin (years_from_c first_year last_year) (closed_from_c weekend holidays.now)
-            (slice_index_or from.now i (pos 0)) (slice_index_or to.now i (pos 0)) (slice_index_or days.new i (pos 0)) }
+        (slice_index_or from.now i (pos 0)) (slice_index_or to.now i (pos 0)) (slice_index_or days.new i (pos 0)) }
     ensures kept { result ≡ false → days.new ≡ days.old }
 {
     if to.len() != from.len() {
@@ -122,7 +122,7 @@ pub extern "C" fn calendar_column_roll_within(
     ensures every { (r : Roll) → IsCalendar weekend holidays.now → roll_numbered roll ≡ Some r → length rolled.old ≡ length dates.now → result ≡ true }
     ensures filled { result ≡ true → (r : Roll) × (roll_numbered roll ≡ Some r) × ((i : ℕ) → i < length dates.now
         → IsRolledWithin (years_from_c first_year last_year) (closed_from_c weekend holidays.now) r
-            (slice_index_or dates.now i (pos 0)) (slice_index_or rolled.new i (pos 0))) }
+        (slice_index_or dates.now i (pos 0)) (slice_index_or rolled.new i (pos 0))) }
     ensures kept { result ≡ false → rolled.new ≡ rolled.old }
 {
     if rolled.len() != dates.len() {
@@ -167,13 +167,7 @@ fn open_of(calendar: &Calendar<'_>, years: KnownYears, number: i32) -> u8
 }
 
 // Writes the date that each goes to by `n` open days.
-fn write_moved(
-    calendar: &Calendar<'_>,
-    years: KnownYears,
-    dates: &[i32],
-    n: i64,
-    moved: &mut [i32],
-)
+fn write_moved(calendar: &Calendar<'_>, years: KnownYears, dates: &[i32], n: i64, moved: &mut [i32])
     requires { length moved.old ≡ length dates.now }
     ensures { (i : ℕ) → i < length dates.now
         → IsMovedWithin years calendar.now n (slice_index_or dates.now i (pos 0)) (slice_index_or moved.new i (pos 0)) }
