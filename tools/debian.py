@@ -7,6 +7,8 @@ import sys
 TOP = os.path.dirname(os.path.dirname(os.path.abspath(__file__)))
 PYTHON = "/usr/bin/python3"
 REGISTRY = "/usr/share/cargo/registry"
+# The folder of Debian's Python for ARM, which tools/setup unpacks and qemu runs.
+ARM = "/usr/local/aarch64-linux-gnu"
 # The options by which cargo takes libraries from Debian's packages alone.
 FROM_DEBIAN = ["--config", 'source.crates-io.replace-with="debian"', "--config", f'source.debian.directory="{REGISTRY}"']
 

@@ -8,22 +8,16 @@ are small, near days of this century, near the ends of their types and of the ca
 texts lie in memory of their own size, and their lengths may differ. The sanitizers watch the program, and valgrind the library too.
 A second program says that each text has one byte more than it has, and valgrind has to find that.
 """
-import re
 import shutil
 import subprocess
 import sys
 import tempfile
 
+from checks.packages.answer_sums import WIDTH, declared, parts_of
 from checks.packages.layers_c import COUNTS, SANITIZERS, WARNINGS
-from checks.shared.results import LANGUAGES, Results, read, run, succeeds
+from checks.shared.results import LANGUAGES, Results, run, succeeds
 from library import take_library
 
-HEADER = f"{LANGUAGES}/c/calendar.h"
-# The fields of each struct that a function returns.
-FIELDS = {
-    "calendar_ymd": ("year", "month", "day"), "calendar_time": ("second", "nanos"),
-    "calendar_date_time": ("seconds", "nanos"), "calendar_duration": ("seconds", "nanos"),
-}
 # What a program begins with: random numbers, memory of a size, and texts.
 BEGIN = """#include "calendar.h"
 #include <stdio.h>
@@ -31,7 +25,6 @@ BEGIN = """#include "calendar.h"
 #include <string.h>
 
 static uint64_t state = 88172645463325252u;
-static uint64_t sum;
 
 static uint64_t any(void) {
     state ^= state << 13;
@@ -52,16 +45,6 @@ static uint64_t number(void) {
     case 4: return ENDS[any() % (sizeof ENDS / sizeof *ENDS)] + any() % 3 - 1;
     default: return any() % 190000000 - 95000000;
     }
-}
-
-/* All answers go into one sum. */
-static void add(uint64_t answer) {
-    sum = (sum ^ answer) * 1099511628211u;
-    sum ^= sum >> 29;
-}
-
-static void add_bytes(const void *bytes, size_t size) {
-    for (size_t i = 0; i < size; i++) add(((const uint8_t *)bytes)[i]);
 }
 
 static void *memory(size_t size) {
@@ -86,23 +69,16 @@ int main(int count, char **words) {
 """
 
 
-def declared():
-    """The functions of the header: name, result and parameters."""
-    text = re.sub(r"/\*.*?\*/", "", read(HEADER), flags=re.S)
-    for result, name, listed in re.findall(r"^(\w+)\s+(calendar_\w+)\(([^)]*)\);", text, re.M):
-        yield name, result, [re.sub(r"\s+", " ", it.strip()) for it in listed.split(",") if it.strip() != "void"]
-
-
-def call_of(name, result, parameters, more):
+def call_of(name, parameters, more):
     """The lines that call a function once. A text is said to have so many bytes more than it has."""
-    lines, given, freed, written = ["const size_t same = any() % 20;", "(void)same;"], [], [], []
+    lines, given, freed = ["const size_t same = any() % 20;", "(void)same;"], [], []
     rest = iter(parameters)
     for it in rest:
-        constant, kind, pointer, called = re.fullmatch(r"(const )?(\w+) (\*?)(\w+)", it).groups()
+        constant, kind, pointer, called = parts_of(it)
         if pointer:
             # (its length follows)
             next(rest)
-            width = 10 if called == "texts" else 1
+            width = WIDTH if called == "texts" else 1
             lines.append(f"const size_t {called}_count = any() % 8 ? same : any() % 40;")
             is_text = kind == "uint8_t" and constant and called.startswith("text")
             made = f"text_of({called}_count * {width})" if is_text else f"memory({called}_count * {width} * sizeof({kind}))"
@@ -111,7 +87,6 @@ def call_of(name, result, parameters, more):
                 lines.append(f"for (size_t i = 0; i < {called}_count; i++) if (any() % 8) {called}[i] = ({kind})number();")
             given += [called, f"{called}_count" + (f" + {more}" if more and is_text else "")]
             freed.append(f"free({called});")
-            written += [] if constant else [f"add_bytes({called}, {called}_count * {width} * sizeof({kind}));"]
         elif kind in ("calendar_date_time", "calendar_duration"):
             lines.append(f"const {kind} {called} = {{(int64_t)number(), any() % 2 ? 0 : (uint32_t)number()}};")
             given.append(called)
@@ -121,26 +96,17 @@ def call_of(name, result, parameters, more):
         else:
             lines.append(f"const {kind} {called} = ({kind})number();")
             given.append(called)
-    call = f"{name}({', '.join(given)})"
-    if result == "void":
-        lines.append(f"{call};")
-    elif result.startswith("calendar_"):
-        lines.append(f"const {result} answer = {call};")
-        lines += [f"add((uint64_t)answer.{field});" for field in FIELDS[result]]
-    else:
-        lines.append(f"add((uint64_t){call});")
-    return [*lines, *written, *freed]
+    return [*lines, f"(void){name}({', '.join(given)});", *freed]
 
 
 def write_program(path, more):
     """Writes a program that calls each function in each round; how many functions there are."""
-    functions = list(declared())
+    functions = list(declared("calendar.h"))
     with open(path, "w", encoding="utf-8") as it:
         it.write(BEGIN)
-        for name, result, parameters in functions:
-            it.write("        {\n" + "".join(f"            {line}\n" for line in call_of(name, result, parameters, more)) + "        }\n")
-        it.write('    }\n    printf("sum %016llx\\n", (unsigned long long)sum);\n')
-        it.write(f'    printf("%ld passed, 0 failed\\n", rounds * {len(functions)});\n    return 0;\n}}\n')
+        for name, _, parameters in functions:
+            it.write("        {\n" + "".join(f"            {line}\n" for line in call_of(name, parameters, more)) + "        }\n")
+        it.write(f'    }}\n    printf("%ld passed, 0 failed\\n", rounds * {len(functions)});\n    return 0;\n}}\n')
     return len(functions)
 
 

@@ -21,7 +21,8 @@ static void count(bool is_right, int line)
 
 #define HOLDS(claim) count(claim, __LINE__)
 
-/* A number of all 64-bit numbers (xorshift). */
+/* A number of all 64-bit numbers (xorshift). Where C leaves the order of two calls open, these stand in two statements, so that each compiler
+ * makes the same program. */
 static uint64_t any(void)
 {
     state ^= state << 13;
@@ -58,6 +59,13 @@ static void fill(void *place, size_t length)
     free(made);
 }
 
+/* Turns one bit of so many bytes. */
+static void turn_bit(uint8_t *place, size_t length)
+{
+    size_t at = any() % length;
+    place[at] ^= (uint8_t)(1 << any() % 8);
+}
+
 /* Whether a function tells a fault of a reader, in so many bytes. */
 typedef int32_t Teller(const calendar_fault *fault, uint8_t *text, size_t room);
 
@@ -86,7 +94,9 @@ static void any_fault(Teller *tell, uint32_t codes)
 /* A date-time of the calendar, or now and then any two numbers. */
 static calendar_date_time moment(void)
 {
-    calendar_date_time made = {(int64_t)any(), (uint32_t)any()};
+    calendar_date_time made;
+    made.seconds = (int64_t)any();
+    made.nanos = (uint32_t)any();
     if (any() % 8) {
         made.seconds = (int64_t)(any() % 16544868105599u) - 8334601228800;
         made.nanos = any() % 2 ? 0 : (uint32_t)(any() % 1000000000);
@@ -142,7 +152,7 @@ static void schedules(void)
     HOLDS(!is_moment(last) || (is_before(last, start) && calendar_schedule_is_due(&schedule, last)));
     HOLDS(is_moment(start) || (!is_moment(next) && !is_moment(last)));
     size_t room = any() % 9;
-    calendar_date_time *out = (calendar_date_time *)malloc((room ? room : 1) * sizeof *out);
+    calendar_date_time *out = (calendar_date_time *)bytes(room * sizeof *out);
     size_t written = calendar_schedule_due(&schedule, start, until, out, room);
     HOLDS(written <= room);
     calendar_date_time at = start;
@@ -180,13 +190,20 @@ static size_t holidays(uint8_t weekend, int32_t *days, size_t room)
     return count;
 }
 
+/* A date near one of some days. */
+static int32_t near_one(const int32_t *days, size_t length)
+{
+    uint32_t day = (uint32_t)days[any() % length];
+    return (int32_t)(day + (uint32_t)(any() % 9) - 4);
+}
+
 static void open_days(void)
 {
     uint8_t weekend = any() % 2 ? 96 : (uint8_t)any();
     size_t room = any() % 40;
     int32_t *days = (int32_t *)malloc((room ? room : 1) * sizeof *days);
     size_t length = holidays(weekend, days, room);
-    int32_t near = length ? (int32_t)((int64_t)days[any() % length] + (int64_t)(any() % 9) - 4) : date();
+    int32_t near = length ? near_one(days, length) : date();
     int64_t n = any() % 8 ? (int64_t)(any() % 400) - 200 : (int64_t)any();
     int32_t moved = calendar_add_open_days(weekend, days, length, near, n);
     HOLDS(moved == CALENDAR_NONE || calendar_is_open_day(weekend, days, length, moved));
@@ -206,7 +223,7 @@ static void open_days_within(void)
     uint8_t weekend = any() % 2 ? 96 : (uint8_t)any();
     int32_t days[40];
     size_t length = holidays(weekend, days, 40);
-    int32_t near = length ? (int32_t)((int64_t)days[any() % length] + (int64_t)(any() % 9) - 4) : date(), end = date();
+    int32_t near = length ? near_one(days, length) : date(), end = date();
     int64_t n = any() % 8 ? (int64_t)(any() % 400) - 200 : (int64_t)any();
     /* (a year has 365.2425 days) */
     int32_t year = (int32_t)((int64_t)near * 400 / 146097 + 1), first = any() % 8 ? year - (int32_t)(any() % 3) : (int32_t)any();
@@ -267,7 +284,7 @@ static void rules(void)
     HOLDS(next == CALENDAR_NONE || (is_rule && next > day && calendar_rule_is_instance(given, length, start, next)));
     HOLDS(last == CALENDAR_NONE || (is_rule && last < day && calendar_rule_is_instance(given, length, start, last)));
     size_t room = any() % 9;
-    int32_t *out = (int32_t *)malloc((room ? room : 1) * sizeof *out);
+    int32_t *out = (int32_t *)bytes(room * sizeof *out);
     size_t written = calendar_rule_instances(given, length, start, day, until, out, room);
     HOLDS(written <= room && (is_rule || written == 0));
     for (size_t i = 0; i < written; i++) {
@@ -282,7 +299,7 @@ static void rules(void)
 static void known_holidays(void)
 {
     size_t room = any() % 200;
-    int32_t *days = (int32_t *)malloc((room ? room : 1) * sizeof *days);
+    int32_t *days = (int32_t *)bytes(room * sizeof *days);
     int32_t first = any() % 8 ? 1960 + (int32_t)(any() % 100) : (int32_t)any() / 4, last = first + (int32_t)(any() % 20) - 1;
     uint8_t weekend = any() % 2 ? 96 : (uint8_t)any();
     calendar_fault fault = {0, 0, 0, 0};
@@ -304,14 +321,13 @@ static void columns(void)
     uint8_t weekend = any() % 2 ? 96 : (uint8_t)any();
     int32_t days[30];
     size_t length = holidays(weekend, days, 30), room = any() % 20, other = any() % 4 ? room : any() % 20;
-    int32_t *dates = (int32_t *)malloc((room ? room : 1) * sizeof *dates), *out = (int32_t *)malloc((other ? other : 1) * sizeof *out);
-    int64_t *counted = (int64_t *)malloc((other ? other : 1) * sizeof *counted);
+    int32_t *dates = (int32_t *)bytes(room * sizeof *dates), *out = (int32_t *)bytes(other * sizeof *out);
+    int64_t *counted = (int64_t *)bytes(other * sizeof *counted);
     uint8_t *marks = bytes(other);
     for (size_t i = 0; i < room; i++) {
-        dates[i] = length && any() % 4 ? (int32_t)((uint32_t)days[any() % length] + (uint32_t)(any() % 9) - 4) : date();
+        dates[i] = length && any() % 4 ? near_one(days, length) : date();
     }
-    fill(out, other * sizeof *out);
-    calendar_fault fault;
+    calendar_fault fault = {0, 0, 0, 0};
     bool is_right = room == other && calendar_holidays_check(weekend, days, length, &fault);
     int64_t n = any() % 8 ? (int64_t)(any() % 400) - 200 : (int64_t)any();
     uint32_t roll = (uint32_t)(any() % 8);
@@ -460,7 +476,8 @@ static size_t block(uint8_t *place, char version, size_t size, size_t rows, size
         number(at, from, size);
     }
     for (size_t i = 0; i < rows; i++) {
-        *at++ = (uint8_t)(any() % (any() % 64 ? kinds : kinds + 1));
+        size_t ends = any() % 64 ? kinds : kinds + 1;
+        *at++ = (uint8_t)(any() % ends);
     }
     for (size_t i = 0; i < kinds; i++, at += 6) {
         int64_t hours = any() % 2 ? (int64_t)(any() % 3) - 1 : (int64_t)(any() % 53) - 26;
@@ -483,7 +500,8 @@ static uint8_t *zone_file(size_t *length)
     size_t end = block(made, version, 4, version ? any() % 2 : rows, kinds, from / 4);
     if (version) {
         end += block(made + end, version, 8, rows, kinds, any() % 8 ? from : (int64_t)any() / 4);
-        end += (size_t)snprintf((char *)made + end, 64, "\n%s%s", zone_rule(), any() % 16 ? "\n" : "");
+        const char *footer = zone_rule();
+        end += (size_t)snprintf((char *)made + end, 64, "\n%s%s", footer, any() % 16 ? "\n" : "");
     }
     /* (now and then it ends too early, or goes on) */
     *length = any() % 16 ? end : any() % (end + 9);
@@ -505,7 +523,7 @@ static uint8_t *zone(size_t *length)
         made = zone_file(length);
     }
     if (*length && any() % 8 == 0) {
-        made[any() % *length] ^= (uint8_t)(1 << any() % 8);
+        turn_bit(made, *length);
     }
     return made;
 }
@@ -568,7 +586,7 @@ static uint8_t *calendar(size_t *length)
     uint8_t *copy = bytes(*length);
     memcpy(copy, made, *length);
     if (*length && any() % 8 == 0) {
-        copy[any() % *length] ^= (uint8_t)(1 << any() % 8);
+        turn_bit(copy, *length);
     }
     return copy;
 }
@@ -591,7 +609,7 @@ static void calendars(void)
     HOLDS(!is_moment(last) || (is_meant && is_before(last, start) && calendar_text_is_instance(given, length, place, zone_length, last)));
     HOLDS(is_meant || !calendar_text_is_instance(given, length, place, zone_length, start));
     size_t room = any() % 6;
-    calendar_date_time *out = (calendar_date_time *)malloc((room ? room : 1) * sizeof *out), at = start;
+    calendar_date_time *out = (calendar_date_time *)bytes(room * sizeof *out), at = start;
     size_t written = calendar_text_instances(given, length, place, zone_length, start, until, out, room), found = 0;
     HOLDS(written <= room);
     while (is_moment(start) && is_moment(until) && found < room) {
@@ -619,7 +637,7 @@ static void timed_schedules(void)
     size_t length = any() % 24;
     uint8_t *given = any() % 4 ? copy_of(schedules[any() % (sizeof schedules / sizeof *schedules)], &length) : text(length);
     if (length && any() % 8 == 0) {
-        given[any() % length] ^= (uint8_t)(1 << any() % 8);
+        turn_bit(given, length);
     }
     uint32_t dialect = any() % 16 ? (uint32_t)(any() % 4) : (uint32_t)any();
     calendar_fault fault = {0, 0, 0, 0};

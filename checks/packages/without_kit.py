@@ -5,19 +5,23 @@
 
 Each C file has to be of the sources of this tree, by the sum in its head. Then, with no `rt` on the path, each line that the pages give for a
 clone is run: C by cc, by CMake and by pkg-config, caltool by cc, Python by pip, Rust by cargo, JavaScript by npm, SQLite and PostgreSQL by make.
-README's examples have to print what README says; its query for PostgreSQL is checks/packages/postgresql.py's.
+README's examples have to print what README says; its query for PostgreSQL is checks/packages/postgresql.py's. A new user has to have an answer in each
+language within LONGEST seconds of one processor. checks/packages/wheel_tags.py says what the wheels are held to.
 """
+import contextlib
 import glob
 import os
 import re
+import resource
 import shutil
 import subprocess
 import sys
 import tempfile
+import time
 
 import packages
 from checks import TOP
-from checks.packages import from_c
+from checks.packages import from_c, wheel_tags
 from checks.shared.results import LANGUAGES, Results, read, readme_examples, run, succeeds, write
 from debian import REGISTRY, cargo_environment
 from packages import javascript, python, sqlite
@@ -34,6 +38,7 @@ add_subdirectory({sources} calendar)
 add_executable(user {test})
 target_link_libraries(user calendar::calendar)
 """
+LONGEST = 120
 ASKED = ("ymd 1900 2 29\nymd 2024 2 29\n", "none\n2024-02-29 738945 Thu 2024-W09 60\n")
 
 
@@ -65,6 +70,17 @@ def compare_sums(results):
         results.count(read(f"{SOURCES}/{header}") == read(f"{LANGUAGES}/c/{header}"), f"amalgamation/{header} is not languages/c/{header}")
 
 
+@contextlib.contextmanager
+def timed(results, what):
+    """Tells how long a new user of a language waits for the first answer, and counts whether one processor needs no more than LONGEST seconds."""
+    began, before = time.time(), resource.getrusage(resource.RUSAGE_CHILDREN)
+    yield
+    after = resource.getrusage(resource.RUSAGE_CHILDREN)
+    used = after.ru_utime + after.ru_stime - before.ru_utime - before.ru_stime
+    print(f"{what} answers after {time.time() - began:.0f} seconds, and took one processor {used:.0f}", flush=True)
+    results.count(used <= LONGEST, f"{what} takes one processor more than {LONGEST} seconds until it answers")
+
+
 def try_examples(results, language, printed):
     """README's examples in a language print what README says, each by a function that runs it, or gives None if it cannot be run here."""
     examples = readme_examples(language)
@@ -81,14 +97,16 @@ def try_c(results, room, env):
         words = ["cc", "-O2", f"-I{SOURCES}", f"{room}/main.c", f"{SOURCES}/{packages.CALENDAR}.c", "-o", f"{room}/main"]
         return None if succeeds(results, words, env=env) is None else succeeds(results, [f"{room}/main"], env=env)
 
-    try_examples(results, "c", printed)
+    with timed(results, "C"):
+        try_examples(results, "c", printed)
     for name, test in {packages.CALENDAR: "test.c", packages.LAYERS: "test_layers.c"}.items():
         program, more = f"{room}/{name}", [f"{SOURCES}/{packages.CALENDAR}.c"] if name == packages.LAYERS else []
         words = ["cc", "-O2", f"-I{SOURCES}", f"{LANGUAGES}/c/{test}", f"{SOURCES}/{name}.c", *more, "-o", program]
         if succeeds(results, words, env=env) is not None:
             run(results, f"{test} over amalgamation/{name}.c", [program], COUNTS)
-    if succeeds(results, ["cc", "-O2", f"{SOURCES}/caltool.c", "-o", f"{room}/caltool"], env=env) is not None:
-        ask_caltool(results, f"{room}/caltool")
+    with timed(results, "caltool"):
+        if succeeds(results, ["cc", "-O2", f"{SOURCES}/caltool.c", "-o", f"{room}/caltool"], env=env) is not None:
+            ask_caltool(results, f"{room}/caltool")
 
 
 def ask_caltool(results, program):
@@ -151,12 +169,13 @@ def try_python(results, room, env):
     folder, place = copied(f"{room}/python", "python"), f"{room}/env"
     # (a machine that reaches no index takes setuptools from its own Python)
     words = [f"{place}/bin/pip", "install", "--quiet", "--no-build-isolation", folder]
-    if succeeds(results, [program, "-m", "venv", "--system-site-packages", place], env=env) is None or succeeds(results, words, env=env) is None:
-        return
+    with timed(results, "Python"):
+        if succeeds(results, [program, "-m", "venv", "--system-site-packages", place], env=env) is None or succeeds(results, words, env=env) is None:
+            return
+        program = f"{place}/bin/python"
+        try_examples(results, "python", lambda code: printed_by_python(results, program, code, env))
     # (a second time, over what the first one leaves in the folder)
     succeeds(results, [*words, "--force-reinstall"], env=env)
-    program = f"{place}/bin/python"
-    try_examples(results, "python", lambda code: printed_by_python(results, program, code, env))
     columns = ["test_columns.py"] if has_module(program, "numpy", "test_columns.py over amalgamation/") else []
     for name in ("test_calls.py", "test_layers.py", "test_zoned.py", *columns):
         run(results, f"{name} over amalgamation/", [program, f"{LANGUAGES}/python/tests/{name}", "-v"], (r"\.\.\. ok()$", r"\.\.\. (?:FAIL|ERROR)()$"), env=env)
@@ -175,9 +194,10 @@ def try_rust(results, room, env):
         return succeeds(results, ["cargo", "run", "--offline", "--quiet"], **how)
 
     os.makedirs(project)
-    succeeds(results, ["cargo", "init", "--vcs", "none"], **how)
-    succeeds(results, ["cargo", "add", "--offline", "--path", folder], **how)
-    try_examples(results, "rust", printed)
+    with timed(results, "Rust"):
+        succeeds(results, ["cargo", "init", "--vcs", "none"], **how)
+        succeeds(results, ["cargo", "add", "--offline", "--path", folder], **how)
+        try_examples(results, "rust", printed)
 
 
 def try_javascript(results, room, env):
@@ -186,24 +206,30 @@ def try_javascript(results, room, env):
         print("not run: JavaScript in a clone, since there is no npm")
         return
     os.makedirs(f"{room}/project")
-    succeeds(results, ["npm", "install", "--offline", "--no-audit", "--no-fund", f"{LANGUAGES}/javascript"], cwd=f"{room}/project", env=env)
-    words = ["node", "--input-type=module", "-e"]
-    try_examples(results, "js", lambda code: succeeds(results, [*words, code], cwd=f"{room}/project", env=env))
+    with timed(results, "JavaScript"):
+        succeeds(results, ["npm", "install", "--offline", "--no-audit", "--no-fund", f"{LANGUAGES}/javascript"], cwd=f"{room}/project", env=env)
+        words = ["node", "--input-type=module", "-e"]
+        try_examples(results, "js", lambda code: succeeds(results, [*words, code], cwd=f"{room}/project", env=env))
 
 
-def try_databases(results, room, env):
-    """The extensions, by make."""
-    if sqlite.has_headers():
-        folder = copied(f"{room}/sqlite", "sqlite")
+def try_sqlite(results, room, env):
+    """The extension for SQLite, by make, from Python and from its own shell."""
+    if not sqlite.has_headers():
+        print("not run: SQLite over amalgamation/, since there is no sqlite3ext.h")
+        return
+    folder = copied(f"{room}/sqlite", "sqlite")
+    with timed(results, "SQLite"):
         succeeds(results, ["make", "-s", "install", f"DESTDIR={room}/sqlite/root"], cwd=folder, env=env)
         asked = "import sqlite3; it = sqlite3.connect(':memory:'); it.enable_load_extension(True); it.load_extension('./proved_calendar'); print(it.execute(\"SELECT add_months('2024-02-29', 12)\").fetchone()[0])"
         said = succeeds(results, [python.python(), "-c", asked], cwd=f"{room}/sqlite/root/usr/local/lib", env=env)
         results.count(said and said.strip() == "2025-02-28", f"SQLite over amalgamation/ says {said!r}")
-        if shutil.which("sqlite3"):
-            words = ["sqlite3", "-bail", "-cmd", f".load {room}/sqlite/root/usr/local/lib/proved_calendar", ":memory:"]
-            try_examples(results, "sql", lambda code: succeeds(results, [*words, code], env=env))
-    else:
-        print("not run: SQLite over amalgamation/, since there is no sqlite3ext.h")
+    if shutil.which("sqlite3"):
+        words = ["sqlite3", "-bail", "-cmd", f".load {room}/sqlite/root/usr/local/lib/proved_calendar", ":memory:"]
+        try_examples(results, "sql", lambda code: succeeds(results, [*words, code], env=env))
+
+
+def try_postgresql(results, room, env):
+    """The extension for PostgreSQL is made."""
     config = find_config()
     if config and os.path.exists(subprocess.run([config, "--pgxs"], capture_output=True, text=True).stdout.strip()):
         folder = copied(f"{room}/postgresql", "postgresql")
@@ -222,7 +248,9 @@ def main():
         try_python(results, room, env)
         try_rust(results, room, env)
         try_javascript(results, room, env)
-        try_databases(results, room, env)
+        try_sqlite(results, room, env)
+        try_postgresql(results, room, env)
+        wheel_tags.try_wheels(results, room)
     print(f"{results.passed} passed, {results.failed} failed")
     return 1 if results.failed else 0
 

@@ -8,7 +8,7 @@ import stat
 import subprocess
 
 from checks import TOP
-from checks.packages.c_builds import BUILDS, FAULTS, PLANTED, WARNINGS, planted, why_not
+from checks.packages.c_builds import BUILDS, FAULTS, PLANTED, WARNINGS, planted, program, why_not
 from checks.programs import fuzz, statuses
 from checks.shared.results import read, succeeds
 
@@ -37,7 +37,7 @@ def as_one_program(room, runner, path):
 def try_build(results, room, name, lines):
     """Builds the program one way, and compares its answers and its statuses."""
     words, runner = BUILDS[name]
-    path = f"{room}/caltool"
+    path = program(f"{room}/caltool", words)
     if succeeds(results, [*words, *WARNINGS, SOURCE, "-o", path]) is None:
         return
     results.count(fuzz.is_answered([*runner, path], SEED, *lines), f"caltool.c by {name} answers otherwise")

@@ -54,11 +54,11 @@ ABSENT = {
     "of Rust and its std": """From Display DoubleEndedIterator String Drop Eq const std FromIterator FromPrimitive FromStr Hash
         to_string IntoIterator Ok Option Result Some Sum TryFrom collect fmt::Write match requires self str u8 unsafe unwrap""",
     "of the kit: its words, its tactics and its std": """SomeIff agree_below agree_below_at jiff_tz num_traits omega refl subst
-        unfoldable view_is ensures """,
+        unfoldable view_is ensures condition""",
     "of the last line of a check": "logic-built libraries-built trusted axioms",
     "of pandas and Dask": "NA OutOfBoundsDatetime Client compute",
     "of Python": "Unpickler OverflowError TypeError ValueError datetime timedelta ZoneInfo __slots__ __getstate__",
-    "of JavaScript": "BigInt Int32Array calendarName PlainTime iso8601 RangeError Temporal wasm-opt bulk-memory sign-ext",
+    "of JavaScript": "BigInt Int32Array calendarName PlainTime iso8601 overflow RangeError Temporal wasm-opt bulk-memory sign-ext",
     "of earlier versions": "check_rule check_schedule Roll::Nearest",
     "of SQL, and of texts that it is given": "timestamptz STRICT IMMUTABLE STABLE nearest-isda nearest-quantlib nearest_quantlib",
     "of C": "int32_t memcpy",

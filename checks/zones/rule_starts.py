@@ -1,5 +1,5 @@
 #!/usr/bin/env python3
-"""Holds zoned_rules to known instances of rules that start near a gap or a fold of the clock.
+"""Holds zoned_rules to known instances of rules that start near a gap or a fold of the clock, and to the last ones of large counts.
 
     python3 -m checks.zones.rule_starts
 
@@ -84,23 +84,34 @@ STARTS = (
     ("Africa/Cairo", "20240426T003000", "FREQ=MONTHLY;COUNT=3",
      "2024-04-26T01:30:00+03:00 2024-05-26T00:30:00+03:00 2024-06-26T00:30:00+03:00"),
 )
+# Zones, starts, rules with a large COUNT, and their last instances. Python's zoneinfo listed the instants of all their local times.
+COUNTS = (
+    ("Etc/UTC", "20240229T000000", "FREQ=MINUTELY;COUNT=99999999", "2214-04-18T10:38:00+00:00"),
+    ("Etc/UTC", "20240229T000000", "FREQ=SECONDLY;COUNT=4294967295", "2160-04-06T06:28:14+00:00"),
+    ("America/New_York", "20240101T003000", "FREQ=HOURLY;COUNT=100000", "2035-05-30T03:30:00-04:00"),
+    ("Europe/Berlin", "20240229T090000", "FREQ=MINUTELY;INTERVAL=5;COUNT=300000", "2027-01-06T03:55:00+01:00"),
+    ("Australia/Lord_Howe", "20240331T011500", "FREQ=DAILY;BYHOUR=1,2,3;BYMINUTE=0,15,30;COUNT=20000", "2030-05-01T03:30:00+10:30"),
+    ("Antarctica/Troll", "20200101T000000", "FREQ=MINUTELY;INTERVAL=30;COUNT=50000", "2022-11-07T21:30:00+00:00"),
+)
 # What FREQ says where the rule counts units of the clock.
 LETTERS = {"HOURLY": "H", "MINUTELY": "M", "SECONDLY": "S"}
 
 
-def question(zone, start, text, instances):
-    """The question on the first instances of a rule, and what the program has to answer."""
+def question(zone, start, text, instances, count=None, before=DAY):
+    """The question on instances of a rule from so many seconds before the first of them on, and what the program has to answer.
+    The first instances of the rule, if there is no count."""
     parts = dict(it.split("=") for it in text.split(";"))
     seconds = [int(datetime.datetime.fromisoformat(it).timestamp()) for it in instances.split()]
     numbers = [parts.get(it, "") for it in ("BYHOUR", "BYMINUTE", "BYSECOND")]
     letter = LETTERS.get(parts["FREQ"])
     rule = ("FREQ=DAILY", *numbers, f"{letter}{parts.get('INTERVAL', 1)}") if letter else (f"FREQ={parts['FREQ']}", *numbers)
     begun = datetime.datetime.strptime(start, "%Y%m%dT%H%M%S")
-    return f"{zone} {line_of('next', seconds[0] - DAY, seconds[-1] + DAY, begun, 'count', len(seconds), rule)}", " ".join(map(str, seconds))
+    return f"{zone} {line_of('next', seconds[0] - before, seconds[-1] + DAY, begun, 'count', count or len(seconds), rule)}", " ".join(map(str, seconds))
 
 
 def main():
     rows = [question(*it) for it in STARTS]
+    rows += [question(*it, count=int(it[2].split("COUNT=")[1]), before=0) for it in COUNTS]
     with tempfile.TemporaryDirectory(prefix="rule_starts-") as room:
         folder = put_program(room, "instants", USES, PROGRAM)
         answers = [it.strip() for it in answers_of(room, folder, USES, [it for it, _ in rows], LINES)]

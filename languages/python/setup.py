@@ -6,6 +6,7 @@ clone at its top.
 """
 import glob
 import os
+import re
 import sys
 
 from setuptools import Extension, setup
@@ -15,10 +16,20 @@ LIBRARIES = [f"{PREFIX}/lib/libcalendar_layers.a", f"{PREFIX}/lib/libcalendar.a"
 HAS_LIBRARIES = all(map(os.path.exists, LIBRARIES))
 # The folder of the two C files and of their headers. (A build in a clone leaves a folder amalgamation/ here, with objects alone.)
 SOURCES = next((it for it in ("amalgamation", "../../amalgamation") if os.path.exists(f"{it}/calendar.c")), "amalgamation")
-# ctypes calls functions of the library, which are hidden in the C files if nothing says otherwise.
-EXPORTS = [] if HAS_LIBRARIES else ["-include", "src/exports.h"]
-WARNINGS = ["-Wall", "-Wextra", "-Wpedantic"]
-IS_LINUX = sys.platform == "linux"
+IS_LINUX, IS_WINDOWS = sys.platform == "linux", sys.platform == "win32"
+# ctypes calls functions of the library, which are hidden in the C files if nothing says otherwise. On Windows a list of them says it.
+EXPORTS = [] if HAS_LIBRARIES or IS_WINDOWS else ["-include", "src/exports.h"]
+FLAGS = ["-std=c99", "-O2", "-g0", "-fvisibility=hidden", *EXPORTS, "-Wall", "-Wextra", "-Wpedantic", *(["-fno-plt"] if IS_LINUX else [])]
+
+
+def functions():
+    """The functions of both headers."""
+    text = ""
+    for name in ("calendar", "calendar_layers"):
+        with open(f"{SOURCES}/{name}.h", encoding="utf-8") as it:
+            text += it.read()
+    return re.findall(r"^\w+ (calendar_\w+)\(", text, re.M)
+
 
 setup(
     ext_modules=[
@@ -28,7 +39,8 @@ setup(
             depends=["src/package.h", "src/exports.h"],
             include_dirs=[f"{PREFIX}/include" if HAS_LIBRARIES else SOURCES],
             extra_objects=LIBRARIES if HAS_LIBRARIES else [],
-            extra_compile_args=["-std=c99", "-O2", "-g0", "-fvisibility=hidden", *EXPORTS, *(["-fno-plt"] if IS_LINUX else []), *WARNINGS],
+            extra_compile_args=["/std:c11", "/O2"] if IS_WINDOWS else FLAGS,
+            export_symbols=functions() if IS_WINDOWS else [],
             extra_link_args=["-s"] if IS_LINUX else [],
             # (an older Python has no symbols of a later one: one build serves all from 3.10 on)
             py_limited_api=True,

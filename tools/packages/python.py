@@ -19,6 +19,9 @@ except ImportError:
 assert os.path.exists(os.path.join(sysconfig.get_paths()["include"], "Python.h"))
 """
 
+# What a folder of sources may hold that is no source.
+SKIPPED = shutil.ignore_patterns("__pycache__", "*.so", "build", "*.egg-info")
+
 # The time of each file in a wheel: the first that its format has. So the same files give the same bytes.
 ONE_TIME = {"SOURCE_DATE_EPOCH": "315532800"}
 
@@ -45,8 +48,7 @@ def make(top, built, dist):
     os.makedirs(dist, exist_ok=True)
     with tempfile.TemporaryDirectory(prefix="python-") as room:
         source = f"{room}/source"
-        skipped = shutil.ignore_patterns("__pycache__", "*.so", "build", "*.egg-info")
-        shutil.copytree(f"{top}/languages/python", source, ignore=skipped)
+        shutil.copytree(f"{top}/languages/python", source, ignore=SKIPPED)
         copy_c_files(top, f"{source}/amalgamation")
         for licence in LICENCES:
             shutil.copy(f"{top}/{licence}", source)

@@ -1,10 +1,10 @@
-"""Takes the LLVM module of a proved crate: what the kit hands to its compiler, optimized for machines without vectors."""
+"""Takes the LLVM module of a proved crate, which the kit hands to its compiler, optimized without vectors."""
 import glob
 import os
 import re
-import stat
 import subprocess
 import sys
+import tempfile
 
 TOOLS = os.path.dirname(os.path.dirname(os.path.abspath(__file__)))
 sys.path[:0] = [TOOLS]
@@ -12,81 +12,59 @@ from gate import load_rt  # noqa: E402
 
 # The kit's compiler, which also keeps the modules that it is given.
 KEEPING = """#!/bin/sh
-for it in "$@"; do case "$it" in *.bc) cp "$it" "{room}/modules/$$-${{it##*/}}";; esac; done
-exec "{clang}" "$@"
+for it in "$@"; do case "$it" in *.bc) cp "$it" "{room}/$$-${{it##*/}}";; esac; done
+exec "{kit}/bin/clang" "$@"
 """
-# The prover, which takes that compiler in the place of the kit's.
-INSTEAD = """#!{python} -IS
-import os, sys
-words = sys.argv[1:]
-at = words.index("--toolchain") + 1 if "--toolchain" in words else 0
-if at:
-    words[at] = {toolchain!r}
-os.execv({rattle!r}, [{rattle!r}, *words])
-"""
-# The kit's `rt lib` or `rt run`, with that prover. A program is compiled, and neither linked nor run: what stands in its folder stays.
+# The kit's `rt lib` or `rt run` with that compiler. A program is compiled, and neither linked nor run.
 BUILD = """import sys
 sys.path.insert(0, {tools!r})
 from gate import load_rt
 rt = load_rt()
-rt.rtlib.RATTLE = {rattle!r}
-rt.rtlib.Crate.run = lambda crate, flags, *_, **__: crate.compile(flags, {program!r})
+call = rt.rtlib.Crate.call
+rt.rtlib.Crate.call = lambda crate, *words: call(crate, *({room!r} if it == {kit!r} else it for it in words))
+rt.rtlib.Crate.run = lambda crate, flags, *_, **__: crate.compile(flags, {room!r} + "/program.o")
 sys.exit(rt.main([{verb!r}, "--jobs", "1"]))
 """
 # What the module says of one machine, which C does not need.
-OF_ONE_MACHINE = re.compile(r' "(?:target-cpu|target-features|probe-stack|stack-probe-size|frame-pointer|tune-cpu)"="[^"]*"')
-# How the kit's compiler writes a module as text, and optimizes it.
-AS_TEXT = ["-x", "ir", "-S", "-emit-llvm"]
-OPTIMIZING = ["-O3", "-fno-pic", "-fno-vectorize", "-fno-slp-vectorize", "-fno-unroll-loops"]
+OF_ONE_MACHINE = re.compile(r' "(?:target-\w+|probe-stack|stack-probe-size|frame-pointer|tune-cpu)"="[^"]*"')
+AS_IT_IS = ["-O0", "-Xclang", "-disable-llvm-passes"]
+OPTIMIZED = ["-O3", "-fno-pic", "-fno-vectorize", "-fno-slp-vectorize", "-fno-unroll-loops"]
 
 
-def write_program(path, text):
-    with open(path, "w", encoding="utf-8") as it:
-        it.write(text)
-    os.chmod(path, os.stat(path).st_mode | stat.S_IXUSR)
+def make_toolchain(kit, room):
+    """Fills a folder with the kit's tools, whose compiler keeps each module there."""
+    os.mkdir(f"{room}/bin")
+    for it in ("lib", *(f"bin/{it}" for it in os.listdir(f"{kit}/bin") if it != "clang")):
+        os.symlink(f"{kit}/{it}", f"{room}/{it}")
+    with open(f"{room}/bin/clang", "w", encoding="utf-8") as it:
+        it.write(KEEPING.format(room=room, kit=kit))
+    os.chmod(f"{room}/bin/clang", 0o755)
 
 
-def make_toolchain(room):
-    """A folder of the kit's tools, whose compiler keeps each module; the path of the prover that takes it."""
-    rt = load_rt()
-    kit, toolchain = f"{rt.KIT}/toolchain", f"{room}/toolchain"
-    os.makedirs(f"{toolchain}/bin")
-    os.makedirs(f"{room}/modules")
-    os.symlink(f"{kit}/lib", f"{toolchain}/lib")
-    for name in os.listdir(f"{kit}/bin"):
-        if name != "clang":
-            os.symlink(f"{kit}/bin/{name}", f"{toolchain}/bin/{name}")
-    write_program(f"{toolchain}/bin/clang", KEEPING.format(room=room, clang=f"{kit}/bin/clang"))
-    write_program(f"{room}/rattle", INSTEAD.format(python=sys.executable, toolchain=toolchain, rattle=rt.rtlib.RATTLE))
-    return f"{room}/rattle", f"{kit}/bin/clang"
-
-
-def built_module(top, crate, room):
-    """Has the kit build a crate in the tree at `top`; the path of its module, and that of the kit's compiler. `room` is an empty folder."""
-    rattle, clang = make_toolchain(room)
+def built_module(top, crate, kit):
+    """Has the kit build a crate in the tree at `top`; the bytes of its module."""
     folder = f"{top}/crates/{crate}"
     verb = "run" if os.path.exists(f"{folder}/src/main.rt") else "lib"
-    words = [sys.executable, "-c", BUILD.format(tools=TOOLS, rattle=rattle, program=f"{room}/program.o", verb=verb)]
-    said = subprocess.run(words, cwd=folder, stdin=subprocess.DEVNULL, capture_output=True, text=True, errors="replace")
-    modules = glob.glob(f"{room}/modules/*")
-    if said.returncode or not modules:
-        raise RuntimeError(f"the kit does not build {crate}: {(said.stdout + said.stderr)[-3000:]}")
-    return max(modules, key=os.path.getsize), clang
+    with tempfile.TemporaryDirectory(prefix="portable-") as room:
+        make_toolchain(kit, room)
+        words = [sys.executable, "-c", BUILD.format(tools=TOOLS, kit=kit, room=room, verb=verb)]
+        how = {"stdin": subprocess.DEVNULL, "stdout": subprocess.PIPE, "stderr": subprocess.STDOUT}
+        said = subprocess.run(words, cwd=folder, **how)
+        modules = glob.glob(f"{room}/*.bc")
+        if said.returncode or not modules:
+            raise RuntimeError(f"the kit does not build {crate}: {said.stdout.decode(errors='replace')[-3000:]}")
+        with open(max(modules, key=os.path.getsize), "rb") as it:
+            return it.read()
 
 
-def module_text(top, crate, room):
-    """The module of a crate that is proved in the tree at `top`, as text, and what optimizes such a text. `room` is an empty folder."""
-    module, clang = built_module(top, crate, room)
-    first, last = f"{room}/first.ll", f"{room}/last.ll"
-    subprocess.run([clang, *AS_TEXT, "-O0", module, "-o", first, "-Xclang", "-disable-llvm-passes"], check=True, capture_output=True)
-    with open(first, encoding="utf-8") as it:
-        text = OF_ONE_MACHINE.sub("", it.read())
-    return text, (lambda prepared: optimized(clang, prepared, first, last))
+def as_text(kit, module, flags):
+    """A module as the kit's compiler writes it; the compiler warns of nothing."""
+    words = [f"{kit}/bin/clang", "-w", "-x", "ir", "-S", "-emit-llvm", *flags, "-", "-o", "-"]
+    return subprocess.run(words, input=module, check=True, stdout=subprocess.PIPE).stdout
 
 
-def optimized(clang, text, first, last):
-    with open(first, "w", encoding="utf-8") as it:
-        it.write(text)
-    subprocess.run([clang, *AS_TEXT, *OPTIMIZING, first, "-o", last], check=True, capture_output=True)
-    with open(last, encoding="utf-8") as it:
-        return it.read()
+def optimized_module(top, crate, prepare):
+    """The text of the module of a crate that is proved in the tree at `top`, optimized after `prepare` changed it."""
+    kit = f"{load_rt().KIT}/toolchain"
+    text = OF_ONE_MACHINE.sub("", as_text(kit, built_module(top, crate, kit), AS_IT_IS).decode())
+    return as_text(kit, prepare(text).encode(), OPTIMIZED).decode()

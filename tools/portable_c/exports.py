@@ -1,10 +1,14 @@
 """What others call: the functions of a header over those of the module, and the start of a program."""
+import itertools
 import re
 
-from .instructions import type_name
-from .types import POINTER, VOID
+from .reading import POINTER, VOID
 
+COMMENT = re.compile(r"/\*.*?\*/|//[^\n]*", re.S)
 STRUCT = re.compile(r"typedef struct \w*\s*\{(.*?)\} (\w+);", re.S)
+# A field, a parameter, and a function: the type and the name, and of a function also what it takes.
+FIELD = re.compile(r"(\w[\w ]*) (\w+)(?:\[\w+\])?;")
+PARAMETER = re.compile(r"(\w[\w ]*? \*?)(\w+)(?:, |$)")
 PROTOTYPE = re.compile(r"^(\w+)\s+(calendar_\w+)\(([^)]*)\);", re.M)
 # What a function of the module has in front of its own name, where the header has the name alone.
 INNER = "in_"
@@ -12,29 +16,8 @@ INNER = "in_"
 START = "program"
 
 
-def without_comments(text):
-    return re.sub(r"/\*.*?\*/|//[^\n]*", "", text, flags=re.S)
-
-
-def structs_of(headers):
-    """The fields of each struct: for each its type and its name."""
-    found = {}
-    for body, name in STRUCT.findall(without_comments("\n".join(headers))):
-        fields = (" ".join(it.split()) for it in body.split(";"))
-        found[name] = [tuple(re.match(r"(.*?)(\w+)((?:\[\w+\])?)$", it).groups()) for it in fields if it]
-    return found
-
-
-def prototypes(header):
-    """The result, the name and the parameters of each function."""
-    for result, name, listed in PROTOTYPE.findall(without_comments(header)):
-        listed = " ".join(listed.split())
-        given = [] if listed == "void" else [re.fullmatch(r"(.*?[\s*])(\w+)", it.strip()).groups() for it in listed.split(",")]
-        yield result, name, listed, [(kind.strip(), it) for kind, it in given]
-
-
 def show_inner(text, crate):
-    """The module in which the crate's own functions stand open as in_NAME, in the place of those that fit them to one machine's calls."""
+    """The module in which the crate's own functions stand open as in_NAME, without those of one machine's calls."""
     text = re.sub(r"^define (?!internal)[^\n]*@calendar_\w+\([^\n]*\{\n.*?^\}\n", "", text, flags=re.M | re.S)
     own = rf'@"{crate}::(?:\w+::)+(calendar_\w+)"'
     text = re.sub(rf"^define internal ([^\n]*?){own}", rf"define \1@{INNER}\2", text, flags=re.M)
@@ -48,49 +31,48 @@ def show_start(text, crate):
     return text.replace(f"define internal noundef i32 {own}", f"define noundef i32 {own}").replace(own, f"@{START}")
 
 
-def passed(kind, name, structs, types):
-    """What a parameter of the header is for the module; it takes as many of the module's types as it needs."""
-    if "*" in kind:
-        types.pop(0)
-        return [f"(bytes){name}"]
-    if kind not in structs:
-        return [f"({type_name(types.pop(0))}){name}"]
-    if types[0] == POINTER:
-        types.pop(0)
-        return [f"(bytes)&{name}"]
-    return [f"({type_name(types.pop(0))}){name}.{field}" for _, field, _ in structs[kind]]
+def passed(listed, structs, types):
+    """What the parameters of a function of the header are for the module, which takes some structs field by field."""
+    for kind, name in PARAMETER.findall(listed):
+        first, fields = next(types), structs.get(kind.strip())
+        if fields and first == POINTER:
+            yield f"(bytes)&{name}"
+        elif fields:
+            for (_, field), type in zip(fields, itertools.chain([first], types)):
+                yield f"({type.name}){name}.{field}"
+        else:
+            yield f"({first.name}){name}"
 
 
-def export(result, name, listed, given, structs, function):
+def export(result, name, listed, structs, function):
     """A function of the header over that of the module."""
-    types, values, before = [type for _, type in function.parameters], [], []
+    types, values = iter([type for type, _ in function.parameters]), []
     by_pointer = result != "void" and function.result == VOID
     if by_pointer:
-        types.pop(0)
+        next(types)
         values.append("(bytes)&result")
-    for kind, it in given:
-        values += passed(kind, it, structs, types)
-    if types:
+    values += passed(listed, structs, types)
+    if next(types, None):
         raise ValueError(f"{name} has other parameters in the module")
     call = f"{function.module.callee(function.raw)}({', '.join(values)})"
     if result == "void":
-        before = [f"{call};"]
+        lines = [f"{call};"]
     elif by_pointer:
-        before = [f"{result} result;", f"{call};", "return result;"]
-    elif function.result.is_many:
-        sets = [f"result.{field} = ({kind.strip()})made.f{at};" for at, (kind, field, _) in enumerate(structs[result])]
-        before = [f"{type_name(function.result)} made = {call};", f"{result} result;", *sets, "return result;"]
+        lines = [f"{result} result;", f"{call};", "return result;"]
+    elif function.result.parts:
+        sets = [f"result.{field} = ({kind})made.f{at};" for at, (kind, field) in enumerate(structs[result])]
+        lines = [f"{function.result.name} made = {call};", f"{result} result;", *sets, "return result;"]
     else:
-        before = [f"return ({result}){call};"]
-    return "\n".join([f"{result} {name}({listed})", "{", *(f"    {it}" for it in before), "}", ""])
+        lines = [f"return ({result}){call};"]
+    return "\n".join([f"{result} {name}({listed})", "{", *(f"    {it}" for it in lines), "}", ""])
 
 
 def exports(header, headers, module):
     """All functions of a header; `headers` are those whose structs it may name."""
-    structs, by_name = structs_of(headers), {it.raw[1:]: it for it in module.functions}
-    made = []
-    for result, name, listed, given in prototypes(header):
-        if f"{INNER}{name}" not in by_name:
-            raise ValueError(f"the module has no {name}")
-        made.append(export(result, name, listed, given, structs, by_name[f"{INNER}{name}"]))
+    found = [it for text in headers for it in STRUCT.findall(COMMENT.sub("", text))]
+    structs = {name: FIELD.findall(" ".join(fields.split())) for fields, name in found}
+    by_name, made = {it.raw: it for it in module.functions}, []
+    for result, name, listed in PROTOTYPE.findall(COMMENT.sub("", header)):
+        listed = " ".join(listed.split())
+        made.append(export(result, name, listed, structs, by_name[f"@{INNER}{name}"]))
     return "\n".join(made)

@@ -2,71 +2,46 @@
 import collections
 import re
 
-from .instructions import Instructions, literal, type_name
-from .intrinsics import Intrinsics
-from .types import POINTER
-from .words import Words
+from .instructions import Instructions
+from .reading import Words
 
-LABEL = re.compile(r'^("[^"]*"|[\w.$-]+):')
-SET = re.compile(r'^(%"[^"]*"|%[\w.$-]+) = ')
-USED = re.compile(r'%"[^"]*"|%[\w.$-]+')
+# A label and what stands behind it, a line that sets a value, and the name of a value.
+LABEL = re.compile(r'^("[^"]*"|[\w.$-]+):.*$', re.M)
+SET = re.compile(r'(%"[^"]*"|%[\w.$-]+) = (.*)')
+NAME = re.compile(r'%"[^"]*"|%[\w.$-]+')
 
 
-def identifier(raw, taken):
-    """A name of C that is not taken yet."""
+def identifier(raw, *taken):
+    """A name of C that none of the sets has yet; the first set gets it."""
     # (LLVM marks what comes from a function that it put in place by `.i`)
     base = re.sub(r"\W+", "_", re.sub(r"(?:\.i)+(?=\d*$)", "", raw)).strip("_") or "x"
-    base = f"v{base}" if base[0].isdigit() else base
-    name, number = base, 2
-    while name in taken:
-        name, number = f"{base}_{number}", number + 1
-    taken.add(name)
+    base = name = f"v{base}" if base[0].isdigit() else base
+    number = 1
+    while any(name in it for it in taken):
+        number += 1
+        name = f"{base}_{number}"
+    taken[0].add(name)
     return name
 
 
-class Function:
-    """A function of the module, with the lines between its brackets."""
+class Function(Instructions):
+    """A function of the module, from the line that defines it and the lines between its brackets."""
 
-    def __init__(self, module, head, lines):
-        self.module = module
-        words = Words(head)
-        words.attributes()
-        self.result = words.type()
-        self.raw = words.next()
+    def __init__(self, module, head, body):
+        self.module, words = module, Words(head)
+        words.expect("define")
+        self.result, self.raw = words.type(), words.next()
         words.expect("(")
-        self.parameters = words.list(")", lambda: self.parameter(words))
-        self.is_internal = "internal" in head.partition("@")[0].split() or "private" in head.partition("@")[0].split()
-        self.blocks = self.blocks_of(lines)
-        self.uses = collections.Counter(it for _, of in self.blocks for line in of for it in USED.findall(SET.sub("", line)))
-        self.names, self.labels, self.taken, self.types, self.rooms, self.targets = {}, {}, set(), {}, {}, set()
-        self.instructions, self.intrinsics = Instructions(self), Intrinsics(self)
-
-    def parameter(self, words):
-        type = words.type()
-        words.attributes()
-        return words.next(), type
-
-    def blocks_of(self, lines):
-        """The blocks, each with its label and its instructions; an instruction may go on over several lines."""
-        blocks, parts = [], []
-        for line in lines:
-            label = LABEL.match(line)
-            if label or not blocks:
-                blocks.append(("%" + (label[1] if label else "entry"), []))
-            if not label and line.strip():
-                parts.append(line.strip())
-                whole = " ".join(parts)
-                if whole.count("[") == whole.count("]"):
-                    blocks[-1][1].append(re.sub(r"(?:, ![\w.]+(?: !\d+)?)+$|, align \d+$", "", re.sub(r"(?:, ![\w.]+ !\d+)+$", "", whole)))
-                    parts = []
-        return blocks
-
-    # ---- names
+        self.parameters = words.list(")", lambda: (words.type(), words.next()))
+        _, *found = LABEL.split(body if LABEL.match(body) else f"entry:\n{body}")
+        lines = [[it.strip() for it in text.split("\n") if it.strip()] for text in found[1::2]]
+        self.blocks = [(f"%{label}", of) for label, of in zip(found[::2], lines)]
+        self.uses = collections.Counter(NAME.findall(body))
+        self.names, self.taken, self.types, self.rooms, self.targets = {}, set(), {}, {}, set()
 
     def name_of(self, raw):
         if raw not in self.names:
-            self.names[raw] = identifier(raw, self.taken | self.module.taken)
-            self.taken.add(self.names[raw])
+            self.names[raw] = identifier(raw, self.taken, self.module.taken)
         return self.names[raw]
 
     def local(self, raw, type):
@@ -75,82 +50,69 @@ class Function:
         self.types[name] = type
         return name
 
-    def room(self, raw, size):
-        """Memory of the function's own."""
-        name = self.local(raw, POINTER)
-        self.rooms[name] = max(1, -(-size // 8))
-        return [f"{name} = (bytes)room_{name};"]
-
     def is_used(self, raw):
-        return bool(raw) and self.uses[raw] > 0
+        """Whether a value stands anywhere but where it is set."""
+        return self.uses[raw] > 1
 
-    # ---- from block to block
+    def many(self, type, inside):
+        return f"({type.name}){{{inside}}}"
 
-    def phis(self):
-        """The values that a block takes from the block before it, by the block."""
-        found = collections.defaultdict(list)
-        for label, lines in self.blocks:
-            for line in lines:
-                if " = phi " not in line:
-                    continue
-                raw = SET.match(line)[1]
-                words = Words(line.partition(" = phi ")[2])
-                words.attributes()
+    def phis(self, lines):
+        """What a block takes from those before it: names, types, and for each of those the value by its label."""
+        for raw, text in (it.groups() for it in map(SET.match, lines) if it):
+            words = Words(text)
+            if words.take("phi"):
                 type, values = words.type(), {}
                 while words.take("["):
-                    value = self.instructions.operand(words, type)
+                    value = self.operand(words, type)
                     words.expect(",")
                     values[words.next()] = value
                     words.expect("]")
                     words.take(",")
-                found[label].append((self.local(raw, type), type, values))
-        return found
+                yield self.local(raw, type), type, values
 
     def jump(self, target):
         """Sets what the block takes from this one, all at once, and goes on there."""
         self.targets.add(target)
-        sets = [(name, type, values[self.here]) for name, type, values in self.incoming[target] if values[self.here] != name]
-        names = [name for name, _, _ in sets]
-        if any(re.search(rf"\b{name}\b", value) for at, (_, _, value) in enumerate(sets) for name in names[:at]):
-            lines = [f"{type_name(type)} new_{name} = {value};" for name, type, value in sets] + [f"{name} = new_{name};" for name in names]
+        sets = [(name, type, values[self.here]) for name, type, values in self.incoming[target]]
+        sets = [(name, type, value) for name, type, value in sets if value != name]
+        names, goto = [name for name, _, _ in sets], f"goto {self.name_of(f'at_{target}')};"
+        if any(re.search(rf"\b{name}\b", it[2]) for at, it in enumerate(sets) for name in names[:at]):
+            lines = [f"{type.name} new_{name} = {value};" for name, type, value in sets]
+            lines += [f"{name} = new_{name};" for name in names]
         else:
             lines = [f"{name} = {value};" for name, _, value in sets]
-        return ["{", *lines, f"goto {self.label(target)};", "}"] if lines else [f"goto {self.label(target)};"]
-
-    def label(self, raw):
-        if raw not in self.labels:
-            self.labels[raw] = identifier("at_" + raw, self.taken | self.module.taken)
-            self.taken.add(self.labels[raw])
-        return self.labels[raw]
-
-    # ---- the whole
+        return ["{", *lines, goto, "}"] if lines else [goto]
 
     def translate(self):
-        for raw, type in self.parameters:
+        """Writes the lines of each block. What they call gets its name in the module."""
+        for _, raw in self.parameters:
             self.name_of(raw)
-        self.incoming, self.bodies = self.phis(), []
-        for label, lines in self.blocks:
-            self.here, body = label, []
-            for line in lines:
-                found = SET.match(line)
-                if " = phi " not in line:
-                    body += self.instructions.line(found and found[1], line[found.end() :] if found else line)
-            self.bodies.append((label, body))
+        self.incoming = {label: list(self.phis(lines)) for label, lines in self.blocks}
+        self.written = []
+        for self.here, lines in self.blocks:
+            pairs = [it.groups() if (it := SET.match(line)) else (None, line) for line in lines]
+            made = [self.lines_of(into, text) for into, text in pairs if not text.startswith("phi ")]
+            self.written.append((self.here, [line for lines in made for line in lines]))
+
+    def all_types(self):
+        return [*self.types.values(), self.result, *(type for type, _ in self.parameters)]
 
     def head(self):
-        given = ", ".join(f"{type_name(type)} {self.name_of(raw)}" for raw, type in self.parameters) or "void"
-        return f"static {type_name(self.result)} {self.module.callee(self.raw)}({given})"
+        given = ", ".join(f"{type.name} {self.name_of(raw)}" for type, raw in self.parameters) or "void"
+        return f"static {self.result.name} {self.module.callee(self.raw)}({given})"
 
     def text(self):
-        by_type = collections.defaultdict(list)
+        """The function as C, without the blocks to which nothing goes."""
+        by_type, body = collections.defaultdict(list), []
         for name, type in self.types.items():
-            by_type[type_name(type)].append(name)
+            by_type[type.name].append(name)
+        for at, (label, written) in enumerate(self.written):
+            is_target = label in self.targets
+            body += [f"{self.name_of(f'at_{label}')}:;"] * is_target + written * (is_target or at == 0)
         lines = [f"{kind} {', '.join(names)};" for kind, names in by_type.items()]
         lines += [f"uint64_t room_{name}[{count}];" for name, count in self.rooms.items()]
-        body = []
-        for at, (label, of) in enumerate(self.bodies):
-            body += [f"{self.label(label)}:;"] if label in self.targets else []
-            body += of if at == 0 or label in self.targets else []
         read = set(re.findall(r"\w+", re.sub(r"\b\w+ = ", "", "\n".join(body))))
-        lines += [f"(void){it};" for it in (*(self.name_of(raw) for raw, _ in self.parameters), *self.types) if it not in read]
+        names = [*(self.name_of(raw) for _, raw in self.parameters), *self.types]
+        lines += [f"(void){it};" for it in names if it not in read]
         return "\n".join([self.head(), "{", *(f"    {it}" for it in [*lines, *body]), "}", ""])

@@ -1,429 +1,231 @@
-"""Each instruction of LLVM as C: the method of its name. A module with any other instruction is refused."""
+"""Each instruction of LLVM as C: a row of a table here, or the method `write_` and its name. Any other stops it."""
+import functools
 import re
 
-from .types import POINTER, number
-from .words import Words
+from .reading import BIT, POINTER, VOID, Type, Words
+from .values import Values, compared, cut, literal, part, places, risen, signed
 
-SIGNS = {"eq": "==", "ne": "!=", "gt": ">", "ge": ">=", "lt": "<", "le": "<="}
-# The instructions of two numbers, by what C has for each: of numbers without sign, of numbers with their sign, and shifts.
-OPERATORS = {"add": "+", "sub": "-", "mul": "*", "udiv": "/", "urem": "%", "and": "&", "or": "|", "xor": "^"}
-OF_SIGNED = {"sdiv": "/", "srem": "%"}
-SHIFTS = {"shl": "<<", "lshr": ">>", "ashr": ">>"}
-
-
-def literal(value, type):
-    """A number of LLVM as C."""
-    value &= (1 << type.count) - 1
-    if type.is_wide:
-        return f"wide_of(UINT64_C({value >> 64}), UINT64_C({value & (1 << 64) - 1}))"
-    return f"UINT64_C({value})" if type.count > 32 else f"{value}u" if value > 9 else str(value)
-
-
-def cut(text, type):
-    """An expression without sign, cut to the bits of a type."""
-    if type.is_wide:
-        return text if type.count == 128 else f"wide_and({text}, {literal(-1, type)})"
-    return f"({type_name(type)})({text})" if type.count == type.width else f"({type_name(type)})(({text}) & {literal(-1, type)})"
-
-
-def type_name(type):
-    """The type as C names it; the structs are declared by `constants`."""
-    if type.kind == "int":
-        return "wide" if type.is_wide else f"uint{type.width}_t"
-    return {"ptr": "bytes", "void": "void"}.get(type.kind) or f"t_{type.key}"
-
-
-def signed(text, type):
-    """An expression with its sign, of 64 bits at the most."""
-    if type.count == type.width:
-        return f"(int{type.width}_t){text}"
-    return f"SIGNED({text}, {type.count})"
-
-
-def signed_wide(text, type):
-    """A wide expression of fewer than 128 bits with its sign in all 128."""
-    more = 128 - type.count
-    return text if not more else f"wide_ashr(wide_shl({text}, {more}), {more})"
-
-
-def part(text, type, index):
-    return f"{text}.f{index}" if type.kind == "struct" else f"{text}.f[{index}]"
-
-
-def widened(text, type, to):
-    """A number without sign as one of more bits."""
-    if to.is_wide:
-        return text if type.is_wide else f"wide_of(0, {text})"
-    return f"({type_name(to)}){text}"
-
-
-def widened_with_sign(text, type, to):
-    if to.is_wide:
-        return cut(signed_wide(text, type) if type.is_wide else f"WIDE_OF_SIGNED({signed(text, type)})", to)
-    return cut(f"({type_name(to)}){signed(text, type)}", to)
-
-
-def narrowed(text, type, to):
-    return cut(f"wide_low({text})" if type.is_wide and not to.is_wide else text, to)
-
-
-def address_as_number(text, _, to):
-    return cut(f"(uintptr_t){text}", to)
-
-
-def number_as_address(text, *_):
-    return f"(bytes)(uintptr_t){text}"
-
-
-# The instructions that change the type of a number or of an address, and how.
-CONVERSIONS = {
-    "zext": widened,
-    "sext": widened_with_sign,
-    "trunc": narrowed,
-    "ptrtoint": address_as_number,
-    "ptrtoaddr": address_as_number,
-    "inttoptr": number_as_address,
+# The instructions of two numbers: how C takes the first, what it writes between them, and how it takes the second.
+SUMS = {
+    "add": (risen, "+", risen), "sub": (risen, "-", risen), "mul": (risen, "*", risen),
+    "udiv": (risen, "/", risen), "urem": (risen, "%", risen),
+    "sdiv": (signed, "/", signed), "srem": (signed, "%", signed),
+    "and": (risen, "&", risen), "or": (risen, "|", risen), "xor": (risen, "^", risen),
+    "shl": (risen, "<<", places), "lshr": (risen, ">>", places), "ashr": (signed, ">>", places),
 }
 
 
-class Same(str):
-    """A number that is each part of a vector: the index of a part behind it changes nothing. C refuses it as a whole vector."""
-
-    def __add__(self, index):
-        return str(self)
-
-
-class Instructions:
-    """The instructions of one function. A method reads the words behind its name, and returns lines of C; `into` is the value that it gives."""
-
-    def __init__(self, function):
-        self.function = function
-
-    # ---- values
-
-    def operand(self, words, type):
-        """Reads a value of a known type, as an expression."""
-        word = words.next()
-        if word[0] in "%@":
-            return self.function.name_of(word) if word[0] == "%" else self.function.module.address_of(word)
-        if re.fullmatch(r"-?\d+", word):
-            return literal(int(word), type)
-        if word in ("true", "false"):
-            return str(int(word == "true"))
-        if word in ("null", "undef", "poison", "zeroinitializer"):
-            return self.nothing(type)
-        if word == "splat":
-            words.expect("(")
-            _, text = self.value(words)
-            words.expect(")")
-            return Same(text)
-        if word == "getelementptr":
-            words.open()
-            return self.address(words, ")")
-        if word in ("add", "sub", "xor"):
-            words.open()
-            (_, a), (_, b) = words.list(")", lambda: self.value(words))
-            return cut(f"{a} {OPERATORS[word]} {b}", type)
-        if word in ("inttoptr", "ptrtoint", "ptrtoaddr"):
-            words.open()
-            _, text = self.value(words)
-            words.expect("to")
-            words.type()
-            words.expect(")")
-            return f"(bytes)(uintptr_t){text}" if word == "inttoptr" else f"(uint64_t)(uintptr_t)({text})"
-        if word in "{[<" and type.is_many:
-            end = {"{": "}", "[": "]", "<": ">"}[word]
-            return f"({type_name(type)}){{{', '.join(text for _, text in words.list(end, lambda: self.value(words)))}}}"
-        raise ValueError(f"an unknown value {word!r}: {words.text}")
-
-    def nothing(self, type):
-        if type.is_many:
-            return f"({type_name(type)}){{0}}"
-        return "(bytes)0" if type == POINTER else literal(0, type)
-
-    def value(self, words):
-        """Reads a type and a value."""
-        type = words.type()
-        words.attributes()
-        return type, self.operand(words, type)
-
-    def values(self, words, count):
-        """Reads types and values with commas between them."""
-        found = [self.value(words)]
-        while len(found) < count:
-            words.expect(",")
-            found.append(self.value(words))
-        return found
-
-    def pair(self, words):
-        """Reads a type, and two values of it."""
-        words.attributes()
-        type, first = self.value(words)
-        words.expect(",")
-        return type, first, self.operand(words, type)
-
-    def each(self, into, type, make):
-        """Sets a value, or each part of a vector by an expression of its index."""
-        if type.kind != "vector":
-            return [f"{into} = {make('')};"]
-        return [f"{into}.f[{it}] = {make(f'.f[{it}]')};" for it in range(type.count)]
-
-    # ---- numbers
-
-    def binary(self, into, words, make):
-        type, a, b = self.pair(words)
-        of = type.parts[0] if type.kind == "vector" else type
-        return self.each(self.function.local(into, type), type, lambda at: make(of, a + at, b + at))
-
-    def two(self, into, words, name):
-        """An instruction of two numbers, or of two vectors number by number."""
-        make = self.shifted if name in SHIFTS else self.divided if name in OF_SIGNED else self.sum
-        return self.binary(into, words, lambda type, a, b: cut(make(name, type, a, b), type))
-
-    def sum(self, name, type, a, b):
-        up = "" if type.width >= 32 else "(uint32_t)"
-        return f"wide_{name}({a}, {b})" if type.is_wide else f"{up}{a} {OPERATORS[name]} {up}{b}"
-
-    def divided(self, name, type, a, b):
-        if type.is_wide:
-            return f"wide_{name}({signed_wide(a, type)}, {signed_wide(b, type)})"
-        return f"{signed(a, type)} {OF_SIGNED[name]} {signed(b, type)}"
-
-    def shifted(self, name, type, a, b):
-        """A shift by less than the width, as LLVM asks for. The number of places is cut all the same, so that C defines each shift."""
-        if type.is_wide:
-            places = b if b.isdigit() else f"(unsigned)wide_low({b}) & 127u"
-            return f"wide_{name}({signed_wide(a, type) if name == 'ashr' else a}, {places})"
-        places = b if re.fullmatch(r"\d+u?", b) else f"({b} & {type.width - 1}u)"
-        if name == "ashr":
-            return f"{signed(a, type)} >> {places}"
-        return f"{'' if type.width >= 32 else '(uint32_t)'}{a} {SHIFTS[name]} {places}"
-
-    def icmp(self, into, words):
-        words.take("samesign")
-        code = words.next()
-        type, a, b = self.pair(words)
-        of = type.parts[0] if type.kind == "vector" else type
-        bits = number(1) if of is type else type.__class__("vector", type.count, [number(1)])
-        return self.each(self.function.local(into, bits), type, lambda at: compared(code, of, a + at, b + at))
-
-    def select(self, into, words):
-        words.attributes()
-        (condition, test), (type, a), (_, b) = self.values(words, 3)
-        if condition.kind == "vector":
-            return self.each(self.function.local(into, type), type, lambda at: f"{test + at} ? {a + at} : {b + at}")
-        return [f"{self.function.local(into, type)} = {test} ? {a} : {b};"]
-
-    # ---- numbers and pointers of other types
-
-    def changed(self, into, words, make):
-        words.attributes()
-        type, text = self.value(words)
-        words.expect("to")
-        to = words.type()
-        of, target = (it.parts[0] if it.kind == "vector" else it for it in (type, to))
-        return self.each(self.function.local(into, to), to, lambda at: make(text + at, of, target))
-
-    def bitcast(self, into, words):
-        """Of a vector of bits the number that they make; of all else the same bytes."""
-        type, text = self.value(words)
-        words.expect("to")
-        to = words.type()
-        name = self.function.local(into, to)
-        if type.kind == "vector" and type.parts[0].count == 1:
-            made = " | ".join(f"({type_name(to)}){text}.f[{it}] << {it}" for it in range(type.count))
-            return [f"{name} = ({type_name(to)})({made});"]
-        return [f"{{ {type_name(type)} given_ = {text}; memcpy(&{name}, &given_, sizeof {name}); }}"]
-
-    def freeze(self, into, words):
-        type, text = self.value(words)
-        return [f"{self.function.local(into, type)} = {text};"]
-
-    # ---- memory
-
-    def address(self, words, end=""):
-        """Reads a type, a pointer and places, up to a word or to the end of the line; the address to which they lead."""
-        type = words.type()
-        words.expect(",")
-        _, text = self.value(words)
-        fixed, is_first = 0, True
-        while words.take(","):
-            of, index = words.type(), words.peek()
-            words.attributes()
-            if not is_first:
-                fixed += type.offset(int(index)) if type.kind == "struct" else 0
-            step = type.size if is_first else 0 if type.kind == "struct" else type.parts[0].size
-            if not is_first:
-                type = type.parts[int(index)] if type.kind == "struct" else type.parts[0]
-            is_first, place = False, self.operand(words, of)
-            if re.fullmatch(r"-?\d+", index):
-                fixed += int(index) * step
-            elif step:
-                text += f" + {signed(place, of)}{f' * {step}' if step > 1 else ''}"
-        if end:
-            words.expect(end)
-        return f"({text} {'-' if fixed < 0 else '+'} {abs(fixed)})" if fixed else f"({text})"
-
-    def getelementptr(self, into, words):
-        words.attributes()
-        return [f"{self.function.local(into, POINTER)} = {self.address(words)};"]
-
-    def alloca(self, into, words):
-        type = words.type()
-        size = type.size
-        if words.take(","):
-            _, many = self.value(words) if words.peek().startswith("i") else (None, "1")
-            size *= int(re.sub(r"\D", "", many.partition("(")[2] or many))
-        return self.function.room(into, size)
-
-    def load(self, into, words):
-        words.take("volatile")
-        type = words.type()
-        words.expect(",")
-        _, address = self.value(words)
-        name = self.function.local(into, type)
-        if type.is_many:
-            return [line for at, it in enumerate(type.members) for line in loaded(part(name, type, at), it, f"{address} + {type.offset(at)}")]
-        return loaded(name, type, address)
-
-    def store(self, into, words):
-        words.take("volatile")
-        (type, text), (_, address) = self.values(words, 2)
-        if not type.is_many:
-            return [f"STORE({type_name(type)}, {address}, {text});"]
-        members = [f"STORE({type_name(it)}, {address} + {type.offset(at)}, {part('many_', type, at)});" for at, it in enumerate(type.members)]
-        return [f"{{ {type_name(type)} many_ = {text}; {' '.join(members)} }}"]
-
-    # ---- parts
-
-    def extractvalue(self, into, words):
-        type, text = self.value(words)
-        while words.take(","):
-            at = int(words.next())
-            text, type = part(text, type, at), type.members[at]
-        return [f"{self.function.local(into, type)} = {text};"]
-
-    def insertvalue(self, into, words):
-        (type, text), (_, new) = self.values(words, 2)
-        name, at, inner = self.function.local(into, type), "", type
-        while words.take(","):
-            index = int(words.next())
-            at, inner = part(at, inner, index), inner.members[index]
-        return [f"{name} = {text};", f"{name}{at} = {new};"]
-
-    def extractelement(self, into, words):
-        (type, text), (_, at) = self.values(words, 2)
-        return [f"{self.function.local(into, type.parts[0])} = {text}.f[{at}];"]
-
-    def insertelement(self, into, words):
-        (type, text), (_, new), (_, at) = self.values(words, 3)
-        name = self.function.local(into, type)
-        return [f"{name} = {text};", f"{name}.f[{at}] = {new};"]
-
-    def shufflevector(self, into, words):
-        (type, a), (_, b) = self.values(words, 2)
-        words.expect(",")
-        places = words.type()
-        made = type.__class__("vector", places.count, type.parts)
-        name, count = self.function.local(into, made), type.count
-        if words.peek() in ("zeroinitializer", "poison"):
-            listed = [0] * places.count
-        else:
-            words.expect("<")
-            listed = [int(it) if it.isdigit() else 0 for it in words.list(">", lambda: (words.type(), words.next())[1])]
-        return [f"{name}.f[{at}] = {f'{a}.f[{it}]' if it < count else f'{b}.f[{it - count}]'};" for at, it in enumerate(listed)]
-
-    # ---- where it goes on
-
-    def ret(self, into, words):
-        if words.peek() == "void":
-            return ["return;"]
-        _, text = self.value(words)
-        return [f"return {text};"]
-
-    def br(self, into, words):
-        if words.take("label"):
-            return self.function.jump(words.next())
-        words.expect("i1")
-        test = self.operand(words, number(1))
-        targets = []
-        while words.take(","):
-            words.expect("label")
-            targets.append(" ".join(self.function.jump(words.next())))
-        return [f"if ({test}) {{ {targets[0]} }}", targets[1]]
-
-    def switch(self, into, words):
-        type, text = self.value(words)
-        words.expect(",")
-        words.expect("label")
-        other, lines = words.next(), [f"switch ({text}) {{"]
-        words.expect("[")
-        while not words.take("]"):
-            of = words.type()
-            value = self.operand(words, of)
-            words.expect(",")
-            words.expect("label")
-            lines.append(f"case {value}: {' '.join(self.function.jump(words.next()))}")
-        return [*lines, f"default: {' '.join(self.function.jump(other))}", "}"]
-
-    def unreachable(self, into, words):
-        return ["UNREACHABLE();"]
-
-    def call(self, into, words):
-        words.attributes()
-        type = words.type()
-        if words.peek() == "(":
-            words.group()
-        callee = words.next()
-        words.expect("(")
-        given = words.list(")", lambda: self.value(words) if words.peek() != "metadata" else self.passed_over(words))
-        if callee.startswith("@llvm."):
-            return self.function.intrinsics.call(into, type, callee.removeprefix("@llvm."), given)
-        text = f"{self.function.module.callee(callee)}({', '.join(it for _, it in given)})"
-        if type.kind == "void" or not self.function.is_used(into):
-            return [f"{'(void)' if type.kind != 'void' else ''}{text};"]
-        return [f"{self.function.local(into, type)} = {text};"]
-
-    def passed_over(self, words):
-        while words.peek() not in (",", ")"):
-            words.next()
-        return None, ""
-
-    def line(self, into, text):
-        """The lines of C of an instruction."""
-        words = Words(text)
-        while words.take("tail", "musttail", "notail"):
-            pass
-        word = words.next()
-        if word in (*OPERATORS, *OF_SIGNED, *SHIFTS):
-            return self.two(into, words, word)
-        if word in CONVERSIONS:
-            return self.changed(into, words, CONVERSIONS[word])
-        if word not in INSTRUCTIONS:
-            raise ValueError(f"an unknown instruction: {text}")
-        return getattr(self, word)(into, words)
+def joined(text, type, to):
+    """The number that the bits of a vector make."""
+    if type.kind != "vector" or type.parts[0] != BIT:
+        raise ValueError(f"a bitcast of {type.key}")
+    return f"({to.name})({' | '.join(f'({to.name}){text}.f[{it}] << {it}' for it in range(type.count))})"
 
 
-# The instructions that have a method of their name.
-INSTRUCTIONS = """alloca bitcast br call extractelement extractvalue freeze getelementptr icmp insertelement insertvalue load ret select shufflevector store switch
-    unreachable""".split()
+# The instructions that give a value another type: the expression of the value, of its type and of the new one.
+CHANGES = {
+    "zext": lambda a, type, to: f"wide_of(0, {a})" if to.is_wide else f"({to.name}){a}",
+    "sext": lambda a, type, to: (
+        f"WIDE_OF_SIGNED({signed(a, type)})" if to.is_wide else cut(f"({to.name}){signed(a, type)}", to)
+    ),
+    "trunc": lambda a, type, to: cut(f"wide_low({a})" if type.is_wide else a, to),
+    "bitcast": joined,
+    "ptrtoint": lambda a, type, to: cut(f"(uintptr_t){a}", to),
+    "ptrtoaddr": lambda a, type, to: cut(f"(uintptr_t){a}", to),
+    "inttoptr": lambda a, type, to: f"(bytes)(uintptr_t){a}",
+}
+def shifted(type, high, low, by):
+    """The upper bits of two numbers behind each other, that many places to the left."""
+    by = f"({by} % {type.count}u)"
+    both = cut(f"{risen(high, type)} << {by} | {risen(low, type)} >> ({type.count}u - {by})", type)
+    return f"{by} ? {both} : {high}"
+
+
+# The functions of LLVM that give a number of at most 64 bits: the expression of its type and of what they are given.
+ANSWERS = {
+    "umin": lambda type, a, b: f"{compared('ult', type, a, b)} ? {a} : {b}",
+    "umax": lambda type, a, b: f"{compared('ugt', type, a, b)} ? {a} : {b}",
+    "smin": lambda type, a, b: f"({type.name})LESSER{type.width}({signed(a, type)}, {signed(b, type)})",
+    "smax": lambda type, a, b: f"({type.name})GREATER{type.width}({signed(a, type)}, {signed(b, type)})",
+    "abs": lambda type, a, _: f"{signed(a, type)} < 0 ? {cut(f'0u - {a}', type)} : {a}",
+    "ctlz": lambda type, a, _: cut(f"{a} ? LEADING({a}) - {64 - type.count}u : {type.count}u", type),
+    "cttz": lambda type, a, _: cut(f"{a} ? TRAILING({a}) : {type.count}u", type),
+    "bswap": lambda type, a: cut(
+        " | ".join(f"((uint64_t){a} >> {it} & 255u) << {type.count - 8 - it}" for it in range(0, type.count, 8)), type
+    ),
+    "fshl": shifted,
+    "usub.sat": lambda type, a, b: f"{compared('ugt', type, a, b)} ? {cut(f'{a} - {b}', type)} : {literal(0, type)}",
+}
+# The functions of LLVM that give nothing: the statement of what they are given. Some change no answer.
+STATEMENTS = {
+    "lifetime.start": "", "lifetime.end": "", "assume": "", "trap": "TRAP();",
+    "memcpy": "memcpy({}, {}, {});", "memmove": "memmove({}, {}, {});", "memset": "memset({}, {}, {});",
+}
+
+
+def summed(word, type, a, b):
+    """The expression of an instruction of two numbers."""
+    first, sign, second = SUMS[word]
+    a, b = first(a, type), second(b, type)
+    return cut(f"wide_{word}({a}, {b})" if type.is_wide else f"{a} {sign} {b}", type)
+
+
+def members(text, type, address):
+    """Of each part of a value its expression, its type and its address."""
+    if type.kind == "vector" and type.parts[0].count != type.parts[0].width:
+        raise ValueError(f"a vector in memory of parts of {type.parts[0].count} bits")
+    return [(part(text, type, it), type.part(it), f"{address} + {type.offset(it)}") for it in range(type.length)]
 
 
 def loaded(name, type, address):
-    lines = [f"LOAD({type_name(type)}, {name}, {address});"]
-    return lines if type.kind != "int" or type.count == type.width else [*lines, f"{name} = {cut(name, type)};"]
+    """The lines that read a value, and cut what memory may have above its bits."""
+    if type.parts:
+        return [line for it in members(name, type, address) for line in loaded(*it)]
+    lines = [f"LOAD({type.name}, {name}, {address});"]
+    return lines if type == POINTER or type.count == type.width else [*lines, f"{name} = {cut(name, type)};"]
 
 
-def compared(code, type, a, b):
-    """A comparison as an expression that is 0 or 1."""
-    if type == POINTER:
-        return f"{a} {SIGNS[code]} {b}" if code in SIGNS else f"(uintptr_t){a} {SIGNS[code[1:]]} (uintptr_t){b}"
-    if type.is_wide:
-        a, b = (signed_wide(it, type) if code[0] == "s" else it for it in (a, b))
-        if code in ("eq", "ne"):
-            return f"{'!' if code == 'ne' else ''}wide_eq({a}, {b})"
-        less = f"wide_{code[0]}lt"
-        return {"lt": f"{less}({a}, {b})", "gt": f"{less}({b}, {a})", "le": f"!{less}({b}, {a})", "ge": f"!{less}({a}, {b})"}[code[1:]]
-    if code[0] == "s":
-        a, b = signed(a, type), signed(b, type)
-    return f"{a} {SIGNS[code if code in SIGNS else code[1:]]} {b}"
+class Instructions(Values):
+    """The instructions of one function. A method reads the words behind its name, and gives the lines that set `into`.
+
+    A class over it says by `local` how a value is named that is set, by `jump` how to go to a block, and by `is_used`
+    whether a value is asked for.
+    """
+
+    def lines_of(self, into, text):
+        """The lines of C of an instruction."""
+        words = Words(text)
+        word = words.next()
+        if word in SUMS:
+            made = self.two(into, words, functools.partial(summed, word))
+        elif word in CHANGES:
+            made = self.changed(into, words, CHANGES[word])
+        elif hasattr(self, f"write_{word}"):
+            made = getattr(self, f"write_{word}")(into, words)
+        else:
+            raise ValueError(f"an unknown instruction: {text}")
+        if words.peek() and word != "call":
+            raise ValueError(f"an unknown word {words.peek()!r}: {text}")
+        return made
+
+    def set(self, into, type, text):
+        return [f"{self.local(into, type)} = {text};"]
+
+    def two(self, into, words, make, gives=None):
+        """An expression of two numbers, or of two vectors number by number, which gives their type or another."""
+        type, a = self.value(words)
+        words.expect(",")
+        b = self.operand(words, type)
+        if type.kind != "vector":
+            return self.set(into, gives or type, make(type, a, b))
+        of = type.parts[0]
+        name = self.local(into, Type("vector", type.count, (gives or of,)))
+        return [f"{name}{at} = {make(of, a + at, b + at)};" for at in (f".f[{it}]" for it in range(type.count))]
+
+    def write_icmp(self, into, words):
+        return self.two(into, words, functools.partial(compared, words.next()), BIT)
+
+    def changed(self, into, words, make):
+        """An instruction that gives a value another type."""
+        type, text = self.value(words)
+        words.expect("to")
+        to = words.type()
+        return self.set(into, to, make(text, type, to))
+
+    def write_select(self, into, words):
+        (_, test), (type, a), (_, b) = self.values(words, 3)
+        return self.set(into, type, f"{test} ? {a} : {b}")
+
+    def write_freeze(self, into, words):
+        return self.set(into, *self.value(words))
+
+    def write_getelementptr(self, into, words):
+        return [f"{self.local(into, POINTER)} = {self.address(words)};"]
+
+    def write_alloca(self, into, words):
+        name = self.local(into, POINTER)
+        self.rooms[name] = max(1, -(-words.type().size // 8))
+        return [f"{name} = (bytes)room_{name};"]
+
+    def write_load(self, into, words):
+        type = words.type()
+        words.expect(",")
+        _, address = self.value(words)
+        return loaded(self.local(into, type), type, address)
+
+    def write_store(self, into, words):
+        (type, text), (_, address) = self.values(words, 2)
+        if not type.parts:
+            return [f"STORE({type.name}, {address}, {text});"]
+        stores = " ".join(f"STORE({of.name}, {at}, {it});" for it, of, at in members("many_", type, address))
+        return [f"{{ {type.name} many_ = {text}; {stores} }}"]
+
+    def write_extractvalue(self, into, words):
+        type, text = self.value(words)
+        words.expect(",")
+        at = int(words.next())
+        return self.set(into, type.part(at), part(text, type, at))
+
+    def write_insertvalue(self, into, words):
+        (type, text), (_, new) = self.values(words, 2)
+        words.expect(",")
+        name = self.local(into, type)
+        return [f"{name} = {text};", f"{part(name, type, int(words.next()))} = {new};"]
+
+    def target(self, words):
+        """Reads a label; the lines that go there."""
+        words.expect("label")
+        return self.jump(words.next())
+
+    def write_br(self, into, words):
+        if words.peek() == "label":
+            return self.target(words)
+        _, test = self.value(words)
+        words.expect(",")
+        yes = " ".join(self.target(words))
+        words.expect(",")
+        return [f"if ({test}) {{ {yes} }}", " ".join(self.target(words))]
+
+    def write_switch(self, into, words):
+        _, text = self.value(words)
+        words.expect(",", "label")
+        other, cases = words.next(), []
+        words.expect("[")
+        while not words.take("]"):
+            _, value = self.value(words)
+            words.expect(",")
+            cases.append(f"case {value}: {' '.join(self.target(words))}")
+        return [f"switch ({text}) {{", *cases, f"default: {' '.join(self.jump(other))}", "}"]
+
+    def write_ret(self, into, words):
+        return ["return;"] if words.take("void") else [f"return {self.value(words)[1]};"]
+
+    def write_unreachable(self, into, words):
+        return ["UNREACHABLE();"]
+
+    def write_call(self, into, words):
+        type, callee = words.type(), words.next()
+        words.expect("(")
+        given = words.list(")", lambda: self.value(words))
+        if callee.startswith("@llvm."):
+            return self.called_of_llvm(into, type, re.sub(r"(?:\.[ip]\d+)+$", "", callee[6:]), given)
+        text = f"{self.module.callee(callee)}({', '.join(it for _, it in given)})"
+        if type != VOID and self.is_used(into):
+            return self.set(into, type, text)
+        return [f"{'(void)' if type != VOID else ''}{text};"]
+
+    def called_of_llvm(self, into, type, name, given):
+        """A call of one of LLVM's own functions."""
+        of, texts = given[0][0] if given else VOID, [it for _, it in given]
+        if name in STATEMENTS:
+            return [it for it in [STATEMENTS[name].format(*texts)] if it]
+        if name in ANSWERS and not of.is_wide:
+            return self.set(into, type, ANSWERS[name](type, *texts))
+        if name == "uadd.sat" and not of.is_wide:
+            made, sum = self.local(into, type), cut(" + ".join(texts), type)
+            return [f"{made} = {sum};", f"if ({made} < {texts[0]}) {made} = {literal(-1, type)};"]
+        if name == "sadd.with.overflow" and of.count <= 32:
+            made, sum = self.local(into, type), " + ".join(f"(int64_t){signed(it, of)}" for it in texts)
+            fits = f"(int64_t){signed('sum_', of)}"
+            return [f"{{ int64_t sum_ = {sum}; {made}.f0 = {cut('sum_', of)}; {made}.f1 = sum_ != {fits}; }}"]
+        raise ValueError(f"an unknown function of LLVM: {name} of {of.key}")

@@ -32,6 +32,14 @@ static unsigned TRAILING(uint64_t x) { unsigned n = 0; while (!(x & 1)) { x >>= 
 static unsigned ONES(uint64_t x) { unsigned n = 0; for (; x; x &= x - 1) n++; return n; }
 #endif
 
+/* The lesser and the greater of two numbers with their sign. In columns, gcc finds the vector instructions of this form alone. */
+#define ENDS(bits) \
+    MAYBE_UNUSED static inline int##bits##_t LESSER##bits(int##bits##_t a, int##bits##_t b) { return a < b ? a : b; } \
+    MAYBE_UNUSED static inline int##bits##_t GREATER##bits(int##bits##_t a, int##bits##_t b) { return a > b ? a : b; }
+ENDS(32)
+ENDS(64)
+#undef ENDS
+
 /* Numbers of 128 bits: by the compiler's own, or by two words. */
 #if defined(__SIZEOF_INT128__) && !defined(CALENDAR_TWO_WORDS)
 __extension__ typedef unsigned __int128 wide;

@@ -1,7 +1,8 @@
 -- A calendar without RRULE has one instance at most.
-use Rattle.std.proofs.Common.{◌≡◌, ℕ, List, Option, None, ℤ, arith, ap, subst, ◌∙◌}
+use Rattle.std.proofs.Common.{◌≡◌, ℕ, ◌<◌, List, Option, None, ℤ, ◌≤ℤ◌, arith, ap, subst, ◌∙◌}
 use Rattle.std.proofs.lemmas.Int.{ints}
 use Rattle.calendar_text.specs.CalendarTexts.{CalendarParts}
+use Rattle.zoned_rules.specs.LocalTimes.{LocalParts}
 use Rattle.zoned_rules.specs.Recurs.{IsLeastOf, IsNumbered, IsOneOf, IsWithin, Recurs, RecursWithin}
 use Rattle.zoned_rules.specs.declared.bound.Bound.{Bound}
 use Rattle.zoned_rules.specs.declared.bound.Bound.TheVariants.{Count}

@@ -6,7 +6,7 @@ ghost use Rattle.calendar_text.specs.declared.calendar_time.CalendarTime.TheVari
 ghost use Rattle.calendar_rules.specs.Private.{IsShorter};
 ghost use Rattle.chrono_datetime.specs.Moment.{Moment};
 ghost use Rattle.calendar_rules.specs.RecurrenceFaults.{HasRuleFault, IsRecurrenceFault};
-ghost use Rattle.calendar_rules.specs.Recurrences.{IsRuleOf, MeansNoneWithin, MeansRecurrence};
+ghost use Rattle.calendar_rules.specs.Recurrences.{IsRuleOf, MeansNoneWithin, MeansRecurrence, start_alone};
 
 use crate::instant_list::put_instants;
 use crate::recurrence_error::CalendarRuleError;

@@ -27,6 +27,7 @@ mod PlacesBeyond
 mod PlacesInPeriods
 mod RecurrenceWalks
 mod Repeated
+mod RepeatedWeeks
 mod RuleAscii
 mod RuleBack
 mod RuleWritable

@@ -1,5 +1,5 @@
 -- Places that BYSETPOS names beyond those that a period has.
-use Rattle.std.proofs.Common.{◌≡◌, ℕ, ◌+◌, ◌≤◌, Bool, true, false, ◌||◌, refl, subst, sym, arith, ℤ, pos, ◌+ℤ◌, ◌-ℤ◌, ◌≤ℤ◌, int_le}
+use Rattle.std.proofs.Common.{◌≡◌, ℕ, ◌≤◌, Bool, false, refl, subst, sym, arith, ℤ, pos, ◌+ℤ◌, ◌≤ℤ◌, int_le}
 use Rattle.std.proofs.lemmas.Bool.{and_right}
 use Rattle.chrono_datetime.specs.Recurrence.{count_between}
 use Rattle.chrono_datetime.specs.Days.{month_of, year_of}

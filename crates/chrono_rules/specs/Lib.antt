@@ -9,6 +9,7 @@ pub mod NumberLists
 pub mod PartsFound
 pub mod Periods
 pub mod RecurrenceSets
+pub mod RuleCycles
 pub mod RuleErrors
 pub mod RuleParts
 pub mod RuleTexts

@@ -217,9 +217,9 @@ impl Rule {
 
     /// Returns how many instances the rule has from `start` to `date`, both included.
     ///
-    /// The calendar repeats after 400 years.
-    /// So the function counts the instances of 400 years one by one, and adds whole cycles of 400 years.
-    /// With INTERVAL, a cycle is 400 years times the interval.
+    /// The days of a rule repeat after a cycle of 400 years, or with INTERVAL after a multiple of them.
+    /// With no BY parts but BYDAY and BYSETPOS, those of a rule by days or weeks repeat after 7 days times the interval.
+    /// So the function counts the instances of one cycle one by one, and adds whole cycles.
     ///
     /// ```
     /// use chrono_datetime::NaiveDate;

@@ -1,13 +1,14 @@
 -- Which units of the clock INTERVAL leaves out.
-use Rattle.std.proofs.Common.{◌≡◌, ◌==◌, ℕ, zero, suc, ◌%◌, ◌<◌, ◌≤◌, cond, ap, ◌∙◌, refl, arith, ℤ, pos, neg_ℤ, ◌+ℤ◌, ◌-ℤ◌, ◌*ℤ◌, ◌≤ℤ◌, ◌<ℤ◌, unsigned_abs, of_z, to_z, w64}
+use Rattle.std.proofs.Common.{◌≡◌, ◌==◌, ◌&&◌, ◌+◌, ◌*◌, ℕ, zero, suc, ◌%◌, ◌<◌, ◌≤◌, cond, ap, ◌∙◌, refl, sym, arith, ℤ, pos, neg_ℤ, ◌+ℤ◌, ◌-ℤ◌, ◌*ℤ◌, ◌≤ℤ◌, ◌<ℤ◌, unsigned_abs, of_z, to_z, w64}
 use Rattle.std.specs.Int.{int_rem_euclid}
 use Rattle.std.proofs.lemmas.Bool.{ne_eqb}
 use Rattle.std.proofs.lemmas.Int.{by_lt_z, ints}
+use Rattle.std.proofs.lemmas.Nat.{mod-mul-add}
 use Rattle.chrono_datetime.proofs.Signed.{casts}
 use Rattle.zoned_rules.specs.declared.clock_steps.ClockSteps.{ClockSteps}
 use Rattle.zoned_rules.specs.declared.clock_steps.ClockUnit.{ClockUnit}
 use Rattle.zoned_rules.specs.declared.clock_steps.ClockUnit.TheVariants.{Day, Hour, Minute, Second}
-use Rattle.zoned_rules.specs.LocalTimes.{LocalParts, unit_number, units_behind}
+use Rattle.zoned_rules.specs.LocalTimes.{LocalParts, is_counted_time, is_time, unit_number, units_behind}
 use Rattle.zoned_rules.specs.Private.{interval_units, units_of_day}
 use Rattle.zoned_rules.proofs.Intervals.{none-left, off-ahead, off-back, off-behind-whole, rem-less}
 
@@ -82,6 +83,38 @@ common_units r n d k g some some-g whole-s whole-day none =
     ap (λ x. unsigned_abs (int_rem_euclid (unit_number u d k -ℤ own) (pos x))) (some_interval g some-g)
     ∙ ap (λ (z : ℤ). unsigned_abs (int_rem_euclid z (pos g))) apart
     ∙ none-left (unit_number u n k -ℤ own) (d -ℤ n) (interval_units r.steps) (units_of_day u) g some some-g whole-s whole-day none
+
+-- where the interval divides a day, it counts the units of that second of each day
+units_again : (r : LocalParts) (n d : ℤ) (k : ℕ) → units_of_day r.steps.unit % interval_units r.steps ≡ 0 → units_behind r n k ≡ 0 → units_behind r d k ≡ 0
+unfolding units_behind
+units_again r n d k whole none =
+    let u = r.steps.unit in
+    let s = interval_units r.steps in
+    let some = interval_units-some r.steps in
+    let own = unit_number u r.start.date r.start.time.second in
+    let apart : unit_number u d k -ℤ own ≡ (unit_number u n k -ℤ own) +ℤ (d -ℤ n) *ℤ pos (units_of_day u) = omega (arith, ints, unit_number-moved u n d k) in
+    let once : s % s ≡ 0 = ap (λ x. x % s) (omega arith) ∙ mod-mul-add 1 s 0 some in
+    ap (λ (z : ℤ). unsigned_abs (int_rem_euclid z (pos s))) apart ∙ none-left (unit_number u n k -ℤ own) (d -ℤ n) s (units_of_day u) s some some once whole none
+
+are_none : (a b : ℕ) → (a ≡ 0 → b ≡ 0) → (b ≡ 0 → a ≡ 0) → (a == 0) ≡ (b == 0)
+are_none zero b to from = ap (λ x. x == 0) (sym (to refl))
+are_none (suc a) zero to from = absurd (omega (arith, from refl))
+are_none (suc a) (suc b) to from = ne_eqb (suc a) 0 (λ e. omega (arith, e)) ∙ sym (ne_eqb (suc b) 0 (λ e. omega (arith, e)))
+
+pub same_times : (r : LocalParts) (n d : ℤ) (k : ℕ) → units_of_day r.steps.unit % interval_units r.steps ≡ 0 → is_counted_time r d k ≡ is_counted_time r n k
+unfolding is_counted_time
+same_times r n d k whole =
+    ap (λ b. b && is_time r.steps.unit r.times r.start.time.second k) (are_none (units_behind r d k) (units_behind r n k) (units_again r d n k whole) (units_again r n d k whole))
+
+sum_none : (g s : ℕ) → 0 * g + s ≡ s
+sum_none g s = omega arith
+
+-- a divisor that is no less is the number
+pub whole_divisor : (s g : ℕ) → 0 < s → s % g ≡ 0 → s ≤ g → 0 < g → g ≡ s
+whole_divisor s g some none le some-g =
+    by_lt_z (pos s) (pos g)
+    (λ lt. absurd (omega (arith, some, none, ap (λ x. x % g) (sum_none g s), mod-mul-add 0 g s (omega (arith, ints, lt)))))
+    (λ ge. omega (arith, ints, le, ge))
 
 one_interval : (i : ℕ) → i ≤ 1 → cond (i == 0) 1 i ≡ 1
 one_interval zero few = refl

@@ -10,6 +10,8 @@ mod WeeklyUnits
 mod SinceStart
 mod Reached
 mod Numbered
+mod CountedSeconds
+mod WholeDays
 mod InstantLists
 mod PublicCalls
 mod SecondsAgain

@@ -9,7 +9,7 @@ EndsFirst P zero s = (u : ℤ) → P u → s <ℤ u
 EndsFirst P (suc k) s = IsNumbered P k s
 
 -- the next one
-one_more : (P : ℤ → Type 0) (n : ℕ) (s next : ℤ) → EndsFirst P n s → s <ℤ next → P next → ((u : ℤ) → s <ℤ u → P u → next ≤ℤ u) → EndsFirst P (suc n) next
+pub one_more : (P : ℤ → Type 0) (n : ℕ) (s next : ℤ) → EndsFirst P n s → s <ℤ next → P next → ((u : ℤ) → s <ℤ u → P u → next ≤ℤ u) → EndsFirst P (suc n) next
 one_more P zero s next h lt p least = record { member = p; least = λ w q. least w (h w q) q }
 one_more P (suc k) s next h lt p least = record {
   last = s;

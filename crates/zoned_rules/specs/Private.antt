@@ -1,5 +1,6 @@
 -- Words of functions that are not public.
-use Rattle.std.specs.Prelude.{◌≡◌, ◌⊎◌, ◌==◌, if◌then◌else◌, ℕ, true, ℤ, pos, ◌+ℤ◌, ◌-ℤ◌, ◌*ℤ◌, ◌≤ℤ◌, ◌<ℤ◌, Option, Some, None}
+use Rattle.std.specs.Prelude.{◌≡◌, ◌↔◌, ◌⊎◌, ◌==◌, ◌+◌, ◌<◌, if◌then◌else◌, ℕ, zero, suc, Bool, true, ℤ, pos, ◌+ℤ◌, ◌-ℤ◌, ◌*ℤ◌, ◌≤ℤ◌, ◌<ℤ◌, Option, Some, None}
+use Rattle.chrono_datetime.specs.Days.{IsDate}
 use Rattle.chrono_datetime.specs.Fields.{unix_epoch_day}
 use Rattle.chrono_datetime.specs.Moment.{IsMoment, Moment}
 use Rattle.chrono_datetime.specs.PassedOver.{PassedNumbers}
@@ -8,11 +9,11 @@ use Rattle.chrono_datetime.specs.Weeks.{weekday_of}
 use Rattle.chrono_sets.specs.FiniteSets.{has}
 use Rattle.chrono_instant.specs.Instants.{epoch_second}
 use Rattle.zoned_rules.specs.LocalInstants.{IsSetPast}
-use Rattle.zoned_rules.specs.Recurs.{RecursFor}
+use Rattle.zoned_rules.specs.Recurs.{IsLeastOf, Recurs, RecursFor}
 use Rattle.zoned_rules.specs.declared.clock_steps.ClockSteps.{ClockSteps}
 use Rattle.zoned_rules.specs.declared.clock_steps.ClockUnit.{ClockUnit}
 use Rattle.zoned_rules.specs.declared.clock_steps.ClockUnit.TheVariants.{Day, Hour, Minute, Second}
-use Rattle.zoned_rules.specs.LocalTimes.{LocalParts, is_counted_time, is_planned}
+use Rattle.zoned_rules.specs.LocalTimes.{LocalParts, is_counted_time, is_planned, is_planned_on}
 use Rattle.zoned_rules.specs.declared.search.near_changes.Candidate.{Candidate}
 
 -- the second k of the day n, counted from 1 January 1970
@@ -83,3 +84,24 @@ ReachesAhead r ahead start l found = (m : Moment) (u : ℤ) → RecursFor r ahea
 -- what was found is no earlier than each instant before a second that a local time of the rule after l stands for
 abbrev pub ReachesBehind : LocalParts → (ℤ → ℤ) → ℤ → ℤ → Option ℤ → Type 0
 ReachesBehind r ahead end l found = (m : Moment) (u : ℤ) → RecursFor r ahead m u → l <ℤ epoch_second m → u <ℤ end → IsReachedBack found u
+
+-- how many of the numbers below n pass the test
+unfoldable pub count_below : (ℕ → Bool) → ℕ → ℕ
+count_below test zero = 0
+count_below test (suc n) = count_below test n + (if test n then 1 else 0)
+
+-- of the seconds of which P holds, n lie behind a and up to b: none, or the first, and the others behind that one
+abbrev pub AreBehind : (ℤ → Type 0) → ℕ → ℤ → ℤ → Type 0
+AreBehind P zero a b = (a ≤ℤ b) × ((u : ℤ) → a <ℤ u → u ≤ℤ b → ¬ P u)
+AreBehind P (suc n) a b = (v : ℤ) × (IsLeastOf (λ u. (a <ℤ u) × P u) v × AreBehind P n v b)
+
+-- by a clock that is so far ahead, whole days lie behind the day `before` and up to the day `last`. They begin behind the second `second`, but
+-- not behind the second `next`, and the rule recurs there exactly at its local times
+pub record AreWholeDays (r : LocalParts) (ahead : ℤ → ℤ) (second next offset before last : ℤ) : Type 0 where
+  pub begin_date : IsDate before
+  pub end_date : IsDate last
+  pub order : before ≤ℤ last
+  pub behind : second ≤ℤ (second_on before 86_399 -ℤ offset)
+  pub in_front : (second_on before 86_399 -ℤ offset) <ℤ next
+  pub end : (second_on last 86_399 -ℤ offset) ≤ℤ pos 8_210_266_876_799
+  pub recurs : (d : ℤ) (k : ℕ) → before <ℤ d → d ≤ℤ last → k < 86_400 → Recurs r ahead (second_on d k -ℤ offset) ↔ (is_planned_on r d k ≡ true)

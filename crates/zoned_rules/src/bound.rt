@@ -111,28 +111,30 @@ impl<Z: TimeZone> ZonedRule<Z> {
         }
     }
 
-    // The last of so many seconds at which the rule recurs, or the last of all dates if there are fewer.
+    // A second up to which the rule recurs at so many seconds, or the last of all dates if there are fewer.
     fn last_of(&self, count: u32) -> i64
         ensures inside { (u : ℤ) → Recurs self.now.local (Z.ahead self.now.zone) u → u ≤ℤ result → IsOneOf (Recurs self.now.local (Z.ahead self.now.zone)) count u }
         ensures outside { (u : ℤ) → Recurs self.now.local (Z.ahead self.now.zone) u → IsOneOf (Recurs self.now.local (Z.ahead self.now.zone)) count u → u ≤ℤ result }
         ensures low { neg_ℤ (pos 8_334_601_228_801) ≤ℤ result }
         ensures high { result ≤ℤ pos 8_210_266_876_799 }
     {
+        let times = self.local.times_of_each_day();
         let mut second = BEFORE_FIRST_SECOND;
         let mut seen = 0;
         while seen < count {
             let Some(next) = self.first_after(second) else {
                 return LAST_SECOND;
             };
-            second = next;
-            seen += 1;
+            let counted = self.count_on(second, next, times, count - seen);
+            second = counted.second;
+            seen += counted.seen;
         }
         second
     }
 }
 
 // The earlier of two seconds.
-fn earlier_of(one: i64, other: i64) -> i64
+pub(crate) fn earlier_of(one: i64, other: i64) -> i64
     ensures first { result ≤ℤ one }
     ensures second { result ≤ℤ other }
     ensures either { (result ≡ one) ⊎ (result ≡ other) }

@@ -20,6 +20,7 @@
 
 mod bound;
 mod clock_steps;
+mod counted_days;
 mod day_times;
 pub mod law;
 mod listed_instants;

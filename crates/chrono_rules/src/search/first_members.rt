@@ -1,11 +1,12 @@
 //! The first members of a rule before a day, up to a given number of them.
-ghost use Rattle.std.specs.Prelude.{◌≡◌, ◌==◌, ◌≤◌, ◌<◌, ◌+◌, ◌*◌, if◌then◌else◌, ◌≤ℤ◌, ◌<ℤ◌, ◌+ℤ◌, ◌-ℤ◌, ℤ, pos, true, false};
+ghost use Rattle.std.specs.Prelude.{◌≡◌, ◌≤◌, ◌<◌, ◌*◌, ◌≤ℤ◌, ◌<ℤ◌, ◌+ℤ◌, ◌-ℤ◌, ℤ, pos, true, false};
 ghost use Rattle.chrono_datetime.specs.Recurrence.{count_between, first_date, past_last_date};
 ghost use Rattle.chrono_datetime.specs.PassedOver.{PassedOver};
 ghost use Rattle.chrono_rules.specs.Instances.{is_member, not_after};
+ghost use Rattle.chrono_rules.specs.RuleCycles.{RepeatsAfter};
 
 use crate::rule::Rule;
-use crate::search::periods::moved;
+use crate::search::periods::{days_apart, moved};
 use crate::search::repeats::LONGEST_PERIOD;
 use chrono_datetime::{Datelike, NaiveDate};
 
@@ -62,37 +63,38 @@ impl Rule {
     }
 
     // Whole cycles on from `from`, up to `last`: as many as keep the members before their end fewer than `most`.
-    // Before `from` come `seen` members, `each` of them in the cycle that ends there.
+    // A cycle lies from `base` to `from`, and has `each` members. Before `from` come `seen` of them.
     fn cycles_on(
         &self,
         start: NaiveDate,
+        base: NaiveDate,
         from: NaiveDate,
         seen: u32,
         each: u32,
-        last: i64,
+        last: i32,
         most: u32,
     ) -> Walked
-        requires begun { (start +ℤ pos (146_097 * (if self.now.interval == 0 then 1 else self.now.interval))) ≤ℤ from }
-        requires low { (first_date +ℤ pos (366 + 146_097 * (if self.now.interval == 0 then 1 else self.now.interval))) ≤ℤ from }
+        requires repeats { RepeatsAfter self.now (from -ℤ base) }
+        requires begun { start ≤ℤ base }
+        requires low { (first_date +ℤ pos 366) ≤ℤ base }
         requires order { from ≤ℤ last }
         requires last { (last +ℤ pos 366) ≤ℤ past_last_date }
         requires inside { (d : ℤ) → d <ℤ last → not_after self.now.end d ≡ true }
         requires counted { seen ≡ count_between (is_member self.now start) start from }
         requires few { seen < most }
-        requires each { each ≡ count_between (is_member self.now start) (from -ℤ pos (146_097 * (if self.now.interval == 0 then 1 else self.now.interval))) from }
+        requires each { each ≡ count_between (is_member self.now start) base from }
         ensures low { start ≤ℤ result.day }
         ensures high { result.day ≤ℤ last }
         ensures counted { result.seen ≡ count_between (is_member self.now start) start result.day }
         ensures few { result.seen < most }
     {
-        let cycle = self.cycle();
-        let mut day = from;
-        let mut count = seen;
-        while i64::from(day.num_days_from_ce()) + cycle <= last && each < most - count {
-            day = moved(day, cycle);
-            count += each;
+        let cycle = days_apart(base, from);
+        let days = (last - from.num_days_from_ce()) as u32;
+        let cycles = whole_times(cycle, days, each, most - 1 - seen);
+        Walked {
+            day: moved(from, i64::from(cycles * cycle)),
+            seen: seen + cycles * each,
         }
-        Walked { day, seen: count }
     }
 
     // The first members from the start to before a day, at most `most`.
@@ -120,8 +122,20 @@ impl Rule {
             return walked;
         }
         let each = walked.seen - year.seen;
-        let far = i64::from(last);
-        let skipped = self.cycles_on(start, next, walked.seen, each, far, most);
+        let skipped = self.cycles_on(start, base, next, walked.seen, each, last, most);
         self.members_from(start, skipped.day, skipped.seen, end, most)
     }
+}
+
+// How many times a cycle goes into so many days, and its members into so many.
+fn whole_times(cycle: u32, days: u32, each: u32, members: u32) -> u32
+    requires { 0 < cycle }
+    ensures days { result * cycle ≤ days }
+    ensures members { result * each ≤ members }
+{
+    let times = days / cycle;
+    if each == 0 {
+        return times;
+    }
+    times.min(members / each)
 }

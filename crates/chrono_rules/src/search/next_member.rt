@@ -1,9 +1,10 @@
 //! The first member of a rule from a day on: it looks at the days that no part skips, one after another.
-ghost use Rattle.std.specs.Prelude.{◌≡◌, ◌+◌, ◌*◌, ◌==◌, if◌then◌else◌, ◌≤ℤ◌, ◌<ℤ◌, ◌+ℤ◌, ℤ, pos, true, IfSome, IfNone};
+ghost use Rattle.std.specs.Prelude.{◌≡◌, ◌≤ℤ◌, ◌<ℤ◌, ◌+ℤ◌, ◌-ℤ◌, ℤ, pos, true, IfSome, IfNone};
 ghost use Rattle.chrono_datetime.specs.Days.{IsDate};
 ghost use Rattle.chrono_datetime.specs.Recurrence.{past_last_date};
 ghost use Rattle.chrono_datetime.specs.PassedOver.{NoDateFrom, NoneFrom, PassedOver};
 ghost use Rattle.chrono_rules.specs.Instances.{is_member, not_after};
+ghost use Rattle.chrono_rules.specs.RuleCycles.{RepeatsAfter};
 
 use crate::rule::{End, Rule};
 use crate::search::repeats::{PAST_LAST_DAY, first_of_last_366_days, later_of};
@@ -93,7 +94,7 @@ impl Rule {
         requires order { date ≤ℤ from }
         requires from { IsDate from }
         requires date { IsDate date }
-        requires at { near ≡ from +ℤ pos (366 + 146_097 * (if self.now.interval == 0 then 1 else self.now.interval)) }
+        requires repeats { RepeatsAfter self.now ((near -ℤ from) -ℤ pos 366) }
         requires before { near <ℤ end }
         requires early { (near +ℤ pos 366) ≤ℤ past_last_date }
         ensures member { IfSome result (λ e. is_member self.now start e ≡ true) }

@@ -103,6 +103,15 @@ pub(crate) fn moved(date: NaiveDate, days: i64) -> NaiveDate
     date.moved_by_days(days).unwrap()
 }
 
+// How many days the second date lies behind the first.
+#[inline]
+pub(crate) fn days_apart(first: NaiveDate, second: NaiveDate) -> u32
+    requires { first ≤ℤ second }
+    ensures { second ≡ first +ℤ pos result }
+{
+    (second.num_days_from_ce() - first.num_days_from_ce()) as u32
+}
+
 // What is left of a number of periods behind whole intervals.
 #[inline]
 pub(crate) fn remainder(apart: i64, step: i64) -> u64

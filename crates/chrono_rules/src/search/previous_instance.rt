@@ -1,9 +1,10 @@
 //! The last instance of a rule before a day.
-ghost use Rattle.std.specs.Prelude.{◌≡◌, ◌==◌, ◌≤◌, ◌<◌, ◌+◌, ◌*◌, if◌then◌else◌, ◌≤ℤ◌, ◌<ℤ◌, ◌+ℤ◌, ℤ, pos, true, IsTrue, IfSome, IfNone};
+ghost use Rattle.std.specs.Prelude.{◌≡◌, ◌≤◌, ◌<◌, ◌≤ℤ◌, ◌<ℤ◌, ◌-ℤ◌, ℤ, pos, true, IsTrue, IfSome, IfNone};
 ghost use Rattle.chrono_datetime.specs.Days.{IsDate};
 ghost use Rattle.chrono_datetime.specs.Recurrence.{count_between};
 ghost use Rattle.chrono_datetime.specs.PassedOver.{NoDateAfter, NoDateFrom, NoneBefore, PassedBetween, PassedOver};
 ghost use Rattle.chrono_rules.specs.Instances.{is_counted, is_instance, is_member, not_after};
+ghost use Rattle.chrono_rules.specs.RuleCycles.{RepeatsAfter};
 
 use crate::rule::{End, Rule};
 use crate::search::periods::moved;
@@ -58,7 +59,7 @@ impl Rule {
     // The day that lies a cycle and 366 days before a day; the start if it is later.
     fn cycle_before(&self, start: NaiveDate, day: NaiveDate) -> NaiveDate
         ensures not_before { start ≤ℤ result }
-        ensures far { start <ℤ result → (result +ℤ pos (366 + 146_097 * (if self.now.interval == 0 then 1 else self.now.interval))) ≡ day }
+        ensures repeats { start <ℤ result → RepeatsAfter self.now ((day -ℤ result) -ℤ pos 366) }
         ensures in_range { IsDate day }
     {
         match day.moved_by_days(0 - LONGEST_PERIOD - self.cycle()) {

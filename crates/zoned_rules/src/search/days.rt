@@ -209,7 +209,7 @@ impl LocalRule {
 
 // The beginning of a second of a day.
 #[inline]
-fn beginning(date: NaiveDate, second: u32) -> NaiveDateTime
+pub(crate) fn beginning(date: NaiveDate, second: u32) -> NaiveDateTime
     requires { second < 86_400 }
     ensures value { result ≡ moment date (record { second = second; fraction = 0 }) }
     ensures exists { IsMoment result }

@@ -204,7 +204,7 @@ impl<Z: TimeZone> ZonedRule<Z> {
     }
 
     // The second of the start's instant.
-    fn start_second(&self) -> i64
+    pub(crate) fn start_second(&self) -> i64
         ensures stands { IsInstantOf (Z.ahead self.now.zone) (epoch_second self.now.local.start) result }
         ensures low { neg_ℤ (pos 8_334_601_315_200) ≤ℤ result }
         ensures high { result ≤ℤ pos 8_210_266_963_199 }

@@ -1,28 +1,25 @@
-use Rattle.std.proofs.Common.{◌≡◌, sym, ap, ◌∙◌, arith, ℤ, pos, ◌+ℤ◌, ◌-ℤ◌, ◌≤ℤ◌}
-use Rattle.chrono_datetime.specs.Recurrence.{count_between}
-use Rattle.chrono_rules.specs.Instances.{is_member}
-use Rattle.chrono_datetime.proofs.Signed.{casts, signed}
-use Rattle.chrono_rules.proofs.Repeated.{cycle_of, next_cycle}
+use Rattle.std.proofs.Common.{◌≡◌, ◌*◌, sym, arith, pos, ◌+ℤ◌}
+use Rattle.chrono_datetime.proofs.Signed.{casts}
+use Rattle.chrono_rules.proofs.Repeated.{cycles_more}
 use Rattle.chrono_rules.proofs.rule.Rule.cycles_on.Goals as goal
 
-pub loop-day-preserved : goal.loop-day-preserved
-loop-day-preserved c =
-    let r = c.args.self.now in
-    let inv = c.loop-day.invariant in
+pub moved-requires : goal.moved-requires
+moved-requires c =
     let here = c.num_days_from_ce.ensures in
-    let cycle = c.cycle-cycle.ensures in
-    let day : ℤ = c.loop-day.day in
-    let next : ℤ = c.moved-day.result in
-    let last : ℤ = c.args.last in
-    let at : next ≡ day +ℤ pos (cycle_of r) = omega (arith, casts, c.moved-day.ensures, cycle.value, cycle.low, cycle.high) in
-    let within : next ≤ℤ last = omega (arith, casts, at, c.loop-day-test.true, c.ranges.last, here.value, here.in_range, c.from.ensures, cycle.value, cycle.low, cycle.high) in
-    let one = next_cycle r c.args.start day next last at within inv.begun inv.low c.requires.last c.requires.inside in
-    let back : day ≡ next -ℤ pos (cycle_of r) = omega (arith, signed, at) in
-    record {
-      begun = omega (arith, signed, inv.begun, at);
-      low = omega (arith, signed, inv.low, at);
-      high = omega (arith, casts, within, c.ranges.last);
-      counted = omega (arith, inv.counted, inv.each, one.0, one.1);
-      few = omega (arith, c.if-each-most.true);
-      each = inv.each ∙ (sym one.0 ∙ ap (λ (d : ℤ). count_between (is_member r c.args.start) d next) back);
-    }
+    let days = c.whole_times-cycles.ensures.days in
+    (omega (arith, casts, c.from.ensures, days, here.value, here.in_range), omega (arith, casts, c.from.ensures, days, here.value, here.in_range, c.requires.order, c.requires.last, c.ranges.last))
+
+pub returns-clause-high : goal.returns-clause-high
+returns-clause-high c =
+    let here = c.num_days_from_ce.ensures in
+    omega (arith, casts, c.moved.ensures, c.from.ensures, c.whole_times-cycles.ensures.days, here.value, here.in_range, c.requires.order, c.requires.last, c.ranges.last)
+
+pub returns-clause-counted : goal.returns-clause-counted
+returns-clause-counted c =
+    let here = c.num_days_from_ce.ensures in
+    let given = c.requires in
+    let days = c.whole_times-cycles.ensures.days in
+    let at : c.moved.result ≡ c.args.from +ℤ pos (c.whole_times-cycles.result * c.days_apart-cycle.result) = omega (arith, casts, c.moved.ensures, c.from.ensures, days, here.value, here.in_range, given.order, given.last, c.ranges.last) in
+    rw (given.counted, given.each)
+    (sym (cycles_more c.args.self.now c.args.start c.args.base c.args.from c.args.last c.days_apart-cycle.result c.whole_times-cycles.result c.moved.result
+    given.repeats c.days_apart-cycle.ensures at (omega (arith, casts, at, days, here.value, here.in_range, given.order, given.last, c.ranges.last)) given.begun given.low given.last given.inside))

@@ -17,14 +17,14 @@ returns-in_err-day-clause-none c =
     (λ d low less date.
     by_lt_z d c.first_of_last_366_days-rest.result
     (λ lt.
-    none_far c.args.self.now c.args.start c.args.date c.args.from c.args.near d given.begun given.order given.from given.date given.at given.early
+    none_far c.args.self.now c.args.start c.args.date c.args.from c.args.near d given.repeats given.begun given.order given.from given.date given.early
     (λ e from under is. c.in_default.ensures.none e from (omega (arith, casts, under, near.value, near.in_range)) is)
     low (omega (arith, signed, lt, c.first_of_last_366_days-rest.ensures)))
     (λ ge. c.in_err-day.ensures.none d ge (omega (arith, casts, c.ranges.end, less)) date))
 
 pub returns-clause-not_before : goal.returns-clause-not_before
 returns-clause-not_before c =
-    omega (arith, signed, c.in_ok-day.ensures.not_before, c.first_of_last_366_days-rest.ensures, c.requires.order, c.requires.at, c.requires.early)
+    omega (arith, signed, c.in_ok-day.ensures.not_before, c.first_of_last_366_days-rest.ensures, c.requires.order, c.requires.repeats.later, c.requires.early)
 
 pub returns-clause-least : goal.returns-clause-least
 returns-clause-least c =
@@ -33,7 +33,7 @@ returns-clause-least c =
     λ d low less.
     by_lt_z d c.first_of_last_366_days-rest.result
     (λ lt.
-    none_far c.args.self.now c.args.start c.args.date c.args.from c.args.near d given.begun given.order given.from given.date given.at given.early
+    none_far c.args.self.now c.args.start c.args.date c.args.from c.args.near d given.repeats given.begun given.order given.from given.date given.early
     (λ e from under is. c.in_default.ensures.none e from (omega (arith, casts, under, near.value, near.in_range)) is)
     low (omega (arith, signed, lt, c.first_of_last_366_days-rest.ensures)))
     (λ ge. c.in_ok-day.ensures.least d ge less)

@@ -35,8 +35,9 @@ returns-in_err-day-clause-none c =
     (λ lt. by_lt_z (d -ℤ pos 366) c.args.start
     (λ near. c.in_err-day.ensures.none d from (omega (arith, casts, near, start.value, start.in_range)) date)
     (λ far.
-    none_near c.args.self.now c.args.start c.cycle_before-floor.result c.end_of_until-top.result d (omega (arith, signed, start.value, start.in_range), omega (arith, signed, start.value, start.in_range)) cycle.in_range
-    (cycle.far (omega (arith, casts, c.if-bottom-begin.false, start.value, start.in_range, floor.value, floor.in_range))) c.in_default.ensures.none until.inside (omega (arith, signed, far)) lt))
+    none_near c.args.self.now c.args.start c.cycle_before-floor.result c.end_of_until-top.result d
+    (cycle.repeats (omega (arith, casts, c.if-bottom-begin.false, start.value, start.in_range, floor.value, floor.in_range)))
+    (omega (arith, signed, start.value, start.in_range), omega (arith, signed, start.value, start.in_range)) cycle.in_range c.in_default.ensures.none until.inside (omega (arith, signed, far)) lt))
     (λ ge. until.behind c.args.start d ge before)))
 
 pub returns-clause-before : goal.returns-clause-before
@@ -44,7 +45,7 @@ returns-clause-before c =
     let start = c.num_days_from_ce-begin.ensures in
     let floor = c.num_days_from_ce-bottom.ensures in
     let cycle = c.cycle_before-floor.ensures in
-    omega (arith, casts, c.in_ok-day.ensures.before, start.value, start.in_range, c.end_of_until-top.ensures.not_after, c.if-bottom-begin.false, floor.value, floor.in_range, cycle.far (omega (arith, casts, c.if-bottom-begin.false, start.value, start.in_range, floor.value, floor.in_range)))
+    omega (arith, casts, c.in_ok-day.ensures.before, start.value, start.in_range, c.end_of_until-top.ensures.not_after, c.if-bottom-begin.false, floor.value, floor.in_range, (cycle.repeats (omega (arith, casts, c.if-bottom-begin.false, start.value, start.in_range, floor.value, floor.in_range))).later)
 
 pub returns-clause-greatest : goal.returns-clause-greatest
 returns-clause-greatest c =
@@ -58,6 +59,7 @@ returns-clause-greatest c =
     (λ lt. by_lt_z (d -ℤ pos 366) c.args.start
     (λ near. c.in_ok-day.ensures.greatest d after (omega (arith, casts, near, start.value, start.in_range)) (omega (arith, signed, after, from, start.value, start.in_range), omega (arith, signed, lt, cycle.in_range.1)))
     (λ far.
-    none_near c.args.self.now c.args.start c.cycle_before-floor.result c.end_of_until-top.result d (omega (arith, signed, start.value, start.in_range), omega (arith, signed, start.value, start.in_range)) cycle.in_range
-    (cycle.far (omega (arith, casts, c.if-bottom-begin.false, start.value, start.in_range, floor.value, floor.in_range))) c.in_default.ensures.none until.inside (omega (arith, signed, far)) lt))
+    none_near c.args.self.now c.args.start c.cycle_before-floor.result c.end_of_until-top.result d
+    (cycle.repeats (omega (arith, casts, c.if-bottom-begin.false, start.value, start.in_range, floor.value, floor.in_range)))
+    (omega (arith, signed, start.value, start.in_range), omega (arith, signed, start.value, start.in_range)) cycle.in_range c.in_default.ensures.none until.inside (omega (arith, signed, far)) lt))
     (λ ge. until.behind c.args.start d ge before)
