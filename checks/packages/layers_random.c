@@ -343,6 +343,20 @@ static void columns(void)
     for (size_t i = 0; is_right && roll < 7 && i < room; i++) {
         HOLDS(out[i] == calendar_roll(weekend, days, length, dates[i], roll));
     }
+    int32_t year = room ? (int32_t)((int64_t)dates[0] * 400 / 146097 + 1) : 0, first = year - (int32_t)(any() % 3), last = year + (int32_t)(any() % 3);
+    HOLDS(calendar_column_is_open_day_within(weekend, days, length, first, last, dates, room, marks, other) == is_right);
+    HOLDS(calendar_column_open_days_between_within(weekend, days, length, first, last, dates, room, dates, room, counted, other) == is_right);
+    HOLDS(calendar_column_add_open_days_within(weekend, days, length, first, last, dates, room, n, out, other) == is_right);
+    for (size_t i = 0; is_right && i < room; i++) {
+        int32_t mark = calendar_is_open_day_within(weekend, days, length, first, last, dates[i]);
+        HOLDS(mark == CALENDAR_NONE ? marks[i] == (dates[i] >= CALENDAR_MIN && dates[i] <= CALENDAR_MAX ? 2 : 0) : marks[i] == mark);
+        HOLDS(counted[i] == calendar_open_days_between_within(weekend, days, length, first, last, dates[i], dates[i]));
+        HOLDS(out[i] == calendar_add_open_days_within(weekend, days, length, first, last, dates[i], n));
+    }
+    HOLDS(calendar_column_roll_within(weekend, days, length, first, last, dates, room, roll, out, other) == (is_right && roll < 7));
+    for (size_t i = 0; is_right && roll < 7 && i < room; i++) {
+        HOLDS(out[i] == calendar_roll_within(weekend, days, length, first, last, dates[i], roll));
+    }
     HOLDS(calendar_column_to_date32(dates, room, out, other) == (room == other));
     for (size_t i = 0; room == other && i < room; i++) {
         int32_t back;

@@ -516,6 +516,43 @@ static void columns(void)
     IS(moved[0] == 19815 && moved[1] == CALENDAR_NONE, true);
 }
 
+static void columns_within(void)
+{
+    /* 1 January 2026 is a holiday, 30 December 2026 a Wednesday, and 1 January 2027 of a year that is not asked for */
+    const int32_t dates[] = {739617, 739980, 739982, CALENDAR_NONE}, ends[] = {739982, 739982, 739982, 739982}, falling[] = {738977, 738974};
+    int32_t days[20], moved[4] = {9, 9, 9, 9};
+    uint8_t marks[4] = {9, 9, 9, 9};
+    int64_t counted[4] = {9, 9, 9, 9};
+    IS(calendar_holidays_of(CALENDAR_TARGET, 2024, 2026, WEEKEND, days, 20), 17);
+    IS(calendar_column_is_open_day_within(WEEKEND, falling, 2, 2024, 2026, dates, 4, marks, 4), false);
+    IS(calendar_column_is_open_day_within(WEEKEND, days, 17, 2024, 2026, dates, 4, marks, 3), false);
+    IS(marks[0], 9);
+    IS(calendar_column_is_open_day_within(WEEKEND, days, 17, 2024, 2026, dates, 4, marks, 4), true);
+    IS(marks[0] == 0 && marks[1] == 1 && marks[2] == 2 && marks[3] == 0, true);
+    IS(calendar_column_add_open_days_within(WEEKEND, falling, 2, 2024, 2026, dates, 4, 1, moved, 4), false);
+    IS(calendar_column_add_open_days_within(WEEKEND, days, 17, 2024, 2026, dates, 4, 1, moved, 3), false);
+    IS(moved[0], 9);
+    IS(calendar_column_add_open_days_within(WEEKEND, days, 17, 2024, 2026, dates, 4, 1, moved, 4), true);
+    IS(moved[0] == 739618 && moved[1] == 739981 && moved[2] == CALENDAR_NONE && moved[3] == CALENDAR_NONE, true);
+    IS(calendar_column_add_open_days_within(WEEKEND, days, 17, 2024, 2026, dates, 4, 2, moved, 4), true);
+    IS(moved[0] == 739621 && moved[1] == CALENDAR_NONE, true);
+    IS(calendar_column_open_days_between_within(WEEKEND, days, 17, 2024, 2026, dates, 4, ends, 3, counted, 4), false);
+    IS(calendar_column_open_days_between_within(WEEKEND, days, 17, 2024, 2026, dates, 4, ends, 4, counted, 3), false);
+    IS(calendar_column_open_days_between_within(WEEKEND, falling, 2, 2024, 2026, dates, 4, ends, 4, counted, 4), false);
+    IS(counted[0], 9);
+    IS(calendar_column_open_days_between_within(WEEKEND, days, 17, 2026, 2026, dates, 4, ends, 4, counted, 4), true);
+    IS(counted[0] == 256 && counted[1] == 2 && counted[2] == 0 && counted[3] == INT64_MIN, true);
+    IS(calendar_column_open_days_between_within(WEEKEND, days, 17, 2024, 2025, dates, 4, ends, 4, counted, 4), true);
+    IS(counted[0] == INT64_MIN && counted[2] == 0, true);
+    IS(calendar_column_roll_within(WEEKEND, days, 17, 2024, 2026, dates, 4, 7, moved, 4), false);
+    IS(calendar_column_roll_within(WEEKEND, falling, 2, 2024, 2026, dates, 4, 1, moved, 4), false);
+    IS(calendar_column_roll_within(WEEKEND, days, 17, 2024, 2026, dates, 4, 1, moved, 3), false);
+    IS(calendar_column_roll_within(WEEKEND, days, 17, 2026, 2026, dates, 4, CALENDAR_ROLL_FOLLOWING, moved, 4), true);
+    IS(moved[0] == 739618 && moved[1] == 739980 && moved[2] == CALENDAR_NONE && moved[3] == CALENDAR_NONE, true);
+    IS(calendar_column_roll_within(WEEKEND, days, 17, 2026, 2026, dates, 4, CALENDAR_ROLL_NEAREST_QUANTLIB, moved, 4), true);
+    IS(moved[0] == CALENDAR_NONE && moved[1] == 739980, true);
+}
+
 static bool counts(uint32_t kind, int32_t from, int32_t to, int64_t numerator, int64_t denominator)
 {
     calendar_fraction found = calendar_day_count(kind, from, to);
@@ -1070,6 +1107,7 @@ int main(void)
     rolls_within();
     holidays();
     columns();
+    columns_within();
     patterns();
     zones();
     files_of_zones();

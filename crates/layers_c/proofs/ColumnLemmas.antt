@@ -1,16 +1,20 @@
 -- One element more of a column, and what stands in one for a date and for none.
-use Rattle.std.proofs.Common.{◌≡◌, ℕ, ◌+◌, ◌<◌, Bool, true, false, ◌&&◌, cond, List, length, get_or, refl, sym, ap, arith, ℤ, pos, neg_ℤ, ◌^◌, ◌+ℤ◌, ◌-ℤ◌, ◌<ℤ◌, Some, None, inl, inr}
+use Rattle.std.proofs.Common.{◌≡◌, ℕ, ◌+◌, ◌<◌, Bool, true, false, ◌&&◌, cond, if◌then◌else◌, List, length, get_or, refl, sym, ap, arith, ℤ, pos, neg_ℤ, ◌^◌, ◌+ℤ◌, ◌-ℤ◌, ◌<ℤ◌, Some, None, inl, inr}
 use Rattle.std.specs.Prelude.{slice_set}
 use Rattle.std.specs.Option.{option_map}
 use Rattle.std.proofs.lemmas.Bool.{cases_lt}
+use Rattle.std.proofs.lemmas.Option.{cond_some, none-some}
 use Rattle.std.proofs.lemmas.List.{get_or-set_other, get_or-set_same}
 use Rattle.chrono_calendar.specs.Days.{date_of_day, is_date}
 use Rattle.chrono_calendar.proofs.Dates.{is_date-fact, is_date-test}
 use Rattle.chrono_calendar.proofs.Signed.{signed}
 use Rattle.chrono_calendar.proofs.NamedDates.{date_of_day-None, date_of_day-Some, none-date_of_day, some-date_of_day}
 use Rattle.chrono_business.specs.OpenDays.{Closed, is_open, open_days_signed}
+use Rattle.chrono_business.specs.KnownYears.{is_known}
+use Rattle.chrono_business.specs.declared.known_years.KnownYears.{KnownYears}
 use Rattle.numbers_c.specs.Answers.{or_none}
 use Rattle.layers_c.specs.OpenDayColumns.{between_entry, least_days, from_date32_entry, open_entry, to_date32_entry}
+use Rattle.layers_c.specs.OpenDayColumnsWithin.{open_within_entry}
 
 pub element-more : {Y : Type 0} (p : ℕ → Y → Type 0) (y : Y) (out : List Y) (i : ℕ) (z : Y) → i < length out → ((k : ℕ) → k < i → p k (get_or out k y))
     → p i z → (k : ℕ) → k < i + 1 → p k (get_or (slice_set out i z) k y)
@@ -55,3 +59,21 @@ late_date32 days late = ap or_none (date_of_day-None (days +ℤ pos 719_163) (λ
 
 pub to_date32-there : (n d : ℤ) → Some d ≡ date_of_day n → n -ℤ pos 719_163 ≡ to_date32_entry n
 to_date32-there n d e = ap (λ o. or_none (option_map (λ m. m -ℤ pos 719_163) o)) (sym (date_of_day-Some n (some-date_of_day n d e).0))
+
+-- the same where the holidays of some years are known
+pub open_within-there : (years : KnownYears) (c : Closed) (n d : ℤ) (b : Bool) → Some d ≡ date_of_day n
+    → Some b ≡ (if is_known years d then Some (is_open c d) else None) → cond b 1 0 ≡ open_within_entry years c n
+open_within-there years c n d b e is =
+    let answer = cond_some (is_known years d) (is_open c d) b (sym is) in
+    rw (there n d e, ← (some-date_of_day n d e).1, answer.0, answer.1) refl
+
+pub open_within-other : (years : KnownYears) (c : Closed) (n d : ℤ) → Some d ≡ date_of_day n
+    → None ≡ (if is_known years d then Some (is_open c d) else None) → 2 ≡ open_within_entry years c n
+open_within-other years c n d e is = rw (there n d e, ← (some-date_of_day n d e).1, not-known (is_known years d) is) refl
+  where
+    not-known : (known : Bool) → None ≡ (if known then Some (is_open c d) else None) → known ≡ false
+    not-known true is = absurd (none-some (is_open c d) is)
+    not-known false is = refl
+
+pub open_within-none : (years : KnownYears) (c : Closed) (n : ℤ) → None ≡ date_of_day n → 0 ≡ open_within_entry years c n
+open_within-none years c n e = rw (not-there n e) refl

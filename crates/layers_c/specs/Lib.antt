@@ -4,6 +4,7 @@ pub mod Faults
 pub mod Holidays
 pub mod NumberSets
 pub mod OpenDayColumns
+pub mod OpenDayColumnsWithin
 pub mod OpenDays
 pub mod OpenDaysWithin
 pub mod Patterns

@@ -14,6 +14,7 @@ mod holiday_words;
 mod holidays;
 mod number_sets;
 mod open_day_columns;
+mod open_day_columns_within;
 mod open_days;
 mod open_days_within;
 mod part_end;

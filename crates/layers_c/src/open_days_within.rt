@@ -168,7 +168,7 @@ pub extern "C" fn calendar_holidays_first_year(which: u32) -> i32
 }
 
 // The years from one to another.
-fn years(first: i32, last: i32) -> KnownYears
+pub(crate) fn years(first: i32, last: i32) -> KnownYears
     ensures { result ≡ years_from_c first last }
 {
     KnownYears { first, last }

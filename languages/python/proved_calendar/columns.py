@@ -362,36 +362,41 @@ def _are_dates(numbers: Any) -> Any:
     return (numbers >= _calendar.Date.min.number) & (numbers <= _calendar.Date.max.number)
 
 
-@functools.lru_cache(maxsize=16)
-def _known_days(calendar: Any) -> tuple[int, int] | None:
-    """The first and the last day of the years of which the holidays of a calendar are known; None if it has no years."""
+def _has_years(calendar: Any) -> bool:
+    """Whether the holidays of a calendar are known of some years alone."""
+    return calendar.first_year is not None or calendar.last_year is not None
+
+
+def _years_of(calendar: Any) -> tuple[int, int]:
+    """The first and the last of these years; of a calendar without years those of 32 bits."""
     first, last = calendar.first_year, calendar.last_year
-    if first is None and last is None:
-        return None
-    return NONE if first is None else _calendar.Date(first, 1, 1).number, 2**31 - 1 if last is None else _calendar.Date(last, 12, 31).number
+    return -2**31 if first is None else first, 2**31 - 1 if last is None else last
 
 
-def _refuse_unknown(calendar: Any, low: Any, high: Any, is_asked: Any) -> None:
-    """Raises a ValueError if a day from one of `low` to that of `high` is asked for, and lies in another year."""
-    known = _known_days(calendar)
-    if known is not None and (is_asked & ((low < known[0]) | (high > known[1]))).any():
+def _call_open(name: str, calendar: Any, *arguments: Any) -> None:
+    """Calls a function for columns of open days by a calendar, in its years if it has some."""
+    if _has_years(calendar):
+        _call(f"{name}_within", *_closed(calendar), *_years_of(calendar), *arguments)
+    else:
+        _call(name, *_closed(calendar), *arguments)
+
+
+def _refuse_other_years(calendar: Any, is_other: Any) -> None:
+    """Raises a ValueError if a calendar has years, and one of the answers looks at another year."""
+    if _has_years(calendar) and is_other.any():
         ends = (("from", calendar.first_year), ("to", calendar.last_year))
         years = "".join(f" {word} {year}" for word, year in ends if year is not None)
         raise ValueError(f"the holidays are known{years} alone, and another year is looked at")
 
 
-def _within_years(calendar: Any, move: Callable[[slice, Any, Any], None], both_sides: bool = False) -> Callable[[slice, Any, Any], None]:
+def _within_years(calendar: Any, move: Callable[[slice, Any, Any], None]) -> Callable[[slice, Any, Any], None]:
     """The same move, where a ValueError says that it looks at a year of which the holidays of a calendar are not known."""
-    if _known_days(calendar) is None:
+    if not _has_years(calendar):
         return move
 
     def move_piece(piece: slice, starts: Any, moved: Any) -> None:
         move(piece, starts, moved)
-        # (a move that leads beyond the calendar leads beyond the years)
-        ends = _np.where(moved == NONE, 2**31, moved.astype(_np.int64))
-        others = 2 * starts.astype(_np.int64) - ends if both_sides else ends
-        low, high = (call(call(ends, others), starts) for call in (_np.minimum, _np.maximum))
-        _refuse_unknown(calendar, low, high, _are_dates(starts))
+        _refuse_other_years(calendar, (moved == NONE) & _are_dates(starts))
 
     return move_piece
 
@@ -410,12 +415,13 @@ def is_open(dates: Any, calendar: Any) -> Any:
 
     As in each function of open days, an answer that looks at a year of which the holidays are not known is a ValueError.
     """
-    column, closed = Dates(dates), _closed(calendar)
+    column, _ = Dates(dates), _closed(calendar)
     out = _np.empty(column.size, _np.bool_)
     for piece in column.pieces():
-        numbers = column.numbers(piece)
-        _refuse_unknown(calendar, numbers, numbers, _are_dates(numbers))
-        _call("is_open_day", *closed, numbers, out[piece])
+        marks = out[piece].view(_np.uint8)
+        _call_open("is_open_day", calendar, column.numbers(piece), marks)
+        # (2 stands for a date of another year)
+        _refuse_other_years(calendar, marks == 2)
     return out.reshape(column.shape)
 
 
@@ -428,10 +434,10 @@ def add_open_days(dates: Any, days: Any, calendar: Any) -> Any:
     column, (weekend, holidays) = Dates(dates), _closed(calendar)
     if not _np.ndim(days):
         number = ctypes.c_int64(whole("days", days))
-        move = _by_day(column, lambda starts, moved: _call("add_open_days", weekend, holidays, starts, number, moved))
+        move = _by_day(column, lambda starts, moved: _call_open("add_open_days", calendar, starts, number, moved))
         return _moved_by(column, _within_years(calendar, move))
     steps = small_of("days", days, _np.int64, column.shape)
-    closed = weekend, holidays, holidays.size
+    closed = weekend, holidays, holidays.size, *_years_of(calendar)
     return _moved_by(column, _within_years(calendar, lambda piece, starts, moved: _loop("add_open", *closed, starts, steps(piece), starts.size, moved)))
 
 
@@ -441,9 +447,9 @@ def roll(dates: Any, how: str, calendar: Any) -> Any:
     how is 'following', 'preceding', 'modified_following' or 'modified_preceding', which stay in the month, 'nearest_isda',
     'nearest_quantlib' or 'unadjusted'. A time of day stays the same.
     """
-    column, closed, number = Dates(dates), _closed(calendar), _number_of("roll", how, _ROLLS)
-    move = _by_day(column, lambda starts, moved: _call("roll", *closed, starts, number, moved))
-    return _moved_by(column, _within_years(calendar, move, how == "nearest_quantlib"))
+    column, _, number = Dates(dates), _closed(calendar), _number_of("roll", how, _ROLLS)
+    move = _by_day(column, lambda starts, moved: _call_open("roll", calendar, starts, number, moved))
+    return _moved_by(column, _within_years(calendar, move))
 
 
 def open_days_between(dates: Any, ends: Any, calendar: Any) -> Any:
@@ -451,13 +457,12 @@ def open_days_between(dates: Any, ends: Any, calendar: Any) -> Any:
 
     One of the two may be a single date.
     """
-    (column, end), closed = _pair(dates, ends), _closed(calendar)
+    (column, end), _ = _pair(dates, ends), _closed(calendar)
     out = _np.empty(column.size, _np.int64)
     for piece in column.pieces():
         starts, ends = column.numbers(piece), end.numbers(piece)
-        is_asked = _are_dates(starts) & _are_dates(ends) & (starts != ends)
-        _refuse_unknown(calendar, _np.minimum(starts, ends), _np.maximum(starts, ends) - 1, is_asked)
-        _call("open_days_between", *closed, starts, ends, out[piece])
+        _call_open("open_days_between", calendar, starts, ends, out[piece])
+        _refuse_other_years(calendar, (out[piece] == NAT) & _are_dates(starts) & _are_dates(ends))
     return out.reshape(column.shape)
 
 

@@ -157,12 +157,13 @@ LOOP proved_read_times(const uint8_t *texts, size_t width, size_t count, int64_t
 
 /* ---- open days and day counts: a calendar is a weekend and holidays, of which there are `closed` */
 
-/* The open day that is so many open days later, with its own number for each date. */
-LOOP proved_add_open(int64_t weekend, const int32_t *holidays, size_t closed, const int32_t *dates, const int64_t *steps,
-                     size_t count, int32_t *moved)
+/* The open day that is so many open days later, with its own number for each date. Both lie in the years. */
+LOOP proved_add_open(int64_t weekend, const int32_t *holidays, size_t closed, int64_t first_year, int64_t last_year, const int32_t *dates,
+                     const int64_t *steps, size_t count, int32_t *moved)
 {
+    int32_t first = (int32_t)first_year, last = (int32_t)last_year;
     for (size_t i = 0; i < count; i++) {
-        moved[i] = calendar_add_open_days((uint8_t)weekend, holidays, closed, dates[i], steps[i]);
+        moved[i] = calendar_add_open_days_within((uint8_t)weekend, holidays, closed, first, last, dates[i], steps[i]);
     }
 }
 

@@ -84,15 +84,9 @@ impl<'a> BoundedCalendar<'a> {
         YearsError { years: self.years }
     }
 
-    /// Fails if a day lies in another year, of which the least and the greatest one are given. There is none if the least is the later one.
-    pub(crate) fn refuse_other_years(&self, least: i32, greatest: i32) -> Result<(), YearsError> {
-        let years = self.years();
-        let is_known = |day| Date::from_number(day).is_some_and(|it| years.contains(&it.year()));
-        if least > greatest || (is_known(least) && is_known(greatest)) {
-            Ok(())
-        } else {
-            Err(self.error())
-        }
+    /// Fails unless the answers look at the years alone.
+    pub(crate) fn refuse_unless(&self, is_known: bool) -> Result<(), YearsError> {
+        if is_known { Ok(()) } else { Err(self.error()) }
     }
 
     /// Whether a date is open: neither on the weekend nor a holiday.

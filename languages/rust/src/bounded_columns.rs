@@ -1,50 +1,14 @@
 //! Columns of open days of the years of which holidays are known.
 
-use crate::columns::{self, DayNumbers};
+use crate::columns::{check, parts, DayNumbers, NO_DATE};
+use crate::layer_calls::*;
 use crate::{BoundedCalendar, Date, Roll, YearsError};
 
-/// The first and the last day that an answer looks at. If the first is the later one, it looks at none.
-type Days = (i32, i32);
-
-/// What looks at no day.
-const NO_DAYS: Days = (i32::MAX, i32::MIN);
-
-/// The days from one to another, in any order. The answer may be no date, and is then outside all years.
-fn days_to(date: i32, end: i32) -> Days {
-    (date.min(end), date.max(end))
-}
-
-/// The days from one date on and before another, in any order.
-fn days_before(date: i32, end: i32) -> Days {
-    if date == end || Date::from_number(end).is_none() {
-        NO_DAYS
-    } else {
-        (date.min(end), date.max(end) - 1)
-    }
-}
-
-/// The day as far from a date as another, on the other side.
-fn mirrored(date: i32, other: i32) -> i32 {
-    date.saturating_mul(2).saturating_sub(other)
-}
-
-/// Fails if one of the days that the answers look at lies in another year: the least of them, or the greatest. What is no date looks at none.
-fn refuse_other_years<T: Copy>(
-    calendar: &BoundedCalendar<'_>,
-    dates: &[i32],
-    others: &[T],
-    looked_at: impl Fn(i32, T) -> Days,
-) -> Result<(), YearsError> {
+/// Whether each date has an answer.
+fn all_are_answered(dates: &[i32], answers: &[i32]) -> bool {
     let is_date = |it: i32| Date::from_number(it).is_some();
-    let (least, greatest) = dates
-        .iter()
-        .zip(others)
-        .filter(|(date, _)| is_date(**date))
-        .map(|(date, other)| looked_at(*date, *other))
-        .fold(NO_DAYS, |(least, greatest), (first, last)| {
-            (least.min(first), greatest.max(last))
-        });
-    calendar.refuse_other_years(least, greatest)
+    let mut pairs = dates.iter().zip(answers);
+    pairs.all(|(date, answer)| *answer != NO_DATE || !is_date(*date))
 }
 
 /// Writes whether each date is open, and `false` for no date. Each date has to lie in the years.
@@ -66,8 +30,29 @@ pub fn is_open_day_within(
     dates: &(impl DayNumbers + ?Sized),
     marks: &mut [bool],
 ) -> Result<(), YearsError> {
-    columns::is_open_day(&calendar.calendar(), dates, marks);
-    refuse_other_years(calendar, dates.day_numbers(), marks, |date, _| (date, date))
+    let ((weekend, holidays), years) = (parts(&calendar.calendar()), calendar.years());
+    let dates = dates.day_numbers();
+    // SAFETY: a `bool` is a byte, and no byte is read as one before each is 0 or 1.
+    let bytes =
+        unsafe { core::slice::from_raw_parts_mut(marks.as_mut_ptr().cast::<u8>(), marks.len()) };
+    // SAFETY: so many elements lie in each slice, and the one that is written overlaps no other.
+    check(unsafe {
+        calendar_column_is_open_day_within(
+            weekend,
+            holidays.as_ptr(),
+            holidays.len(),
+            *years.start(),
+            *years.end(),
+            dates.as_ptr(),
+            dates.len(),
+            bytes.as_mut_ptr(),
+            bytes.len(),
+        )
+    });
+    // (2 stands for a date of another year)
+    let is_known = !bytes.contains(&2);
+    bytes.iter_mut().for_each(|it| *it &= 1);
+    calendar.refuse_unless(is_known)
 }
 
 /// Writes the `n`-th open day after each date, as [`BoundedCalendar::add_open_days`] finds it.
@@ -88,8 +73,24 @@ pub fn add_open_days_within(
     n: i64,
     moved: &mut [i32],
 ) -> Result<(), YearsError> {
-    columns::add_open_days(&calendar.calendar(), dates, n, moved);
-    refuse_other_years(calendar, dates.day_numbers(), moved, days_to)
+    let ((weekend, holidays), years) = (parts(&calendar.calendar()), calendar.years());
+    let dates = dates.day_numbers();
+    // SAFETY: so many elements lie in each slice, and the one that is written overlaps no other.
+    check(unsafe {
+        calendar_column_add_open_days_within(
+            weekend,
+            holidays.as_ptr(),
+            holidays.len(),
+            *years.start(),
+            *years.end(),
+            dates.as_ptr(),
+            dates.len(),
+            n,
+            moved.as_mut_ptr(),
+            moved.len(),
+        )
+    });
+    calendar.refuse_unless(all_are_answered(dates, moved))
 }
 
 /// Writes how many days are open from each date on and before the other at its place, as [`BoundedCalendar::open_days`] counts them.
@@ -110,8 +111,29 @@ pub fn open_days_between_within(
     to: &(impl DayNumbers + ?Sized),
     days: &mut [i64],
 ) -> Result<(), YearsError> {
-    columns::open_days_between(&calendar.calendar(), from, to, days);
-    refuse_other_years(calendar, from.day_numbers(), to.day_numbers(), days_before)
+    let ((weekend, holidays), years) = (parts(&calendar.calendar()), calendar.years());
+    let (from, to) = (from.day_numbers(), to.day_numbers());
+    // SAFETY: so many elements lie in each slice, and the one that is written overlaps no other.
+    check(unsafe {
+        calendar_column_open_days_between_within(
+            weekend,
+            holidays.as_ptr(),
+            holidays.len(),
+            *years.start(),
+            *years.end(),
+            from.as_ptr(),
+            from.len(),
+            to.as_ptr(),
+            to.len(),
+            days.as_mut_ptr(),
+            days.len(),
+        )
+    });
+    let is_date = |it: i32| Date::from_number(it).is_some();
+    let mut rows = from.iter().zip(to).zip(days.iter());
+    let is_known =
+        rows.all(|((from, to), days)| *days != i64::MIN || !is_date(*from) || !is_date(*to));
+    calendar.refuse_unless(is_known)
 }
 
 /// Writes the date that each date goes to by a roll, as [`BoundedCalendar::roll`] finds it.
@@ -132,13 +154,22 @@ pub fn roll_within(
     roll: Roll,
     rolled: &mut [i32],
 ) -> Result<(), YearsError> {
-    columns::roll(&calendar.calendar(), dates, roll, rolled);
+    let ((weekend, holidays), years) = (parts(&calendar.calendar()), calendar.years());
     let dates = dates.day_numbers();
-    refuse_other_years(calendar, dates, rolled, days_to)?;
-    if roll == Roll::NearestQuantLib {
-        refuse_other_years(calendar, dates, rolled, |date, end| {
-            days_to(date, mirrored(date, end))
-        })?;
-    }
-    Ok(())
+    // SAFETY: so many elements lie in each slice, and the one that is written overlaps no other.
+    check(unsafe {
+        calendar_column_roll_within(
+            weekend,
+            holidays.as_ptr(),
+            holidays.len(),
+            *years.start(),
+            *years.end(),
+            dates.as_ptr(),
+            dates.len(),
+            roll as u32,
+            rolled.as_mut_ptr(),
+            rolled.len(),
+        )
+    });
+    calendar.refuse_unless(all_are_answered(dates, rolled))
 }

@@ -104,7 +104,7 @@ pub fn count_dates(dates: &(impl DayNumbers + ?Sized)) -> usize {
 
 /// Panics if a function of the library has said that the lengths differ.
 #[track_caller]
-fn check(is_written: bool) {
+pub(crate) fn check(is_written: bool) {
     assert!(is_written, "the columns have different lengths");
 }
 
@@ -524,7 +524,7 @@ pub fn roll(
 }
 
 /// The weekend and the holidays of a calendar as the library takes them.
-fn parts<'a>(calendar: &BusinessCalendar<'a>) -> (u8, &'a [i32]) {
+pub(crate) fn parts<'a>(calendar: &BusinessCalendar<'a>) -> (u8, &'a [i32]) {
     (
         calendar.weekend().members,
         calendar.holidays().day_numbers(),

@@ -194,6 +194,54 @@ unsafe extern "C" {
         rolled: *mut i32,
         rolled_length: usize,
     ) -> bool;
+    pub(crate) fn calendar_column_is_open_day_within(
+        weekend: u8,
+        holidays: *const i32,
+        count: usize,
+        first_year: i32,
+        last_year: i32,
+        dates: *const i32,
+        dates_length: usize,
+        marks: *mut u8,
+        marks_length: usize,
+    ) -> bool;
+    pub(crate) fn calendar_column_add_open_days_within(
+        weekend: u8,
+        holidays: *const i32,
+        count: usize,
+        first_year: i32,
+        last_year: i32,
+        dates: *const i32,
+        dates_length: usize,
+        n: i64,
+        moved: *mut i32,
+        moved_length: usize,
+    ) -> bool;
+    pub(crate) fn calendar_column_open_days_between_within(
+        weekend: u8,
+        holidays: *const i32,
+        count: usize,
+        first_year: i32,
+        last_year: i32,
+        from: *const i32,
+        from_length: usize,
+        to: *const i32,
+        to_length: usize,
+        days: *mut i64,
+        days_length: usize,
+    ) -> bool;
+    pub(crate) fn calendar_column_roll_within(
+        weekend: u8,
+        holidays: *const i32,
+        count: usize,
+        first_year: i32,
+        last_year: i32,
+        dates: *const i32,
+        dates_length: usize,
+        roll: u32,
+        rolled: *mut i32,
+        rolled_length: usize,
+    ) -> bool;
     pub(crate) fn calendar_column_from_date32(
         days: *const i32,
         days_length: usize,
