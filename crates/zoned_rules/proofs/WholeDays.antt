@@ -118,6 +118,18 @@ pub days-none : (test : ℤ → Bool) (a b c : ℤ) (n : ℕ) → n ≡ count_be
 days-none test a b c n is low high none =
     omega (arith, is, count_between-sum test (a +ℤ pos 1) (b +ℤ pos 1) (c +ℤ pos 1) (omega (arith, ints, low)) (omega (arith, ints, high)), count_between-none test (b +ℤ pos 1) (c +ℤ pos 1) (λ d from to. none d (omega (arith, ints, from)) (omega (arith, ints, to))))
 
+-- what one count has more than another lies behind the day up to which that goes
+days-more : (test : ℤ → Bool) (s a b : ℤ) (m n : ℕ) → m ≡ count_between test s (b +ℤ pos 1) → n ≡ count_between test s (a +ℤ pos 1) → s ≤ℤ (a +ℤ pos 1) → a ≤ℤ b → m ≡ n + count_between test (a +ℤ pos 1) (b +ℤ pos 1)
+days-more test s a b m n all before low high =
+    omega (arith, all, before, count_between-sum test s (a +ℤ pos 1) (b +ℤ pos 1) low (omega (arith, ints, high)))
+
+-- the same of a rule, whose parts are seen in two ways
+pub days-more-of : (r q : LocalParts) (s a b : ℤ) (m n : ℕ) → q ≡ r → s ≡ q.start.date → m ≡ count_between (is_instance q.days s) s (b +ℤ pos 1) → n ≡ count_between (is_instance q.days s) s (a +ℤ pos 1) → s ≤ℤ (a +ℤ pos 1) → a ≤ℤ b → m ≡ n + count_between (is_instance r.days r.start.date) (a +ℤ pos 1) (b +ℤ pos 1)
+days-more-of r q s a b m n same start all before low high =
+    subst (λ (p : LocalParts). m ≡ n + count_between (is_instance p.days p.start.date) (a +ℤ pos 1) (b +ℤ pos 1)) same
+    (subst (λ (e : ℤ). m ≡ n + count_between (is_instance q.days e) (a +ℤ pos 1) (b +ℤ pos 1)) start
+    (days-more (is_instance q.days s) s a b m n all before low high))
+
 -- one more, the first behind a day
 pub days-one : (test : ℤ → Bool) (a b c : ℤ) (n : ℕ) → n ≡ count_between test (a +ℤ pos 1) (b +ℤ pos 1) → a ≤ℤ b → b <ℤ c → PassedBetween test b c → test c ≡ true → n + 1 ≡ count_between test (a +ℤ pos 1) (c +ℤ pos 1)
 days-one test a b c n is low high none on =

@@ -18,12 +18,17 @@ use crate::clock_steps::DAY;
 use crate::local_rule::LocalRule;
 use crate::search::days::beginning;
 use crate::zoned_rule::ZonedRule;
-use chrono_datetime::{NaiveDate, NaiveDateTime, Timelike};
+use chrono_datetime::{Datelike, NaiveDate, NaiveDateTime, Timelike};
 use chrono_instant::{FromTimestamp, Timestamp};
 use chrono_zoned::TimeZone;
 
 // The seconds of three days.
 const THREE_DAYS: i64 = 259_200;
+
+// The longest step over days, which no two dates lie twice apart, and one so short that a walk serves as well.
+const LONGEST_STEP: u32 = 134_217_728;
+
+const SHORTEST_STEP: u32 = 1_000;
 
 // Instances that lie behind a second, up to another.
 #[derive(Drop)]
@@ -83,8 +88,9 @@ impl LocalRule {
         ensures value { result.seen ≡ count_between (is_instance self.now.days self.now.start.date) (day +ℤ pos 1) (result.last +ℤ pos 1) }
         ensures few { result.seen ≤ most }
     {
-        let mut last = day;
-        let mut seen = 0;
+        let passed = self.pass_days(day, end, most);
+        let mut last = passed.last;
+        let mut seen = passed.seen;
         while seen < most {
             let Some(next) = self.next_up_to(last, end) else {
                 return CountedDays { seen, last: end };
@@ -93,6 +99,57 @@ impl LocalRule {
             seen += 1;
         }
         CountedDays { seen, last }
+    }
+
+    // Days of the rule of days behind a day and up to another, at most so many, as far as steps of halves come: all but some of the last thousand days.
+    fn pass_days(&self, day: NaiveDate, end: NaiveDate, most: u32) -> CountedDays
+        requires first { IsDate day }
+        requires order { day ≤ℤ end }
+        ensures order { day ≤ℤ result.last }
+        ensures within { result.last ≤ℤ end }
+        ensures value { result.seen ≡ count_between (is_instance self.now.days self.now.start.date) (day +ℤ pos 1) (result.last +ℤ pos 1) }
+        ensures few { result.seen ≤ most }
+    {
+        let mut last = day;
+        let mut seen = 0;
+        let mut step = LONGEST_STEP;
+        while step > SHORTEST_STEP {
+            if let Some(further) = self.count_further(day, last, i64::from(step), end, most) {
+                last = further.last;
+                seen = further.seen;
+            }
+            step /= 2;
+        }
+        CountedDays { seen, last }
+    }
+
+    // The days of the rule of days behind a day and up to so many days later than another one, if they are at most so many and end in time.
+    fn count_further(
+        &self,
+        day: NaiveDate,
+        last: NaiveDate,
+        later: i64,
+        end: NaiveDate,
+        most: u32,
+    ) -> Option<CountedDays>
+        requires first { IsDate day }
+        requires order { day ≤ℤ last }
+        requires later { pos 0 ≤ℤ later }
+        ensures order { IfSome result (λ c. day ≤ℤ c.last) }
+        ensures within { IfSome result (λ c. c.last ≤ℤ end) }
+        ensures value { IfSome result (λ c. c.seen ≡ count_between (is_instance self.now.days self.now.start.date) (day +ℤ pos 1) (c.last +ℤ pos 1)) }
+        ensures few { IfSome result (λ c. c.seen ≤ most) }
+    {
+        let start = self.start.date();
+        let next = last.moved_by_days(later)?;
+        if end < next || day.num_days_from_ce() + 1 < start.num_days_from_ce() {
+            return None;
+        }
+        let seen = self.days.count_to(start, next) - self.days.count_to(start, day);
+        if most < seen {
+            return None;
+        }
+        Some(CountedDays { seen, last: next })
     }
 
     // The first day of the rule of days behind a day and up to another.

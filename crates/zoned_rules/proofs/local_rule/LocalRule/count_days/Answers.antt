@@ -1,17 +1,11 @@
-use Rattle.std.proofs.Common.{pos, ◌+ℤ◌, arith, sym}
+use Rattle.std.proofs.Common.{arith}
 use Rattle.std.proofs.lemmas.Int.{ints}
-use Rattle.chrono_datetime.proofs.CountBetween.{count_between-empty}
 use Rattle.chrono_rules.specs.Instances.{is_instance}
 use Rattle.zoned_rules.proofs.WholeDays.{days-none, days-one}
 use Rattle.zoned_rules.proofs.local_rule.LocalRule.count_days.Goals as goal
 
 pub loop-seen-init : goal.loop-seen-init
-loop-seen-init c = (
-  omega (arith, ints),
-  c.requires.order,
-  omega arith,
-  sym (count_between-empty (is_instance c.args.self.now.days c.args.self.now.start.date) (c.args.day +ℤ pos 1) (c.args.day +ℤ pos 1) (omega (arith, ints))),
-)
+loop-seen-init c = let passed = c.pass_days-passed.ensures in (passed.order, passed.within, passed.few, passed.value)
 
 pub returns-in_default-clause-value : goal.returns-in_default-clause-value
 returns-in_default-clause-value c =
