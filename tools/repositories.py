@@ -1,5 +1,6 @@
 """Crates of this repository in one of their own: copies, small programs over them, and what is proved of them here, taken over."""
 import os
+import re
 import shutil
 import subprocess
 import sys
@@ -8,7 +9,7 @@ from gate import load_rt
 
 TOP = os.path.dirname(os.path.dirname(os.path.abspath(__file__)))
 # The crates that stand outside crates/, so that the gate does not prove them, and the libraries that they use. Benches prove theirs when they
-# run, and checks run theirs unproved.
+# run, and checks run theirs unproved. Their sources end in .rattle here, since `rt ci` stops at each .rt file that it does not prove.
 APART = {
     "benches/timed_chrono": "chrono_text chrono_clock chrono_calendar chrono_stored chrono_datetime chrono_zoned chrono_reading chrono_stamps".split(),
     "benches/timed_business": ["chrono_datetime", "chrono_business"],
@@ -70,7 +71,7 @@ def put_program(room, name, uses, source, kit=()):
 def put_apart(room, path):
     """Puts a crate of APART and all libraries below it into a repository; the crate's folder there."""
     folder = put_libraries(room, os.path.basename(path), APART[path])
-    shutil.copytree(f"{TOP}/{path}", folder)
+    shutil.copytree(f"{TOP}/{path}", folder, copy_function=lambda of, to: shutil.copy2(of, re.sub(r"\.rattle$", ".rt", to)))
     return folder
 
 

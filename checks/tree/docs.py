@@ -140,7 +140,7 @@ def is_made(path):
 
 
 def kind_of(path):
-    return os.path.splitext(path)[1]
+    return os.path.splitext(path)[1].replace(".rattle", ".rt")
 
 
 def without_comments(path, text):
@@ -450,11 +450,11 @@ def length(tree, path, array):
 
 
 def kinds_of_error(tree):
-    return length(tree, "checks/programs/tests_caltool/src/hostile.rt", "KINDS")
+    return length(tree, "checks/programs/tests_caltool/src/hostile.rattle", "KINDS")
 
 
 def fractions_and_moves(tree):
-    return tuple(length(tree, "checks/rows/tests_chrono/src/naive_time/every_second.rt", it) for it in ("FRACTIONS", "MOVES"))
+    return tuple(length(tree, "checks/rows/tests_chrono/src/naive_time/every_second.rattle", it) for it in ("FRACTIONS", "MOVES"))
 
 
 def lines_of_fuzz(tree):
