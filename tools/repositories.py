@@ -9,7 +9,8 @@ from gate import load_rt
 
 TOP = os.path.dirname(os.path.dirname(os.path.abspath(__file__)))
 # The crates that stand outside crates/, so that the gate does not prove them, and the libraries that they use. Benches prove theirs when they
-# run, and checks run theirs unproved. Their sources end in .rattle here, since `rt ci` stops at each .rt file that it does not prove.
+# run, and checks run theirs unproved. Here their files end as ENDINGS says, since `rt ci` stops at each .rt and
+# .antt file that it does not prove.
 APART = {
     "benches/timed_chrono": "chrono_text chrono_clock chrono_calendar chrono_stored chrono_datetime chrono_zoned chrono_reading chrono_stamps".split(),
     "benches/timed_business": ["chrono_datetime", "chrono_business"],
@@ -18,6 +19,7 @@ APART = {
     "chrono_uses".split(),
     "checks/programs/tests_caltool": "chrono_calendar chrono_stored caltool_dates chrono_uses".split(),
 }
+ENDINGS = {".rattle": ".rt", ".proof": ".antt"}
 
 
 def listed_crates():
@@ -71,7 +73,7 @@ def put_program(room, name, uses, source, kit=()):
 def put_apart(room, path):
     """Puts a crate of APART and all libraries below it into a repository; the crate's folder there."""
     folder = put_libraries(room, os.path.basename(path), APART[path])
-    shutil.copytree(f"{TOP}/{path}", folder, copy_function=lambda of, to: shutil.copy2(of, re.sub(r"\.rattle$", ".rt", to)))
+    shutil.copytree(f"{TOP}/{path}", folder, copy_function=lambda of, to: shutil.copy2(of, re.sub(r"\.(?:rattle|proof)$", lambda it: ENDINGS[it[0]], to)))
     return folder
 
 

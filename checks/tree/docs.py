@@ -140,7 +140,7 @@ def is_made(path):
 
 
 def kind_of(path):
-    return os.path.splitext(path)[1].replace(".rattle", ".rt")
+    return os.path.splitext(path)[1].replace(".rattle", ".rt").replace(".proof", ".antt")
 
 
 def without_comments(path, text):
@@ -561,7 +561,7 @@ PLANTED = [
     (files, README, "(docs/reference/README.md)", "(docs/reference/READER.md)"),
     (files, README, "(docs/reference/README.md)", "(docs/reference/README.md#chrono_days)"),
     (files, README, "(cd crates/dates && rt try", "(cd crates/date && rt try"),
-    (files, CONTRIBUTING, "checks/rows/tests.py", "checks/test.py"),
+    (files, CONTRIBUTING, "`tools/repositories.py`", "`tools/repository.py`"),
     (names, CALLING, "`Datelike::num_days_from_ce`", "`Datelike::num_days_from_bce`"),
     (names, CALLING, "`Datelike::num_days_from_ce`", "`Timelike::num_days_from_ce`"),
     (names, CHRONO, "`chrono_units::year`", "`chrono_units::years`"),
