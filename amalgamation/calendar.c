@@ -1,9 +1,9 @@
 /*
- * calendar.c: the functions of calendar.h 0.1.0, for any compiler of C99 on a little-endian machine of 64 bits.
+ * calendar.c: the functions of calendar.h 0.2.0-dev, for any compiler of C99 on a little-endian machine of 64 bits.
  *
  * tools/dist made this file from the module of the crate calendar_c, whose functions are proved to meet their contracts. Nothing proves
  * the translation: it is tested, as docs/trust.md says. Do not edit it. The sources have this sum by SHA-256:
- * 1bdb58c4d5f7a7471959262a732cc6dd56c66459c1afdeafa7cd30af9ba334af
+ * e081e8ed58e8532f5a7d6a7bd720bb7ae41b656a4b6e4c5c5996d46e271a58b8
  *
  * SPDX-License-Identifier: MIT OR Apache-2.0
  */
@@ -40,6 +40,14 @@ static unsigned LEADING(uint64_t x) { unsigned n = 0; while (!(x >> 63)) { x <<=
 static unsigned TRAILING(uint64_t x) { unsigned n = 0; while (!(x & 1)) { x >>= 1; n++; } return n; }
 static unsigned ONES(uint64_t x) { unsigned n = 0; for (; x; x &= x - 1) n++; return n; }
 #endif
+
+/* The lesser and the greater of two numbers with their sign. In columns, gcc finds the vector instructions of this form alone. */
+#define ENDS(bits) \
+    MAYBE_UNUSED static inline int##bits##_t LESSER##bits(int##bits##_t a, int##bits##_t b) { return a < b ? a : b; } \
+    MAYBE_UNUSED static inline int##bits##_t GREATER##bits(int##bits##_t a, int##bits##_t b) { return a > b ? a : b; }
+ENDS(32)
+ENDS(64)
+#undef ENDS
 
 /* Numbers of 128 bits: by the compiler's own, or by two words. */
 #if defined(__SIZEOF_INT128__) && !defined(CALENDAR_TWO_WORDS)
@@ -168,7 +176,7 @@ static const t_array2_i8_end static_14 = { { 80, 48 } };
 static const t_array3_i8_end static_15 = { { 80, 48, 68 } };
 static const t_array3_i8_end static_20 = { { 45, 80, 84 } };
 static const t_array2_i8_end static_21 = { { 80, 84 } };
-static const t_array5_i8_end static_22 = { { 48, 46, 49, 46, 48 } };
+static const t_array9_i8_end static_22 = { { 48, 46, 50, 46, 48, 45, 100, 101, 118 } };
 
 static uint32_t in_calendar_add_days(uint32_t a0, uint64_t a1);
 static uint32_t in_calendar_add_months(uint32_t a0, uint64_t a1);
@@ -386,8 +394,8 @@ static uint8_t in_calendar_column_add_days(bytes a0, uint64_t a1, uint32_t a2, b
     at__common_ret:;
     return r16_not;
     at__join_5_lr_ph:;
-    v0 = (int32_t)a2 > (int32_t)4103475767u ? a2 : 4103475767u;
-    common_ret_op = (int32_t)v0 < (int32_t)191491529u ? v0 : 191491529u;
+    v0 = (uint32_t)GREATER32((int32_t)a2, (int32_t)4103475767u);
+    common_ret_op = (uint32_t)LESSER32((int32_t)v0, (int32_t)191491529u);
     {
     r4_05 = UINT64_C(0);
     goto at__join_5;
@@ -396,8 +404,8 @@ static uint8_t in_calendar_column_add_days(bytes a0, uint64_t a1, uint32_t a2, b
     r22 = (uint64_t)(r4_05 << (UINT64_C(2) & 63u));
     r25 = (a0 + (int64_t)r22);
     LOAD(uint32_t, r27, r25);
-    a0_a1 = (int32_t)r27 > (int32_t)4199221167u ? r27 : 4199221167u;
-    a1_a0 = (int32_t)a0_a1 < (int32_t)95745399u ? a0_a1 : 95745399u;
+    a0_a1 = (uint32_t)GREATER32((int32_t)r27, (int32_t)4199221167u);
+    a1_a0 = (uint32_t)LESSER32((int32_t)a0_a1, (int32_t)95745399u);
     r12 = (uint32_t)(a1_a0 + common_ret_op);
     v1 = (uint32_t)(r27 + 95746129u);
     r4 = v1 < 191491529u;
@@ -434,10 +442,10 @@ static uint8_t in_calendar_column_add_days_each(bytes a0, uint64_t a1, bytes a2,
     LOAD(uint32_t, r32, r30);
     r37 = (a2 + (int64_t)r27);
     LOAD(uint32_t, r39, r37);
-    a0_a1 = (int32_t)r32 > (int32_t)4199221167u ? r32 : 4199221167u;
-    a1_a0 = (int32_t)a0_a1 < (int32_t)95745399u ? a0_a1 : 95745399u;
-    v0 = (int32_t)r39 > (int32_t)4103475767u ? r39 : 4103475767u;
-    common_ret_op = (int32_t)v0 < (int32_t)191491529u ? v0 : 191491529u;
+    a0_a1 = (uint32_t)GREATER32((int32_t)r32, (int32_t)4199221167u);
+    a1_a0 = (uint32_t)LESSER32((int32_t)a0_a1, (int32_t)95745399u);
+    v0 = (uint32_t)GREATER32((int32_t)r39, (int32_t)4103475767u);
+    common_ret_op = (uint32_t)LESSER32((int32_t)v0, (int32_t)191491529u);
     r12 = (uint32_t)(common_ret_op + a1_a0);
     v1 = (uint32_t)(r32 + 95746129u);
     r4 = v1 < 191491529u;
@@ -472,10 +480,10 @@ static uint8_t in_calendar_column_add_days_each_in_place(bytes a0, uint64_t a1, 
     LOAD(uint32_t, r30, r28);
     r35 = (a2 + (int64_t)r25);
     LOAD(uint32_t, r37, r35);
-    a0_a1 = (int32_t)r30 > (int32_t)4199221167u ? r30 : 4199221167u;
-    a1_a0 = (int32_t)a0_a1 < (int32_t)95745399u ? a0_a1 : 95745399u;
-    v0 = (int32_t)r37 > (int32_t)4103475767u ? r37 : 4103475767u;
-    common_ret_op = (int32_t)v0 < (int32_t)191491529u ? v0 : 191491529u;
+    a0_a1 = (uint32_t)GREATER32((int32_t)r30, (int32_t)4199221167u);
+    a1_a0 = (uint32_t)LESSER32((int32_t)a0_a1, (int32_t)95745399u);
+    v0 = (uint32_t)GREATER32((int32_t)r37, (int32_t)4103475767u);
+    common_ret_op = (uint32_t)LESSER32((int32_t)v0, (int32_t)191491529u);
     r12 = (uint32_t)(common_ret_op + a1_a0);
     v1 = (uint32_t)(r30 + 95746129u);
     r4 = v1 < 191491529u;
@@ -500,8 +508,8 @@ static void in_calendar_column_add_days_in_place(bytes a0, uint64_t a1, uint32_t
     if (r154_not) { goto at__chrono_columns_moves_add_days_in_place_exit; }
     goto at__join_5_lr_ph;
     at__join_5_lr_ph:;
-    v0 = (int32_t)a2 > (int32_t)4103475767u ? a2 : 4103475767u;
-    common_ret_op = (int32_t)v0 < (int32_t)191491529u ? v0 : 191491529u;
+    v0 = (uint32_t)GREATER32((int32_t)a2, (int32_t)4103475767u);
+    common_ret_op = (uint32_t)LESSER32((int32_t)v0, (int32_t)191491529u);
     {
     r2_05 = UINT64_C(0);
     goto at__join_5;
@@ -510,8 +518,8 @@ static void in_calendar_column_add_days_in_place(bytes a0, uint64_t a1, uint32_t
     r20 = (uint64_t)(r2_05 << (UINT64_C(2) & 63u));
     r23 = (a0 + (int64_t)r20);
     LOAD(uint32_t, r25, r23);
-    a0_a1 = (int32_t)r25 > (int32_t)4199221167u ? r25 : 4199221167u;
-    a1_a0 = (int32_t)a0_a1 < (int32_t)95745399u ? a0_a1 : 95745399u;
+    a0_a1 = (uint32_t)GREATER32((int32_t)r25, (int32_t)4199221167u);
+    a1_a0 = (uint32_t)LESSER32((int32_t)a0_a1, (int32_t)95745399u);
     r12 = (uint32_t)(a1_a0 + common_ret_op);
     v1 = (uint32_t)(r25 + 95746129u);
     r4 = v1 < 191491529u;
@@ -543,8 +551,8 @@ static uint8_t in_calendar_column_add_months(bytes a0, uint64_t a1, uint32_t a2,
     at__common_ret:;
     return r16_not;
     at__join_5_lr_ph:;
-    v0 = (int32_t)a2 > (int32_t)4287967296u ? a2 : 4287967296u;
-    common_ret_op = (int32_t)v0 < (int32_t)7000000u ? v0 : 7000000u;
+    v0 = (uint32_t)GREATER32((int32_t)a2, (int32_t)4287967296u);
+    common_ret_op = (uint32_t)LESSER32((int32_t)v0, (int32_t)7000000u);
     r34 = (uint32_t)(common_ret_op + 4294967293u);
     {
     r4_05 = UINT64_C(0);
@@ -554,8 +562,8 @@ static uint8_t in_calendar_column_add_months(bytes a0, uint64_t a1, uint32_t a2,
     r22 = (uint64_t)(r4_05 << (UINT64_C(2) & 63u));
     r25 = (a0 + (int64_t)r22);
     LOAD(uint32_t, r27, r25);
-    a0_a1 = (int32_t)r27 > (int32_t)4199221167u ? r27 : 4199221167u;
-    a1_a0 = (int32_t)a0_a1 < (int32_t)95745399u ? a0_a1 : 95745399u;
+    a0_a1 = (uint32_t)GREATER32((int32_t)r27, (int32_t)4199221167u);
+    a1_a0 = (uint32_t)LESSER32((int32_t)a0_a1, (int32_t)95745399u);
     r13 = (uint32_t)(a1_a0 << 2);
     r8 = (uint32_t)(r13 + 383359751u);
     r10 = (uint32_t)(r8 / 146097u);
@@ -579,7 +587,7 @@ static uint8_t in_calendar_column_add_months(bytes a0, uint64_t a1, uint32_t a2,
     r31 = (uint32_t)(r10_i7 * 12u);
     r36 = (uint32_t)(r34 + r31);
     r24 = (uint32_t)(r36 + r103);
-    v1 = (int32_t)r24 > (int32_t)3082u ? r24 : 3082u;
+    v1 = (uint32_t)GREATER32((int32_t)r24, (int32_t)3082u);
     common_ret_op_i3 = v1 < 6294513u ? v1 : 6294513u;
     r14 = (uint32_t)(common_ret_op_i3 / 12u);
     r14_2 = (uint32_t)(common_ret_op_i3 / 1200u);
@@ -631,8 +639,8 @@ static void in_calendar_column_add_months_in_place(bytes a0, uint64_t a1, uint32
     if (r154_not) { goto at__chrono_columns_moves_add_months_in_place_exit; }
     goto at__join_5_lr_ph;
     at__join_5_lr_ph:;
-    v0 = (int32_t)a2 > (int32_t)4287967296u ? a2 : 4287967296u;
-    common_ret_op = (int32_t)v0 < (int32_t)7000000u ? v0 : 7000000u;
+    v0 = (uint32_t)GREATER32((int32_t)a2, (int32_t)4287967296u);
+    common_ret_op = (uint32_t)LESSER32((int32_t)v0, (int32_t)7000000u);
     r34 = (uint32_t)(common_ret_op + 4294967293u);
     {
     r2_05 = UINT64_C(0);
@@ -642,8 +650,8 @@ static void in_calendar_column_add_months_in_place(bytes a0, uint64_t a1, uint32
     r20 = (uint64_t)(r2_05 << (UINT64_C(2) & 63u));
     r23 = (a0 + (int64_t)r20);
     LOAD(uint32_t, r25, r23);
-    a0_a1 = (int32_t)r25 > (int32_t)4199221167u ? r25 : 4199221167u;
-    a1_a0 = (int32_t)a0_a1 < (int32_t)95745399u ? a0_a1 : 95745399u;
+    a0_a1 = (uint32_t)GREATER32((int32_t)r25, (int32_t)4199221167u);
+    a1_a0 = (uint32_t)LESSER32((int32_t)a0_a1, (int32_t)95745399u);
     r13 = (uint32_t)(a1_a0 << 2);
     r8 = (uint32_t)(r13 + 383359751u);
     r10 = (uint32_t)(r8 / 146097u);
@@ -667,7 +675,7 @@ static void in_calendar_column_add_months_in_place(bytes a0, uint64_t a1, uint32
     r31 = (uint32_t)(r10_i7 * 12u);
     r36_2 = (uint32_t)(r34 + r31);
     r24 = (uint32_t)(r36_2 + r103);
-    v1 = (int32_t)r24 > (int32_t)3082u ? r24 : 3082u;
+    v1 = (uint32_t)GREATER32((int32_t)r24, (int32_t)3082u);
     common_ret_op_i3 = v1 < 6294513u ? v1 : 6294513u;
     r14 = (uint32_t)(common_ret_op_i3 / 12u);
     r14_2 = (uint32_t)(common_ret_op_i3 / 1200u);
@@ -755,10 +763,10 @@ static uint8_t in_calendar_column_days_between(bytes a0, uint64_t a1, bytes a2, 
     LOAD(uint32_t, r32, r30);
     r37 = (a2 + (int64_t)r27);
     LOAD(uint32_t, r39, r37);
-    a0_a1 = (int32_t)r32 > (int32_t)4199221167u ? r32 : 4199221167u;
-    a1_a0 = (int32_t)a0_a1 < (int32_t)95745399u ? a0_a1 : 95745399u;
-    a0_a1_i_i1 = (int32_t)r39 > (int32_t)4199221167u ? r39 : 4199221167u;
-    a1_a0_i_i2 = (int32_t)a0_a1_i_i1 < (int32_t)95745399u ? a0_a1_i_i1 : 95745399u;
+    a0_a1 = (uint32_t)GREATER32((int32_t)r32, (int32_t)4199221167u);
+    a1_a0 = (uint32_t)LESSER32((int32_t)a0_a1, (int32_t)95745399u);
+    a0_a1_i_i1 = (uint32_t)GREATER32((int32_t)r39, (int32_t)4199221167u);
+    a1_a0_i_i2 = (uint32_t)LESSER32((int32_t)a0_a1_i_i1, (int32_t)95745399u);
     v0 = (uint32_t)(r32 + 95746129u);
     r4 = v0 < 191491529u;
     v1 = (uint32_t)(r39 + 95746129u);
@@ -886,8 +894,8 @@ static uint8_t in_calendar_column_iso_weeks(bytes a0, uint64_t a1, bytes a2, uin
     r25 = (uint64_t)(r6_028 << (UINT64_C(2) & 63u));
     r28 = (a0 + (int64_t)r25);
     LOAD(uint32_t, r30, r28);
-    a0_a1 = (int32_t)r30 > (int32_t)4199221167u ? r30 : 4199221167u;
-    a1_a0 = (int32_t)a0_a1 < (int32_t)95745399u ? a0_a1 : 95745399u;
+    a0_a1 = (uint32_t)GREATER32((int32_t)r30, (int32_t)4199221167u);
+    a1_a0 = (uint32_t)LESSER32((int32_t)a0_a1, (int32_t)95745399u);
     r5 = (uint32_t)(a1_a0 + 95839631u);
     r4 = (uint64_t)r5;
     r6 = (uint64_t)(r4 * UINT64_C(613566757));
@@ -951,8 +959,8 @@ static uint8_t in_calendar_column_join(bytes a0, uint64_t a1, bytes a2, uint64_t
     LOAD(uint8_t, r40, r38);
     r43 = (a4 + (int64_t)r8_07);
     LOAD(uint8_t, r45, r43);
-    a0_a1 = (int32_t)r35 > (int32_t)4294705153u ? r35 : 4294705153u;
-    a1_a0 = (int32_t)a0_a1 < (int32_t)262142u ? a0_a1 : 262142u;
+    a0_a1 = (uint32_t)GREATER32((int32_t)r35, (int32_t)4294705153u);
+    a1_a0 = (uint32_t)LESSER32((int32_t)a0_a1, (int32_t)262142u);
     v0 = r40 > 1 ? r40 : 1;
     v1 = v0 < 12u ? v0 : 12u;
     r18 = r40 == 2;
@@ -1037,8 +1045,8 @@ static uint8_t in_calendar_column_ordinals(bytes a0, uint64_t a1, bytes a2, uint
     r22 = (uint64_t)(r4_05 << (UINT64_C(2) & 63u));
     r25 = (a0 + (int64_t)r22);
     LOAD(uint32_t, r27, r25);
-    a0_a1 = (int32_t)r27 > (int32_t)4199221167u ? r27 : 4199221167u;
-    a1_a0 = (int32_t)a0_a1 < (int32_t)95745399u ? a0_a1 : 95745399u;
+    a0_a1 = (uint32_t)GREATER32((int32_t)r27, (int32_t)4199221167u);
+    a1_a0 = (uint32_t)LESSER32((int32_t)a0_a1, (int32_t)95745399u);
     r5 = (uint32_t)(a1_a0 << 2);
     r8 = (uint32_t)(r5 + 383358527u);
     r10 = (uint32_t)(r8 / 146097u);
@@ -1227,8 +1235,8 @@ static uint8_t in_calendar_column_split(bytes a0, uint64_t a1, bytes a2, uint64_
     r30 = (uint64_t)(r8_08 << (UINT64_C(2) & 63u));
     r33 = (a0 + (int64_t)r30);
     LOAD(uint32_t, r35, r33);
-    a0_a1 = (int32_t)r35 > (int32_t)4199221167u ? r35 : 4199221167u;
-    a1_a0 = (int32_t)a0_a1 < (int32_t)95745399u ? a0_a1 : 95745399u;
+    a0_a1 = (uint32_t)GREATER32((int32_t)r35, (int32_t)4199221167u);
+    a1_a0 = (uint32_t)LESSER32((int32_t)a0_a1, (int32_t)95745399u);
     r17 = (uint32_t)(a1_a0 << 2);
     r8 = (uint32_t)(r17 + 383359751u);
     r10 = (uint32_t)(r8 / 146097u);
@@ -1289,8 +1297,8 @@ static uint8_t in_calendar_column_to_unix_days(bytes a0, uint64_t a1, bytes a2, 
     r22 = (uint64_t)(r4_05 << (UINT64_C(2) & 63u));
     r25 = (a0 + (int64_t)r22);
     LOAD(uint32_t, r27, r25);
-    a0_a1 = (int32_t)r27 > (int32_t)4199221167u ? r27 : 4199221167u;
-    a1_a0 = (int32_t)a0_a1 < (int32_t)95745399u ? a0_a1 : 95745399u;
+    a0_a1 = (uint32_t)GREATER32((int32_t)r27, (int32_t)4199221167u);
+    a1_a0 = (uint32_t)LESSER32((int32_t)a0_a1, (int32_t)95745399u);
     r8 = (uint32_t)(a1_a0 + 4294248133u);
     r1 = (uint64_t)((uint64_t)(int32_t)r8);
     v0 = (uint32_t)(r27 + 95746129u);
@@ -1322,8 +1330,8 @@ static uint8_t in_calendar_column_weekdays(bytes a0, uint64_t a1, bytes a2, uint
     r21 = (uint64_t)(r4_05 << (UINT64_C(2) & 63u));
     r24 = (a0 + (int64_t)r21);
     LOAD(uint32_t, r26, r24);
-    a0_a1 = (int32_t)r26 > (int32_t)4199221167u ? r26 : 4199221167u;
-    a1_a0 = (int32_t)a0_a1 < (int32_t)95745399u ? a0_a1 : 95745399u;
+    a0_a1 = (uint32_t)GREATER32((int32_t)r26, (int32_t)4199221167u);
+    a1_a0 = (uint32_t)LESSER32((int32_t)a0_a1, (int32_t)95745399u);
     r5 = (uint32_t)(a1_a0 + 95839631u);
     r4 = (uint64_t)r5;
     r6 = (uint64_t)(r4 * UINT64_C(613566757));
@@ -1380,8 +1388,8 @@ static uint8_t in_calendar_column_write_dates(bytes a0, uint64_t a1, bytes a2, u
     r30 = (uint64_t)(r8_08 << (UINT64_C(2) & 63u));
     r33 = (r39 + (int64_t)r30);
     LOAD(uint32_t, r35, r33);
-    a0_a1 = (int32_t)r35 > (int32_t)4199221167u ? r35 : 4199221167u;
-    a1_a0_2 = (int32_t)a0_a1 < (int32_t)95745399u ? a0_a1 : 95745399u;
+    a0_a1 = (uint32_t)GREATER32((int32_t)r35, (int32_t)4199221167u);
+    a1_a0_2 = (uint32_t)LESSER32((int32_t)a0_a1, (int32_t)95745399u);
     r17 = (uint32_t)(a1_a0_2 << 2);
     r8 = (uint32_t)(r17 + 383359751u);
     r10 = (uint32_t)(r8 / 146097u);
@@ -1438,7 +1446,7 @@ static uint8_t in_calendar_column_write_dates(bytes a0, uint64_t a1, bytes a2, u
     LOAD(uint8_t, r40, r38);
     r43 = (r7 + (int64_t)r8_07);
     LOAD(uint8_t, r45, r43);
-    a0_a1_i_i_i_i11 = (int32_t)r35_i10 > (int32_t)0 ? r35_i10 : 0;
+    a0_a1_i_i_i_i11 = (uint32_t)GREATER32((int32_t)r35_i10, (int32_t)0);
     v2 = a0_a1_i_i_i_i11 < 9999u ? a0_a1_i_i_i_i11 : 9999u;
     r1 = (uint64_t)r40;
     r1_i1 = (uint64_t)r45;
@@ -1533,8 +1541,8 @@ static uint8_t in_calendar_column_years(bytes a0, uint64_t a1, bytes a2, uint64_
     r22 = (uint64_t)(r4_05 << (UINT64_C(2) & 63u));
     r25 = (a0 + (int64_t)r22);
     LOAD(uint32_t, r27, r25);
-    a0_a1 = (int32_t)r27 > (int32_t)4199221167u ? r27 : 4199221167u;
-    a1_a0 = (int32_t)a0_a1 < (int32_t)95745399u ? a0_a1 : 95745399u;
+    a0_a1 = (uint32_t)GREATER32((int32_t)r27, (int32_t)4199221167u);
+    a1_a0 = (uint32_t)LESSER32((int32_t)a0_a1, (int32_t)95745399u);
     r5 = (uint32_t)(a1_a0 << 2);
     r8 = (uint32_t)(r5 + 383358527u);
     r10 = (uint32_t)(r8 / 146097u);
@@ -6530,19 +6538,19 @@ static uint32_t in_calendar_version(bytes a0, uint64_t a1)
     uint32_t common_ret_op;
     uint8_t r16, r11, r26, exitcond_not;
     bytes r20, r24;
-    r16 = a1 < UINT64_C(5);
+    r16 = a1 < UINT64_C(9);
     if (r16) { { common_ret_op = 2147483648u; goto at__numbers_c_version_write_version_exit; } }
     goto at__join_3;
     at__join_3:;
     r8 = (uint64_t)((uintptr_t)a0);
     r10 = (uint64_t)(r8 - (uint64_t)(uintptr_t)((bytes)&static_22));
-    r11 = r10 < UINT64_C(5);
+    r11 = r10 < UINT64_C(9);
     if (r11) { { r0_04 = UINT64_C(0); goto at__join_7; } }
     goto at__apart_2;
     at__apart_2:;
-    memcpy(a0, (bytes)&static_22, UINT64_C(5));
+    memcpy(a0, (bytes)&static_22, UINT64_C(9));
     {
-    common_ret_op = 5;
+    common_ret_op = 9;
     goto at__numbers_c_version_write_version_exit;
     }
     at__join_7:;
@@ -6551,8 +6559,8 @@ static uint32_t in_calendar_version(bytes a0, uint64_t a1)
     LOAD(uint8_t, r26, r24);
     STORE(uint8_t, r20, r26);
     r30 = (uint64_t)(r0_04 + UINT64_C(1));
-    exitcond_not = r30 == UINT64_C(5);
-    if (exitcond_not) { { common_ret_op = 5; goto at__numbers_c_version_write_version_exit; } }
+    exitcond_not = r30 == UINT64_C(9);
+    if (exitcond_not) { { common_ret_op = 9; goto at__numbers_c_version_write_version_exit; } }
     { r0_04 = r30; goto at__join_7; }
     at__numbers_c_version_write_version_exit:;
     return common_ret_op;
@@ -7759,7 +7767,7 @@ static uint32_t in_calendar_years_since(uint32_t a0, uint32_t a1)
     neg = (uint32_t)(r10_sroa_0_0 + r10_sroa_0_0_v_i_i24_neg1);
     r50 = (uint32_t)(neg + r1_i_neg3);
     r52 = (int32_t)r50 > (int32_t)4294967295u;
-    r50_2 = (int32_t)r50 > (int32_t)0 ? r50 : 0;
+    r50_2 = (uint32_t)GREATER32((int32_t)r50, (int32_t)0);
     r8_0 = r52 ? r50_2 : 2147483648u;
     {
     common_ret_op = r8_0;

@@ -31,7 +31,7 @@ extern "C" {
 #endif
 
 /* The version of this header and of the library that comes with it. */
-#define CALENDAR_VERSION "0.1.0"
+#define CALENDAR_VERSION "0.2.0-dev"
 
 /* Returned if a date, a field or a length does not exist. */
 #define CALENDAR_NONE INT32_MIN
@@ -71,7 +71,7 @@ typedef struct {
 
 /* ---- the version */
 
-/* Writes CALENDAR_VERSION, such as 0.1.0, over the first bytes and returns their number. Returns CALENDAR_NONE if room is too small.
+/* Writes CALENDAR_VERSION, such as 0.2.0-dev, over the first bytes and returns their number. Returns CALENDAR_NONE if room is too small.
  * The version is the library's. So a program can compare it with its header. */
 int32_t calendar_version(uint8_t *text, size_t room);
 

@@ -1,9 +1,9 @@
 /*
- * calendar_layers.c: the functions of calendar_layers.h 0.1.0, for any compiler of C99 on a little-endian machine of 64 bits.
+ * calendar_layers.c: the functions of calendar_layers.h 0.2.0-dev, for any compiler of C99 on a little-endian machine of 64 bits.
  *
  * tools/dist made this file from the module of the crate layers_c, whose functions are proved to meet their contracts. Nothing proves
  * the translation: it is tested, as docs/trust.md says. Do not edit it. The sources have this sum by SHA-256:
- * 41ddbf042dac6136903e111133bf31d3f5b682b66f5be0d83f9fc8a01a5299c1
+ * 35a8c04b815fd9e21375862c7ca6fab20355eb3e114760244d8667fa160c2a74
  *
  * SPDX-License-Identifier: MIT OR Apache-2.0
  */
@@ -40,6 +40,14 @@ static unsigned LEADING(uint64_t x) { unsigned n = 0; while (!(x >> 63)) { x <<=
 static unsigned TRAILING(uint64_t x) { unsigned n = 0; while (!(x & 1)) { x >>= 1; n++; } return n; }
 static unsigned ONES(uint64_t x) { unsigned n = 0; for (; x; x &= x - 1) n++; return n; }
 #endif
+
+/* The lesser and the greater of two numbers with their sign. In columns, gcc finds the vector instructions of this form alone. */
+#define ENDS(bits) \
+    MAYBE_UNUSED static inline int##bits##_t LESSER##bits(int##bits##_t a, int##bits##_t b) { return a < b ? a : b; } \
+    MAYBE_UNUSED static inline int##bits##_t GREATER##bits(int##bits##_t a, int##bits##_t b) { return a > b ? a : b; }
+ENDS(32)
+ENDS(64)
+#undef ENDS
 
 /* Numbers of 128 bits: by the compiler's own, or by two words. */
 #if defined(__SIZEOF_INT128__) && !defined(CALENDAR_TWO_WORDS)
@@ -256,7 +264,7 @@ static const t_array2_i8_end static_32 = { { 65, 77 } };
 static const t_array2_i8_end static_33 = { { 80, 77 } };
 static const t_array2_i8_end static_34 = { { 97, 109 } };
 static const t_array2_i8_end static_35 = { { 112, 109 } };
-static const t_array5_i8_end static_36 = { { 48, 46, 49, 46, 48 } };
+static const t_array9_i8_end static_36 = { { 48, 46, 50, 46, 48, 45, 100, 101, 118 } };
 static const t_array2_i8_end static_39 = { { 76, 45 } };
 static const t_array2_i8_end static_52 = { { 76, 87 } };
 static const t_array7_i8_end static_54 = { { 64, 121, 101, 97, 114, 108, 121 } };
@@ -431,43 +439,43 @@ static const t_array8_i8_end static_225 = { { 77, 73, 78, 85, 84, 69, 76, 89 } }
 static const t_array8_i8_end static_226 = { { 83, 69, 67, 79, 78, 68, 76, 89 } };
 static const t_array11_i8_end static_227 = { { 70, 82, 69, 81, 61, 89, 69, 65, 82, 76, 89 } };
 static const t_array5_i32_end switch_table_chrono_cron_text_first_error_fault_in = { { 0, 0, 1, 1, 0 } };
-static const t_array5_i32_end switch_table_chrono_cron_text_first_error_fault_in_279 = { { 59u, 23u, 31u, 12u, 7 } };
+static const t_array5_i32_end switch_table_chrono_cron_text_first_error_fault_in_278 = { { 59u, 23u, 31u, 12u, 7 } };
 static const t_array11_i64_end switch_table_chrono_rules_text_first_error_fault_of = { { UINT64_C(5), UINT64_C(9), UINT64_C(6), UINT64_C(6), UINT64_C(8), UINT64_C(11), UINT64_C(6), UINT64_C(10), UINT64_C(9), UINT64_C(9), UINT64_C(5) } };
 static const t_array21_i64_end switch_table_chrono_pattern_reader_read_front = { { UINT64_C(4), UINT64_C(2), UINT64_C(2), UINT64_C(1), UINT64_C(2), UINT64_C(2), UINT64_C(2), UINT64_C(3), UINT64_C(1), UINT64_C(1), UINT64_C(4), UINT64_C(2), UINT64_C(2), UINT64_C(2), UINT64_C(2), UINT64_C(2), UINT64_C(2), UINT64_C(2), UINT64_C(2), UINT64_C(2), UINT64_C(2) } };
-static const t_array12_i64_end switch_table_chrono_pattern_reader_read_front_281 = { { UINT64_C(7), UINT64_C(8), UINT64_C(5), UINT64_C(5), UINT64_C(3), UINT64_C(4), UINT64_C(4), UINT64_C(6), UINT64_C(9), UINT64_C(7), UINT64_C(8), UINT64_C(8) } };
-static const t_array7_i64_end switch_table_chrono_pattern_reader_read_front_283 = { { UINT64_C(6), UINT64_C(7), UINT64_C(9), UINT64_C(8), UINT64_C(6), UINT64_C(8), UINT64_C(6) } };
+static const t_array12_i64_end switch_table_chrono_pattern_reader_read_front_280 = { { UINT64_C(7), UINT64_C(8), UINT64_C(5), UINT64_C(5), UINT64_C(3), UINT64_C(4), UINT64_C(4), UINT64_C(6), UINT64_C(9), UINT64_C(7), UINT64_C(8), UINT64_C(8) } };
+static const t_array7_i64_end switch_table_chrono_pattern_reader_read_front_282 = { { UINT64_C(6), UINT64_C(7), UINT64_C(9), UINT64_C(8), UINT64_C(6), UINT64_C(8), UINT64_C(6) } };
 static const t_array11_i64_end switch_table_chrono_pattern_number_reader_read_any_number = { { UINT64_C(4), UINT64_C(2), UINT64_C(2), UINT64_C(1), UINT64_C(2), UINT64_C(2), UINT64_C(2), UINT64_C(3), UINT64_C(1), UINT64_C(1), UINT64_C(4) } };
-static const t_array21_i64_end switch_table_chrono_pattern_number_reader_read_any_number_285 = { { UINT64_C(2), UINT64_C(2), UINT64_C(1), UINT64_C(2), UINT64_C(2), UINT64_C(2), UINT64_C(3), UINT64_C(1), UINT64_C(1), UINT64_C(4), UINT64_C(2), UINT64_C(2), UINT64_C(2), UINT64_C(2), UINT64_C(2), UINT64_C(2), UINT64_C(2), UINT64_C(2), UINT64_C(2), UINT64_C(2), UINT64_C(9) } };
+static const t_array21_i64_end switch_table_chrono_pattern_number_reader_read_any_number_284 = { { UINT64_C(2), UINT64_C(2), UINT64_C(1), UINT64_C(2), UINT64_C(2), UINT64_C(2), UINT64_C(3), UINT64_C(1), UINT64_C(1), UINT64_C(4), UINT64_C(2), UINT64_C(2), UINT64_C(2), UINT64_C(2), UINT64_C(2), UINT64_C(2), UINT64_C(2), UINT64_C(2), UINT64_C(2), UINT64_C(2), UINT64_C(9) } };
 static const t_array17_i64_end switch_table_in_calendar_zone_fault_text = { { UINT64_C(37), UINT64_C(26), UINT64_C(19), UINT64_C(34), UINT64_C(28), UINT64_C(19), UINT64_C(36), UINT64_C(25), UINT64_C(18), UINT64_C(42), UINT64_C(20), UINT64_C(27), UINT64_C(37), UINT64_C(45), UINT64_C(39), UINT64_C(41), UINT64_C(39) } };
-static const t_array13_i64_end switch_table_in_calendar_text_fault_text_287 = { { UINT64_C(21), UINT64_C(40), UINT64_C(25), UINT64_C(18), UINT64_C(39), UINT64_C(26), UINT64_C(17), UINT64_C(26), UINT64_C(32), UINT64_C(43), UINT64_C(41), UINT64_C(41), UINT64_C(7) } };
-static const t_array13_i64_end switch_table_in_calendar_text_fault_text_289 = { { UINT64_C(20), UINT64_C(31), UINT64_C(24), UINT64_C(31), UINT64_C(37), UINT64_C(41), UINT64_C(41), UINT64_C(29), UINT64_C(47), UINT64_C(36), UINT64_C(39), UINT64_C(38), UINT64_C(22) } };
+static const t_array13_i64_end switch_table_in_calendar_text_fault_text_286 = { { UINT64_C(21), UINT64_C(40), UINT64_C(25), UINT64_C(18), UINT64_C(39), UINT64_C(26), UINT64_C(17), UINT64_C(26), UINT64_C(32), UINT64_C(43), UINT64_C(41), UINT64_C(41), UINT64_C(7) } };
+static const t_array13_i64_end switch_table_in_calendar_text_fault_text_288 = { { UINT64_C(20), UINT64_C(31), UINT64_C(24), UINT64_C(31), UINT64_C(37), UINT64_C(41), UINT64_C(41), UINT64_C(29), UINT64_C(47), UINT64_C(36), UINT64_C(39), UINT64_C(38), UINT64_C(22) } };
 static const t_array4_i64_end switch_table_in_calendar_rule_fault_text = { { UINT64_C(22), UINT64_C(23), UINT64_C(24), UINT64_C(23) } };
-static const t_array4_i64_end switch_table_in_calendar_rule_fault_text_291 = { { UINT64_C(29), UINT64_C(30), UINT64_C(31), UINT64_C(30) } };
-static const t_array11_i64_end switch_table_in_calendar_rule_fault_text_293 = { { UINT64_C(4), UINT64_C(8), UINT64_C(5), UINT64_C(5), UINT64_C(7), UINT64_C(10), UINT64_C(5), UINT64_C(9), UINT64_C(8), UINT64_C(8), UINT64_C(4) } };
+static const t_array4_i64_end switch_table_in_calendar_rule_fault_text_290 = { { UINT64_C(29), UINT64_C(30), UINT64_C(31), UINT64_C(30) } };
+static const t_array11_i64_end switch_table_in_calendar_rule_fault_text_292 = { { UINT64_C(4), UINT64_C(8), UINT64_C(5), UINT64_C(5), UINT64_C(7), UINT64_C(10), UINT64_C(5), UINT64_C(9), UINT64_C(8), UINT64_C(8), UINT64_C(4) } };
 static const t_array5_i64_end switch_table_layers_c_schedule_words_schedule_line = { { UINT64_C(8), UINT64_C(6), UINT64_C(18), UINT64_C(7), UINT64_C(9) } };
-static const t_array14_i64_end switch_table_layers_c_schedule_words_schedule_line_296 = { { UINT64_C(20), UINT64_C(14), UINT64_C(15), UINT64_C(19), UINT64_C(33), UINT64_C(44), UINT64_C(34), UINT64_C(15), UINT64_C(33), UINT64_C(29), UINT64_C(29), UINT64_C(40), UINT64_C(11), UINT64_C(28) } };
+static const t_array14_i64_end switch_table_layers_c_schedule_words_schedule_line_295 = { { UINT64_C(20), UINT64_C(14), UINT64_C(15), UINT64_C(19), UINT64_C(33), UINT64_C(44), UINT64_C(34), UINT64_C(15), UINT64_C(33), UINT64_C(29), UINT64_C(29), UINT64_C(40), UINT64_C(11), UINT64_C(28) } };
 static const t_array6_i32_end switch_table_chrono_business_holiday_list_holidays_of = { { 0, 0, 2, 4294967295u, 2, 0 } };
 static const t_array3_i64_end switch_table_calendar_rules_timed_reader_read_part = { { UINT64_C(7), UINT64_C(9), UINT64_C(9) } };
-static const t_array3_i32_end switch_table_calendar_rules_timed_reader_read_part_300 = { { 23u, 59u, 60u } };
+static const t_array3_i32_end switch_table_calendar_rules_timed_reader_read_part_299 = { { 23u, 59u, 60u } };
 static const t_array4_i64_end switch_table_calendar_rules_instant_list_put_instants_16a892625931f552 = { { UINT64_C(7), UINT64_C(5), UINT64_C(5), UINT64_C(6) } };
-static const t_array4_i32_end switch_table_zoned_rules_local_rule_LocalRule_may_recur = { { 1, 24u, 1440u, 86400u } };
-static const t_array4_i32_end switch_table_zoned_rules_local_rule_LocalRule_may_recur_302 = { { 7, 168u, 10080u, 604800u } };
+static const t_array4_i32_end switch_table_zoned_rules_local_rule_LocalRule_may_recur_301 = { { 7, 168u, 10080u, 604800u } };
+static const t_array4_i32_end switch_table_zoned_rules_zoned_rule_ZonedRule_last_second_16a892625931f552 = { { 1, 24u, 1440u, 86400u } };
 static const t_struct_ptr_array16_i8_end_end static_4 = { ((bytes)&static_4 + 8), { { 32, 32, 32, 32, 32, 32, 32, 32, 32, 0, 0, 0, 0, 0, 0, 0 } } };
 static const t_struct_ptr_array16_i8_end_end static_5 = { ((bytes)&static_5 + 8), { { 48, 48, 48, 48, 48, 48, 48, 48, 48, 0, 0, 0, 0, 0, 0, 0 } } };
-static const t_array7_ptr_end switch_table_chrono_pattern_group_put_group_31_276 = { { (bytes)&static_25, (bytes)&static_26, (bytes)&static_27, (bytes)&static_28, (bytes)&static_29, (bytes)&static_30, (bytes)&static_31 } };
-static const t_array11_ptr_end switch_table_chrono_rules_text_first_error_fault_of_280 = { { (bytes)&static_71, (bytes)&static_72, (bytes)&static_73, (bytes)&static_74, (bytes)&static_76, (bytes)&static_77, (bytes)&static_78, (bytes)&static_79, (bytes)&static_80, (bytes)&static_81, (bytes)&static_75 } };
-static const t_array12_ptr_end switch_table_chrono_pattern_reader_read_front_282 = { { (bytes)&static_6, (bytes)&static_7, (bytes)&static_8, (bytes)&static_9, (bytes)&static_10, (bytes)&static_11, (bytes)&static_12, (bytes)&static_13, (bytes)&static_14, (bytes)&static_15, (bytes)&static_16, (bytes)&static_17 } };
-static const t_array7_ptr_end switch_table_chrono_pattern_reader_read_front_284 = { { (bytes)&static_18, (bytes)&static_19, (bytes)&static_20, (bytes)&static_21, (bytes)&static_22, (bytes)&static_23, (bytes)&static_24 } };
-static const t_array17_ptr_end switch_table_in_calendar_zone_fault_text_286 = { { (bytes)&static_107, (bytes)&static_108, (bytes)&static_109, (bytes)&static_110, (bytes)&static_111, (bytes)&static_112, (bytes)&static_113, (bytes)&static_114, (bytes)&static_115, (bytes)&static_116, (bytes)&static_117, (bytes)&static_118, (bytes)&static_119, (bytes)&static_120, (bytes)&static_121, (bytes)&static_122, (bytes)&static_123 } };
+static const t_array7_ptr_end switch_table_chrono_pattern_group_put_group_31_275 = { { (bytes)&static_25, (bytes)&static_26, (bytes)&static_27, (bytes)&static_28, (bytes)&static_29, (bytes)&static_30, (bytes)&static_31 } };
+static const t_array11_ptr_end switch_table_chrono_rules_text_first_error_fault_of_279 = { { (bytes)&static_71, (bytes)&static_72, (bytes)&static_73, (bytes)&static_74, (bytes)&static_76, (bytes)&static_77, (bytes)&static_78, (bytes)&static_79, (bytes)&static_80, (bytes)&static_81, (bytes)&static_75 } };
+static const t_array12_ptr_end switch_table_chrono_pattern_reader_read_front_281 = { { (bytes)&static_6, (bytes)&static_7, (bytes)&static_8, (bytes)&static_9, (bytes)&static_10, (bytes)&static_11, (bytes)&static_12, (bytes)&static_13, (bytes)&static_14, (bytes)&static_15, (bytes)&static_16, (bytes)&static_17 } };
+static const t_array7_ptr_end switch_table_chrono_pattern_reader_read_front_283 = { { (bytes)&static_18, (bytes)&static_19, (bytes)&static_20, (bytes)&static_21, (bytes)&static_22, (bytes)&static_23, (bytes)&static_24 } };
+static const t_array17_ptr_end switch_table_in_calendar_zone_fault_text_285 = { { (bytes)&static_107, (bytes)&static_108, (bytes)&static_109, (bytes)&static_110, (bytes)&static_111, (bytes)&static_112, (bytes)&static_113, (bytes)&static_114, (bytes)&static_115, (bytes)&static_116, (bytes)&static_117, (bytes)&static_118, (bytes)&static_119, (bytes)&static_120, (bytes)&static_121, (bytes)&static_122, (bytes)&static_123 } };
 static const t_array13_ptr_end switch_table_in_calendar_text_fault_text = { { (bytes)&static_124, (bytes)&static_125, (bytes)&static_126, (bytes)&static_127, (bytes)&static_128, (bytes)&static_129, (bytes)&static_130, (bytes)&static_131, (bytes)&static_132, (bytes)&static_133, (bytes)&static_134, (bytes)&static_135, (bytes)&static_136 } };
-static const t_array13_ptr_end switch_table_in_calendar_text_fault_text_288 = { { (bytes)&static_137, (bytes)&static_138, (bytes)&static_139, (bytes)&static_140, (bytes)&static_141, (bytes)&static_142, (bytes)&static_143, (bytes)&static_144, (bytes)&static_145, (bytes)&static_146, (bytes)&static_147, (bytes)&static_148, (bytes)&static_149 } };
-static const t_array4_ptr_end switch_table_in_calendar_rule_fault_text_290 = { { (bytes)&static_181, (bytes)&static_182, (bytes)&static_183, (bytes)&static_184 } };
-static const t_array4_ptr_end switch_table_in_calendar_rule_fault_text_292 = { { (bytes)&static_185, (bytes)&static_186, (bytes)&static_187, (bytes)&static_188 } };
-static const t_array11_ptr_end switch_table_in_calendar_rule_fault_text_294 = { { (bytes)&static_151, (bytes)&static_152, (bytes)&static_153, (bytes)&static_154, (bytes)&static_155, (bytes)&static_156, (bytes)&static_157, (bytes)&static_158, (bytes)&static_159, (bytes)&static_160, (bytes)&static_161 } };
-static const t_array5_ptr_end switch_table_layers_c_schedule_words_schedule_line_295 = { { (bytes)&static_192, (bytes)&static_193, (bytes)&static_194, (bytes)&static_195, (bytes)&static_196 } };
-static const t_array14_ptr_end switch_table_layers_c_schedule_words_schedule_line_297 = { { (bytes)&static_197, (bytes)&static_198, (bytes)&static_199, (bytes)&static_200, (bytes)&static_201, (bytes)&static_202, (bytes)&static_203, (bytes)&static_204, (bytes)&static_205, (bytes)&static_206, (bytes)&static_207, (bytes)&static_208, (bytes)&static_209, (bytes)&static_210 } };
-static const t_array3_ptr_end switch_table_calendar_rules_timed_reader_read_part_298 = { { (bytes)&static_82, (bytes)&static_83, (bytes)&static_84 } };
-static const t_array4_ptr_end switch_table_calendar_rules_instant_list_put_instants_16a892625931f552_301 = { { (bytes)&static_215, (bytes)&static_216, (bytes)&static_217, (bytes)&static_218 } };
+static const t_array13_ptr_end switch_table_in_calendar_text_fault_text_287 = { { (bytes)&static_137, (bytes)&static_138, (bytes)&static_139, (bytes)&static_140, (bytes)&static_141, (bytes)&static_142, (bytes)&static_143, (bytes)&static_144, (bytes)&static_145, (bytes)&static_146, (bytes)&static_147, (bytes)&static_148, (bytes)&static_149 } };
+static const t_array4_ptr_end switch_table_in_calendar_rule_fault_text_289 = { { (bytes)&static_181, (bytes)&static_182, (bytes)&static_183, (bytes)&static_184 } };
+static const t_array4_ptr_end switch_table_in_calendar_rule_fault_text_291 = { { (bytes)&static_185, (bytes)&static_186, (bytes)&static_187, (bytes)&static_188 } };
+static const t_array11_ptr_end switch_table_in_calendar_rule_fault_text_293 = { { (bytes)&static_151, (bytes)&static_152, (bytes)&static_153, (bytes)&static_154, (bytes)&static_155, (bytes)&static_156, (bytes)&static_157, (bytes)&static_158, (bytes)&static_159, (bytes)&static_160, (bytes)&static_161 } };
+static const t_array5_ptr_end switch_table_layers_c_schedule_words_schedule_line_294 = { { (bytes)&static_192, (bytes)&static_193, (bytes)&static_194, (bytes)&static_195, (bytes)&static_196 } };
+static const t_array14_ptr_end switch_table_layers_c_schedule_words_schedule_line_296 = { { (bytes)&static_197, (bytes)&static_198, (bytes)&static_199, (bytes)&static_200, (bytes)&static_201, (bytes)&static_202, (bytes)&static_203, (bytes)&static_204, (bytes)&static_205, (bytes)&static_206, (bytes)&static_207, (bytes)&static_208, (bytes)&static_209, (bytes)&static_210 } };
+static const t_array3_ptr_end switch_table_calendar_rules_timed_reader_read_part_297 = { { (bytes)&static_82, (bytes)&static_83, (bytes)&static_84 } };
+static const t_array4_ptr_end switch_table_calendar_rules_instant_list_put_instants_16a892625931f552_300 = { { (bytes)&static_215, (bytes)&static_216, (bytes)&static_217, (bytes)&static_218 } };
 
 static uint32_t in_calendar_easter(uint32_t a0);
 static uint32_t in_calendar_format_date(bytes a0, uint64_t a1, uint32_t a2, bytes a3, uint64_t a4);
@@ -582,6 +590,7 @@ static uint8_t chrono_rules_rule_Rule_fills_day(bytes a0);
 static uint8_t chrono_rules_rule_Rule_in_positions(bytes a0, uint32_t a1, uint32_t a2);
 static uint64_t chrono_rules_rule_Rule_to_period_end(bytes a0, uint32_t a1);
 static t_struct_i32_i32_end chrono_rules_rule_Rule_first_members(bytes a0, uint32_t a1, uint32_t a2, uint32_t a3);
+static uint64_t chrono_rules_rule_Rule_cycle(bytes a0);
 static t_struct_i32_i32_end chrono_rules_rule_Rule_members_from(bytes a0, uint32_t a1, uint32_t a2, uint32_t a3, uint32_t a4, uint32_t a5);
 static t_struct_i8_i32_end chrono_rules_rule_Rule_first_between(bytes a0, uint32_t a1, uint32_t a2, uint32_t a3);
 static uint64_t chrono_rules_search_skipped_days_days_to_month(uint32_t a0, uint64_t a1);
@@ -638,6 +647,12 @@ static uint8_t in_calendar_column_is_open_day(uint8_t a0, bytes a1, uint64_t a2,
 static uint8_t in_calendar_column_roll(uint8_t a0, bytes a1, uint64_t a2, bytes a3, uint64_t a4, uint32_t a5, bytes a6, uint64_t a7);
 static uint8_t in_calendar_column_to_date32(bytes a0, uint64_t a1, bytes a2, uint64_t a3);
 static uint32_t in_calendar_add_open_days_within(uint8_t a0, bytes a1, uint64_t a2, uint32_t a3, uint32_t a4, uint32_t a5, uint64_t a6);
+static uint8_t in_calendar_column_add_open_days_within(uint8_t a0, bytes a1, uint64_t a2, uint32_t a3, uint32_t a4, bytes a5, uint64_t a6, uint64_t a7, bytes a8, uint64_t a9);
+static uint8_t in_calendar_column_is_open_day_within(uint8_t a0, bytes a1, uint64_t a2, uint32_t a3, uint32_t a4, bytes a5, uint64_t a6, bytes a7, uint64_t a8);
+static uint8_t in_calendar_column_open_days_between_within(uint8_t a0, bytes a1, uint64_t a2, uint32_t a3, uint32_t a4, bytes a5, uint64_t a6, bytes a7, uint64_t a8, bytes a9, uint64_t a10);
+static t_struct_i8_i64_end chrono_business_calendar_Calendar_open_days_within(bytes a0, uint32_t a1, uint32_t a2, uint32_t a3, uint32_t a4);
+static uint8_t in_calendar_column_roll_within(uint8_t a0, bytes a1, uint64_t a2, uint32_t a3, uint32_t a4, bytes a5, uint64_t a6, uint32_t a7, bytes a8, uint64_t a9);
+static t_struct_i8_i32_end chrono_business_calendar_Calendar_roll_within(bytes a0, uint32_t a1, uint32_t a2, uint32_t a3, uint8_t a4);
 static uint32_t in_calendar_is_open_day_within(uint8_t a0, bytes a1, uint64_t a2, uint32_t a3, uint32_t a4, uint32_t a5);
 static uint64_t in_calendar_open_days_between_within(uint8_t a0, bytes a1, uint64_t a2, uint32_t a3, uint32_t a4, uint32_t a5, uint32_t a6);
 static uint32_t in_calendar_roll_within(uint8_t a0, bytes a1, uint64_t a2, uint32_t a3, uint32_t a4, uint32_t a5, uint32_t a6);
@@ -672,6 +687,8 @@ static void zoned_rules_local_rule_LocalRule_first_from(bytes a0, bytes a1, uint
 static t_struct_i8_i32_end zoned_rules_local_rule_LocalRule_first_time(bytes a0, uint32_t a1, uint32_t a2);
 static uint8_t zoned_rules_local_rule_LocalRule_may_recur(bytes a0);
 static t_struct_i64_i8_end zoned_rules_zoned_rule_ZonedRule_candidate_at_16a892625931f552(bytes a0, bytes a1, uint32_t a2);
+static uint64_t zoned_rules_zoned_rule_ZonedRule_last_second_16a892625931f552(bytes a0);
+static uint32_t chrono_rules_rule_Rule_count_to(bytes a0, uint32_t a1, uint32_t a2);
 static uint8_t in_calendar_text_is_instance(bytes a0, uint64_t a1, bytes a2, uint64_t a3, uint64_t a4, uint32_t a5);
 static t_struct_i64_i32_end in_calendar_text_next(bytes a0, uint64_t a1, bytes a2, uint64_t a3, uint64_t a4, uint32_t a5);
 static t_struct_i64_i32_end in_calendar_text_prev(bytes a0, uint64_t a1, bytes a2, uint64_t a3, uint64_t a4, uint32_t a5);
@@ -5293,9 +5310,9 @@ static void chrono_pattern_word_put_word_1000(bytes a0, uint8_t a1, bytes a2)
     at__core_option_Option_unwrap_26_chrono_units_month_Month_exit_i:;
     switch_idx_cast = (uint64_t)switch_tableidx;
     v1 = (uint64_t)switch_tableidx;
-    switch_gep = ((bytes)&switch_table_chrono_pattern_reader_read_front_281 + (int64_t)v1 * 8);
+    switch_gep = ((bytes)&switch_table_chrono_pattern_reader_read_front_280 + (int64_t)v1 * 8);
     LOAD(uint64_t, switch_load, switch_gep);
-    switch_gep139 = ((bytes)&switch_table_chrono_pattern_reader_read_front_282 + (int64_t)switch_idx_cast * 8);
+    switch_gep139 = ((bytes)&switch_table_chrono_pattern_reader_read_front_281 + (int64_t)switch_idx_cast * 8);
     LOAD(bytes, switch_load140, switch_gep139);
     r10_2 = (a0 + 1000);
     LOAD(uint64_t, r11_2, r10_2);
@@ -5350,7 +5367,7 @@ static void chrono_pattern_word_put_word_1000(bytes a0, uint8_t a1, bytes a2)
     UNREACHABLE();
     at__core_option_Option_unwrap_26_chrono_units_month_Month_exit_i28:;
     switch_idx_cast29 = (uint64_t)switch_tableidx26;
-    switch_gep141 = ((bytes)&switch_table_chrono_pattern_reader_read_front_282 + (int64_t)switch_idx_cast29 * 8);
+    switch_gep141 = ((bytes)&switch_table_chrono_pattern_reader_read_front_281 + (int64_t)switch_idx_cast29 * 8);
     LOAD(bytes, switch_load142, switch_gep141);
     r1047 = (a0 + 1000);
     LOAD(uint64_t, r1148, r1047);
@@ -5382,9 +5399,9 @@ static void chrono_pattern_word_put_word_1000(bytes a0, uint8_t a1, bytes a2)
     r3_2 = (uint32_t)(r5 % 7);
     switch_idx_cast_2 = (uint64_t)r3_2;
     v3 = (uint64_t)r3_2;
-    switch_gep143 = ((bytes)&switch_table_chrono_pattern_reader_read_front_283 + (int64_t)v3 * 8);
+    switch_gep143 = ((bytes)&switch_table_chrono_pattern_reader_read_front_282 + (int64_t)v3 * 8);
     LOAD(uint64_t, switch_load144, switch_gep143);
-    switch_gep145 = ((bytes)&switch_table_chrono_pattern_reader_read_front_284 + (int64_t)switch_idx_cast_2 * 8);
+    switch_gep145 = ((bytes)&switch_table_chrono_pattern_reader_read_front_283 + (int64_t)switch_idx_cast_2 * 8);
     LOAD(bytes, switch_load146, switch_gep145);
     r1071 = (a0 + 1000);
     LOAD(uint64_t, r1172, r1071);
@@ -5415,7 +5432,7 @@ static void chrono_pattern_word_put_word_1000(bytes a0, uint8_t a1, bytes a2)
     r5_2 = (uint32_t)(r1_sroa_0_0_copyload + 95839631u);
     r3_3 = (uint32_t)(r5_2 % 7);
     switch_idx_cast_3 = (uint64_t)r3_3;
-    switch_gep147 = ((bytes)&switch_table_chrono_pattern_group_put_group_31_276 + (int64_t)switch_idx_cast_3 * 8);
+    switch_gep147 = ((bytes)&switch_table_chrono_pattern_group_put_group_31_275 + (int64_t)switch_idx_cast_3 * 8);
     LOAD(bytes, switch_load148, switch_gep147);
     LOAD(uint8_t, r25_2, switch_load148);
     r4 = (a0 + 1000);
@@ -5502,7 +5519,7 @@ static bytes chrono_units_month_Month_name(uint8_t a0_0_val)
     uint64_t v0;
     bytes switch_gep, switch_load;
     v0 = (uint64_t)a0_0_val;
-    switch_gep = ((bytes)&switch_table_chrono_pattern_reader_read_front_282 + (int64_t)v0 * 8);
+    switch_gep = ((bytes)&switch_table_chrono_pattern_reader_read_front_281 + (int64_t)v0 * 8);
     LOAD(bytes, switch_load, switch_gep);
     return switch_load;
 }
@@ -5997,7 +6014,7 @@ static void chrono_pattern_group_put_group_1000(bytes a0, uint8_t a1, bytes a2)
     UNREACHABLE();
     at__core_option_Option_unwrap_26_chrono_units_month_Month_exit_i_i_i:;
     switch_idx_cast = (uint64_t)switch_tableidx;
-    switch_gep = ((bytes)&switch_table_chrono_pattern_reader_read_front_282 + (int64_t)switch_idx_cast * 8);
+    switch_gep = ((bytes)&switch_table_chrono_pattern_reader_read_front_281 + (int64_t)switch_idx_cast * 8);
     LOAD(bytes, switch_load, switch_gep);
     r21_2 = (a0 + (int64_t)r11176);
     r8_9 = (uint64_t)((uintptr_t)r21_2);
@@ -6037,7 +6054,7 @@ static void chrono_pattern_group_put_group_1000(bytes a0, uint8_t a1, bytes a2)
     r5_4 = (uint32_t)(r1_sroa_0_0_copyload + 95839631u);
     r3189 = (uint32_t)(r5_4 % 7);
     switch_idx_cast_2 = (uint64_t)r3189;
-    switch_gep230 = ((bytes)&switch_table_chrono_pattern_group_put_group_31_276 + (int64_t)switch_idx_cast_2 * 8);
+    switch_gep230 = ((bytes)&switch_table_chrono_pattern_group_put_group_31_275 + (int64_t)switch_idx_cast_2 * 8);
     LOAD(bytes, switch_load231, switch_gep230);
     LOAD(uint8_t, r25190, switch_load231);
     r4_5 = (a0 + 1000);
@@ -6083,7 +6100,7 @@ static void chrono_pattern_group_put_group_1000(bytes a0, uint8_t a1, bytes a2)
     UNREACHABLE();
     at__core_option_Option_unwrap_26_chrono_units_month_Month_exit_i_i_i_i_i:;
     switch_idx_cast_i_i_i5 = (uint64_t)switch_tableidx_2;
-    switch_gep232 = ((bytes)&switch_table_chrono_pattern_reader_read_front_282 + (int64_t)switch_idx_cast_i_i_i5 * 8);
+    switch_gep232 = ((bytes)&switch_table_chrono_pattern_reader_read_front_281 + (int64_t)switch_idx_cast_i_i_i5 * 8);
     LOAD(bytes, switch_load233, switch_gep232);
     r21_3 = (a0 + (int64_t)r11194);
     r8_11 = (uint64_t)((uintptr_t)r21_3);
@@ -7496,9 +7513,9 @@ static void chrono_pattern_word_put_word_31(bytes a0, uint8_t a1, bytes a2)
     at__core_option_Option_unwrap_26_chrono_units_month_Month_exit_i:;
     switch_idx_cast = (uint64_t)switch_tableidx;
     v1 = (uint64_t)switch_tableidx;
-    switch_gep = ((bytes)&switch_table_chrono_pattern_reader_read_front_281 + (int64_t)v1 * 8);
+    switch_gep = ((bytes)&switch_table_chrono_pattern_reader_read_front_280 + (int64_t)v1 * 8);
     LOAD(uint64_t, switch_load, switch_gep);
-    switch_gep139 = ((bytes)&switch_table_chrono_pattern_reader_read_front_282 + (int64_t)switch_idx_cast * 8);
+    switch_gep139 = ((bytes)&switch_table_chrono_pattern_reader_read_front_281 + (int64_t)switch_idx_cast * 8);
     LOAD(bytes, switch_load140, switch_gep139);
     r10_2 = (a0 + 32);
     LOAD(uint64_t, r11_2, r10_2);
@@ -7553,7 +7570,7 @@ static void chrono_pattern_word_put_word_31(bytes a0, uint8_t a1, bytes a2)
     UNREACHABLE();
     at__core_option_Option_unwrap_26_chrono_units_month_Month_exit_i28:;
     switch_idx_cast29 = (uint64_t)switch_tableidx26;
-    switch_gep141 = ((bytes)&switch_table_chrono_pattern_reader_read_front_282 + (int64_t)switch_idx_cast29 * 8);
+    switch_gep141 = ((bytes)&switch_table_chrono_pattern_reader_read_front_281 + (int64_t)switch_idx_cast29 * 8);
     LOAD(bytes, switch_load142, switch_gep141);
     r1047 = (a0 + 32);
     LOAD(uint64_t, r1148, r1047);
@@ -7585,9 +7602,9 @@ static void chrono_pattern_word_put_word_31(bytes a0, uint8_t a1, bytes a2)
     r3_2 = (uint32_t)(r5 % 7);
     switch_idx_cast_2 = (uint64_t)r3_2;
     v3 = (uint64_t)r3_2;
-    switch_gep143 = ((bytes)&switch_table_chrono_pattern_reader_read_front_283 + (int64_t)v3 * 8);
+    switch_gep143 = ((bytes)&switch_table_chrono_pattern_reader_read_front_282 + (int64_t)v3 * 8);
     LOAD(uint64_t, switch_load144, switch_gep143);
-    switch_gep145 = ((bytes)&switch_table_chrono_pattern_reader_read_front_284 + (int64_t)switch_idx_cast_2 * 8);
+    switch_gep145 = ((bytes)&switch_table_chrono_pattern_reader_read_front_283 + (int64_t)switch_idx_cast_2 * 8);
     LOAD(bytes, switch_load146, switch_gep145);
     r1071 = (a0 + 32);
     LOAD(uint64_t, r1172, r1071);
@@ -7618,7 +7635,7 @@ static void chrono_pattern_word_put_word_31(bytes a0, uint8_t a1, bytes a2)
     r5_2 = (uint32_t)(r1_sroa_0_0_copyload + 95839631u);
     r3_3 = (uint32_t)(r5_2 % 7);
     switch_idx_cast_3 = (uint64_t)r3_3;
-    switch_gep147 = ((bytes)&switch_table_chrono_pattern_group_put_group_31_276 + (int64_t)switch_idx_cast_3 * 8);
+    switch_gep147 = ((bytes)&switch_table_chrono_pattern_group_put_group_31_275 + (int64_t)switch_idx_cast_3 * 8);
     LOAD(bytes, switch_load148, switch_gep147);
     LOAD(uint8_t, r25_2, switch_load148);
     r4 = (a0 + 32);
@@ -8190,7 +8207,7 @@ static void chrono_pattern_group_put_group_31(bytes a0, uint8_t a1, bytes a2)
     UNREACHABLE();
     at__core_option_Option_unwrap_26_chrono_units_month_Month_exit_i_i_i:;
     switch_idx_cast = (uint64_t)switch_tableidx;
-    switch_gep = ((bytes)&switch_table_chrono_pattern_reader_read_front_282 + (int64_t)switch_idx_cast * 8);
+    switch_gep = ((bytes)&switch_table_chrono_pattern_reader_read_front_281 + (int64_t)switch_idx_cast * 8);
     LOAD(bytes, switch_load, switch_gep);
     r21_2 = (a0 + (int64_t)r11174);
     r8_9 = (uint64_t)((uintptr_t)r21_2);
@@ -8230,7 +8247,7 @@ static void chrono_pattern_group_put_group_31(bytes a0, uint8_t a1, bytes a2)
     r5_4 = (uint32_t)(r1_sroa_0_0_copyload + 95839631u);
     r3187 = (uint32_t)(r5_4 % 7);
     switch_idx_cast_2 = (uint64_t)r3187;
-    switch_gep228 = ((bytes)&switch_table_chrono_pattern_group_put_group_31_276 + (int64_t)switch_idx_cast_2 * 8);
+    switch_gep228 = ((bytes)&switch_table_chrono_pattern_group_put_group_31_275 + (int64_t)switch_idx_cast_2 * 8);
     LOAD(bytes, switch_load229, switch_gep228);
     LOAD(uint8_t, r25188, switch_load229);
     r4_5 = (a0 + 32);
@@ -8276,7 +8293,7 @@ static void chrono_pattern_group_put_group_31(bytes a0, uint8_t a1, bytes a2)
     UNREACHABLE();
     at__core_option_Option_unwrap_26_chrono_units_month_Month_exit_i_i_i_i_i:;
     switch_idx_cast_i_i_i5 = (uint64_t)switch_tableidx_2;
-    switch_gep230 = ((bytes)&switch_table_chrono_pattern_reader_read_front_282 + (int64_t)switch_idx_cast_i_i_i5 * 8);
+    switch_gep230 = ((bytes)&switch_table_chrono_pattern_reader_read_front_281 + (int64_t)switch_idx_cast_i_i_i5 * 8);
     LOAD(bytes, switch_load231, switch_gep230);
     r21_3 = (a0 + (int64_t)r11192);
     r8_11 = (uint64_t)((uintptr_t)r21_3);
@@ -9079,19 +9096,19 @@ static uint32_t in_calendar_layers_version(bytes a0, uint64_t a1)
     uint32_t common_ret_op;
     uint8_t r16, r11, r26, exitcond_not;
     bytes r20, r24;
-    r16 = a1 < UINT64_C(5);
+    r16 = a1 < UINT64_C(9);
     if (r16) { { common_ret_op = 2147483648u; goto at__numbers_c_version_write_version_exit; } }
     goto at__join_3;
     at__join_3:;
     r8 = (uint64_t)((uintptr_t)a0);
     r10 = (uint64_t)(r8 - (uint64_t)(uintptr_t)((bytes)&static_36));
-    r11 = r10 < UINT64_C(5);
+    r11 = r10 < UINT64_C(9);
     if (r11) { { r0_04 = UINT64_C(0); goto at__join_7; } }
     goto at__apart_2;
     at__apart_2:;
-    memcpy(a0, (bytes)&static_36, UINT64_C(5));
+    memcpy(a0, (bytes)&static_36, UINT64_C(9));
     {
-    common_ret_op = 5;
+    common_ret_op = 9;
     goto at__numbers_c_version_write_version_exit;
     }
     at__join_7:;
@@ -9100,8 +9117,8 @@ static uint32_t in_calendar_layers_version(bytes a0, uint64_t a1)
     LOAD(uint8_t, r26, r24);
     STORE(uint8_t, r20, r26);
     r30 = (uint64_t)(r0_04 + UINT64_C(1));
-    exitcond_not = r30 == UINT64_C(5);
-    if (exitcond_not) { { common_ret_op = 5; goto at__numbers_c_version_write_version_exit; } }
+    exitcond_not = r30 == UINT64_C(9);
+    if (exitcond_not) { { common_ret_op = 9; goto at__numbers_c_version_write_version_exit; } }
     { r0_04 = r30; goto at__join_7; }
     at__numbers_c_version_write_version_exit:;
     return common_ret_op;
@@ -10150,7 +10167,7 @@ static uint32_t in_calendar_holidays_first_year(uint32_t a0)
     r36 = (r3 + (int64_t)r33);
     v0 = (r36 + 12);
     LOAD(uint32_t, r36_val, v0);
-    r5_a0 = (int32_t)r3_06 < (int32_t)r36_val ? r3_06 : r36_val;
+    r5_a0 = (uint32_t)LESSER32((int32_t)r3_06, (int32_t)r36_val);
     r42 = (uint64_t)(r4_05 + UINT64_C(1));
     exitcond_not = r42 == UINT64_C(12);
     if (exitcond_not) { { r1_0 = r5_a0; goto at__join_10; } }
@@ -10182,7 +10199,7 @@ static uint32_t in_calendar_holidays_first_year(uint32_t a0)
     r3683 = (r7 + (int64_t)r3382);
     v1 = (r3683 + 12);
     LOAD(uint32_t, r36_val84, v1);
-    r5_a085 = (int32_t)r3_0680 < (int32_t)r36_val84 ? r3_0680 : r36_val84;
+    r5_a085 = (uint32_t)LESSER32((int32_t)r3_0680, (int32_t)r36_val84);
     r4286 = (uint64_t)(r4_0581 + UINT64_C(1));
     exitcond_not87 = r4286 == UINT64_C(8);
     if (exitcond_not87) { { r1_0 = r5_a085; goto at__join_10; } }
@@ -10251,7 +10268,7 @@ static uint32_t in_calendar_holidays_first_year(uint32_t a0)
     r36189 = (r11 + (int64_t)r33188);
     v2 = (r36189 + 12);
     LOAD(uint32_t, r36_val190, v2);
-    r5_a0191 = (int32_t)r3_06186 < (int32_t)r36_val190 ? r3_06186 : r36_val190;
+    r5_a0191 = (uint32_t)LESSER32((int32_t)r3_06186, (int32_t)r36_val190);
     r42192 = (uint64_t)(r4_05187 + UINT64_C(1));
     exitcond_not193 = r42192 == UINT64_C(26);
     if (exitcond_not193) { { r1_0 = r5_a0191; goto at__join_10; } }
@@ -10291,7 +10308,7 @@ static uint32_t in_calendar_holidays_first_year(uint32_t a0)
     r36295 = (r15 + (int64_t)r33294);
     v3 = (r36295 + 12);
     LOAD(uint32_t, r36_val296, v3);
-    r5_a0297 = (int32_t)r3_06292 < (int32_t)r36_val296 ? r3_06292 : r36_val296;
+    r5_a0297 = (uint32_t)LESSER32((int32_t)r3_06292, (int32_t)r36_val296);
     r42298 = (uint64_t)(r4_05293 + UINT64_C(1));
     exitcond_not299 = r42298 == UINT64_C(12);
     if (exitcond_not299) { { r1_0 = r5_a0297; goto at__join_10; } }
@@ -10348,7 +10365,7 @@ static uint32_t in_calendar_holidays_first_year(uint32_t a0)
     r36481 = (r19 + (int64_t)r33480);
     v4 = (r36481 + 12);
     LOAD(uint32_t, r36_val482, v4);
-    r5_a0483 = (int32_t)r3_06478 < (int32_t)r36_val482 ? r3_06478 : r36_val482;
+    r5_a0483 = (uint32_t)LESSER32((int32_t)r3_06478, (int32_t)r36_val482);
     r42484 = (uint64_t)(r4_05479 + UINT64_C(1));
     exitcond_not485 = r42484 == UINT64_C(20);
     if (exitcond_not485) { { r1_0 = r5_a0483; goto at__join_10; } }
@@ -10384,7 +10401,7 @@ static uint32_t in_calendar_holidays_first_year(uint32_t a0)
     r36589 = (r23 + (int64_t)r33588);
     v5 = (r36589 + 12);
     LOAD(uint32_t, r36_val590, v5);
-    r5_a0591 = (int32_t)r3_06586 < (int32_t)r36_val590 ? r3_06586 : r36_val590;
+    r5_a0591 = (uint32_t)LESSER32((int32_t)r3_06586, (int32_t)r36_val590);
     r42592 = (uint64_t)(r4_05587 + UINT64_C(1));
     exitcond_not593 = r42592 == UINT64_C(10);
     if (exitcond_not593) { { r1_0 = r5_a0591; goto at__join_10; } }
@@ -10423,7 +10440,7 @@ static uint32_t in_calendar_holidays_first_year(uint32_t a0)
     r36707 = (r27 + (int64_t)r33706);
     v6 = (r36707 + 12);
     LOAD(uint32_t, r36_val708, v6);
-    r5_a0709 = (int32_t)r3_06704 < (int32_t)r36_val708 ? r3_06704 : r36_val708;
+    r5_a0709 = (uint32_t)LESSER32((int32_t)r3_06704, (int32_t)r36_val708);
     r42710 = (uint64_t)(r4_05705 + UINT64_C(1));
     exitcond_not711 = r42710 == UINT64_C(11);
     if (exitcond_not711) { { r1_0 = r5_a0709; goto at__join_10; } }
@@ -10534,7 +10551,7 @@ static uint32_t in_calendar_holidays_first_year(uint32_t a0)
     r36934 = (r31 + (int64_t)r33933);
     v7 = (r36934 + 12);
     LOAD(uint32_t, r36_val935, v7);
-    r5_a0936 = (int32_t)r3_06931 < (int32_t)r36_val935 ? r3_06931 : r36_val935;
+    r5_a0936 = (uint32_t)LESSER32((int32_t)r3_06931, (int32_t)r36_val935);
     r42937 = (uint64_t)(r4_05932 + UINT64_C(1));
     exitcond_not938 = r42937 == UINT64_C(47);
     if (exitcond_not938) { { r1_0 = r5_a0936; goto at__join_10; } }
@@ -12590,7 +12607,7 @@ static t_struct_i8_i64_end chrono_cron_text_day_fields_read_other_item(bytes a0,
     switch_gep = ((bytes)&switch_table_chrono_cron_text_first_error_fault_in + (int64_t)v14 * 4);
     LOAD(uint32_t, switch_load, switch_gep);
     v15 = (uint64_t)a2;
-    switch_gep8 = ((bytes)&switch_table_chrono_cron_text_first_error_fault_in_279 + (int64_t)v15 * 4);
+    switch_gep8 = ((bytes)&switch_table_chrono_cron_text_first_error_fault_in_278 + (int64_t)v15 * 4);
     LOAD(uint32_t, switch_load9, switch_gep8);
     {
     r2_sroa_0_0 = switch_masked;
@@ -14247,7 +14264,7 @@ static t_struct_i64_i8_end chrono_cron_text_first_error_fault_in(bytes a0, uint6
     switch_gep = ((bytes)&switch_table_chrono_cron_text_first_error_fault_in + (int64_t)v25 * 4);
     LOAD(uint32_t, switch_load, switch_gep);
     v26 = (uint64_t)a3;
-    switch_gep71 = ((bytes)&switch_table_chrono_cron_text_first_error_fault_in_279 + (int64_t)v26 * 4);
+    switch_gep71 = ((bytes)&switch_table_chrono_cron_text_first_error_fault_in_278 + (int64_t)v26 * 4);
     LOAD(uint32_t, switch_load72, switch_gep71);
     {
     r2_sroa_0_0 = switch_masked;
@@ -19498,7 +19515,7 @@ static void chrono_rules_text_first_error_fault_of(bytes a0, bytes a1, uint64_t 
     switch_gep = ((bytes)&switch_table_chrono_rules_text_first_error_fault_of + (int64_t)v0 * 8);
     LOAD(uint64_t, switch_load, switch_gep);
     v1 = (uint64_t)a3;
-    switch_gep294 = ((bytes)&switch_table_chrono_rules_text_first_error_fault_of_280 + (int64_t)v1 * 8);
+    switch_gep294 = ((bytes)&switch_table_chrono_rules_text_first_error_fault_of_279 + (int64_t)v1 * 8);
     LOAD(bytes, switch_load295, switch_gep294);
     {
     r5_0 = UINT64_C(0);
@@ -22028,10 +22045,10 @@ static void chrono_pattern_reader_read_front(bytes a0, bytes a1, uint64_t a2, by
     at__arm_1462:;
     r28463 = r26455.f1;
     v8 = (uint64_t)r28463;
-    switch_gep837 = ((bytes)&switch_table_chrono_pattern_reader_read_front_281 + (int64_t)v8 * 8);
+    switch_gep837 = ((bytes)&switch_table_chrono_pattern_reader_read_front_280 + (int64_t)v8 * 8);
     LOAD(uint64_t, switch_load838, switch_gep837);
     v9 = (uint64_t)r28463;
-    switch_gep839 = ((bytes)&switch_table_chrono_pattern_reader_read_front_282 + (int64_t)v9 * 8);
+    switch_gep839 = ((bytes)&switch_table_chrono_pattern_reader_read_front_281 + (int64_t)v9 * 8);
     LOAD(bytes, switch_load840, switch_gep839);
     r23_not_i_i466_not = switch_load838 > r15351;
     if (r23_not_i_i466_not) { goto at__chrono_pattern_word_reader_name_len_exit_thread_i467; }
@@ -22172,10 +22189,10 @@ static void chrono_pattern_reader_read_front(bytes a0, bytes a1, uint64_t a2, by
     at__arm_1433:;
     r28434 = r26429.f1;
     v16 = (uint64_t)r28434;
-    switch_gep842 = ((bytes)&switch_table_chrono_pattern_reader_read_front_283 + (int64_t)v16 * 8);
+    switch_gep842 = ((bytes)&switch_table_chrono_pattern_reader_read_front_282 + (int64_t)v16 * 8);
     LOAD(uint64_t, switch_load843, switch_gep842);
     v17 = (uint64_t)r28434;
-    switch_gep844 = ((bytes)&switch_table_chrono_pattern_reader_read_front_284 + (int64_t)v17 * 8);
+    switch_gep844 = ((bytes)&switch_table_chrono_pattern_reader_read_front_283 + (int64_t)v17 * 8);
     LOAD(bytes, switch_load845, switch_gep844);
     r23_not_i_i_not = switch_load843 > r15351;
     if (r23_not_i_i_not) { goto at__chrono_pattern_word_reader_name_len_exit_thread_i; }
@@ -25025,7 +25042,7 @@ static void chrono_pattern_number_reader_read_any_number(bytes a0, bytes a1, uin
     }
     at__else_2:;
     v11 = (uint64_t)((uint64_t)(int8_t)a2);
-    v12 = ((bytes)&switch_table_chrono_pattern_number_reader_read_any_number_285 + (int64_t)v11 * 8);
+    v12 = ((bytes)&switch_table_chrono_pattern_number_reader_read_any_number_284 + (int64_t)v11 * 8);
     switch_gep2011 = (v12 - 8);
     LOAD(uint64_t, switch_load2012, switch_gep2011);
     r14_i_i1873_not = r19 == UINT64_C(0);
@@ -30378,26 +30395,26 @@ static void chrono_pattern_parsed_Parsed_to_time(bytes a0, bytes a1)
     LOAD(uint32_t, r3_sroa_11135_0_copyload137, r3_sroa_11135_0_a1_sroa_idx);
     LOAD(uint32_t, r3_sroa_14141_0_copyload143, r3_sroa_14141_0_a1_sroa_idx);
     LOAD(uint32_t, r3_sroa_17147_0_copyload149, r3_sroa_17147_0_a1_sroa_idx);
-    spec_select = (int32_t)r3_sroa_5123_0_copyload125 > (int32_t)0 ? r3_sroa_5123_0_copyload125 : 0;
+    spec_select = (uint32_t)GREATER32((int32_t)r3_sroa_5123_0_copyload125, (int32_t)0);
     v0 = (int32_t)r3_sroa_5123_0_copyload125 > (int32_t)4294967295u;
     if (v0) { goto at__arm_1_i40; }
     { r7_sroa_0_0192_sink_shrunk = 1; sink202 = 4; sink = UINT64_C(0); goto at__common_ret; }
     at__arm_1_i40:;
     r3_sroa_8129_0_a1_sroa_idx = (a1 + 116);
     LOAD(uint32_t, r3_sroa_8129_0_copyload131, r3_sroa_8129_0_a1_sroa_idx);
-    spec_select171 = (int32_t)r3_sroa_8129_0_copyload131 > (int32_t)0 ? r3_sroa_8129_0_copyload131 : 0;
+    spec_select171 = (uint32_t)GREATER32((int32_t)r3_sroa_8129_0_copyload131, (int32_t)0);
     v1 = (int32_t)r3_sroa_8129_0_copyload131 > (int32_t)4294967295u;
     if (v1) { goto at__arm_1; }
     { r7_sroa_0_0192_sink_shrunk = 1; sink202 = 4; sink = UINT64_C(0); goto at__common_ret; }
     at__arm_1:;
-    spec_select173 = (int32_t)r3_sroa_11135_0_copyload137 > (int32_t)0 ? r3_sroa_11135_0_copyload137 : 0;
+    spec_select173 = (uint32_t)GREATER32((int32_t)r3_sroa_11135_0_copyload137, (int32_t)0);
     v2 = (int32_t)r3_sroa_11135_0_copyload137 > (int32_t)4294967295u;
     if (v2) { goto at__arm_8; }
     { r7_sroa_0_0192_sink_shrunk = 1; sink202 = 4; sink = UINT64_C(0); goto at__common_ret; }
     at__arm_8:;
     v3 = r3_sroa_12_0_copyload != 0;
     r3139 = (int32_t)r3_sroa_14141_0_copyload143 < (int32_t)0;
-    r0_sroa_4_030 = (int32_t)r3_sroa_14141_0_copyload143 > (int32_t)0 ? r3_sroa_14141_0_copyload143 : 0;
+    r0_sroa_4_030 = (uint32_t)GREATER32((int32_t)r3_sroa_14141_0_copyload143, (int32_t)0);
     r4_sroa_0_sroa_0_034 = v3 ? r3139 : 0;
     a1_73 = v3 ? r0_sroa_4_030 : 0;
     if (r4_sroa_0_sroa_0_034) { { r7_sroa_0_0192_sink_shrunk = 1; sink202 = 4; sink = UINT64_C(0); goto at__common_ret; } }
@@ -30405,7 +30422,7 @@ static void chrono_pattern_parsed_Parsed_to_time(bytes a0, bytes a1)
     at__arm_11:;
     v4 = r3_sroa_15_0_copyload != 0;
     r3120 = (int32_t)r3_sroa_17147_0_copyload149 < (int32_t)0;
-    r0_sroa_4_015 = (int32_t)r3_sroa_17147_0_copyload149 > (int32_t)0 ? r3_sroa_17147_0_copyload149 : 0;
+    r0_sroa_4_015 = (uint32_t)GREATER32((int32_t)r3_sroa_17147_0_copyload149, (int32_t)0);
     r4_sroa_0_sroa_0_0 = v4 ? r3120 : 0;
     a1_81 = v4 ? r0_sroa_4_015 : 0;
     if (r4_sroa_0_sroa_0_0) { { r7_sroa_0_0192_sink_shrunk = 1; sink202 = 4; sink = UINT64_C(0); goto at__common_ret; } }
@@ -33852,11 +33869,11 @@ static uint64_t chrono_rules_rule_Rule_to_period_end(bytes a0, uint32_t a1)
 
 static t_struct_i32_i32_end chrono_rules_rule_Rule_first_members(bytes a0, uint32_t a1, uint32_t a2, uint32_t a3)
 {
-    uint32_t r3_0, r5_011, r4_sroa_0_0_lcssa, r5_0_lcssa, r0_sroa_6_0, r4_sroa_0_0_copyload, r16, r16_a1, r11, a0_val, narrow, r5_sroa_4_0, v2, r5_sroa_4_023, v4, r39, r30, r54, r66, r308, r5_sroa_4_0_2, v5, r43, r30_2, r86;
-    uint64_t r2312, spec_select, r4, r1, r18, r6, r1_2, sext, r1_i5, r236, r23;
-    t_struct_i32_i32_end r37_pn, r37, r28, r52, r84, r88_fca_1_insert;
-    bytes r9, r12, v1;
-    uint8_t r10, v0, r11_2, or_cond, r44, v3, or_cond_2, r1122, or_cond24, not_not, r43_not, r58_not, r25_not7, r329, or_cond10, or_cond_3, r25_not, r32, or_cond28;
+    uint32_t r3_0, common_ret_op, r0_sroa_6_0, r4_sroa_0_0_copyload, r16, r16_a1, r11, r5_sroa_4_0, v1, r5_sroa_4_023, v3, r38, r29, r53, r65, r1625, v4, r27_2, r23, r5, r13, a1_a0, r34, r5_sroa_4_0_2, v5, r41, r43, r84;
+    t_struct_i32_i32_end r36_pn, r36, r27, r51, r82, r86_fca_1_insert;
+    bytes r9, r12;
+    uint8_t r10, v0, r11_2, or_cond, r44, v2, or_cond_2, r1122, or_cond24, not_not, r42_not, r57_not, r4, r6_2, r11_3, or_cond_3, not_not_2;
+    uint64_t r16_2, r1, r18, r6, r1_2, sext, r1_3, r6_3;
     r9 = (a0 + 8);
     LOAD(uint8_t, r10, r9);
     v0 = r10 == 2;
@@ -33866,35 +33883,31 @@ static t_struct_i32_i32_end chrono_rules_rule_Rule_first_members(bytes a0, uint3
     r12 = (a0 + 12);
     LOAD(uint32_t, r4_sroa_0_0_copyload, r12);
     r16 = (uint32_t)(r4_sroa_0_0_copyload + 1);
-    r16_a1 = (int32_t)r16 < (int32_t)a2 ? r16 : a2;
+    r16_a1 = (uint32_t)LESSER32((int32_t)r16, (int32_t)a2);
     {
     r3_0 = r16_a1;
     goto at__chrono_rules_rule_Rule_last_of_cycles_exit;
     }
     at__chrono_rules_rule_Rule_last_of_cycles_exit:;
-    r11 = (int32_t)r3_0 < (int32_t)95745034u ? r3_0 : 95745034u;
-    v1 = (a0 + 4);
-    LOAD(uint32_t, a0_val, v1);
-    narrow = a0_val > 1 ? a0_val : 1;
-    spec_select = (uint64_t)narrow;
-    r4 = (uint64_t)(spec_select * UINT64_C(146097));
+    r11 = (uint32_t)LESSER32((int32_t)r3_0, (int32_t)95745034u);
+    r16_2 = chrono_rules_rule_Rule_cycle(a0);
     r1 = (uint64_t)((uint64_t)(int32_t)a1);
     r18 = (uint64_t)(r1 + UINT64_C(366));
-    r6 = (uint64_t)(r4 + r18);
+    r6 = (uint64_t)(r16_2 + r18);
     r11_2 = (int64_t)r6 < (int64_t)UINT64_C(2147483648);
     r5_sroa_4_0 = (uint32_t)(r6);
-    v2 = (uint32_t)(r5_sroa_4_0 + 95746129u);
-    or_cond = v2 < 191491529u;
+    v1 = (uint32_t)(r5_sroa_4_0 + 95746129u);
+    or_cond = v1 < 191491529u;
     r44 = (int32_t)r11 > (int32_t)r5_sroa_4_0;
-    v3 = (uint8_t)(((uint32_t)or_cond & (uint32_t)r44) & 1);
-    or_cond_2 = r11_2 ? v3 : 0;
+    v2 = (uint8_t)(((uint32_t)or_cond & (uint32_t)r44) & 1);
+    or_cond_2 = r11_2 ? v2 : 0;
     if (or_cond_2) { goto at__arm_1; }
     goto at__arm_2;
     at__arm_1:;
     r1122 = (int32_t)a1 < (int32_t)2147483282u;
     r5_sroa_4_023 = (uint32_t)(r18);
-    v4 = (uint32_t)(r5_sroa_4_023 + 95746129u);
-    or_cond24 = v4 < 191491529u;
+    v3 = (uint32_t)(r5_sroa_4_023 + 95746129u);
+    or_cond24 = v3 < 191491529u;
     not_not = r1122 ? or_cond24 : 0;
     if (not_not) { goto at__chrono_rules_search_periods_moved_exit; }
     goto at__arm_2_2;
@@ -33902,67 +33915,311 @@ static t_struct_i32_i32_end chrono_rules_rule_Rule_first_members(bytes a0, uint3
     TRAP();
     UNREACHABLE();
     at__chrono_rules_search_periods_moved_exit:;
-    r37 = chrono_rules_rule_Rule_members_from(a0, a1, a1, 0, r5_sroa_4_023, a3);
-    r39 = r37.f1;
-    r43_not = a3 > r39;
-    if (r43_not) { goto at__join_8; }
-    { r0_sroa_6_0 = r39; r37_pn = r37; goto at__return_5; }
+    r36 = chrono_rules_rule_Rule_members_from(a0, a1, a1, 0, r5_sroa_4_023, a3);
+    r38 = r36.f1;
+    r42_not = a3 > r38;
+    if (r42_not) { goto at__join_8; }
+    { r0_sroa_6_0 = r38; r36_pn = r36; goto at__return_5; }
     at__arm_2:;
-    r28 = chrono_rules_rule_Rule_members_from(a0, a1, a1, 0, a2, a3);
-    r30 = r28.f1;
+    r27 = chrono_rules_rule_Rule_members_from(a0, a1, a1, 0, a2, a3);
+    r29 = r27.f1;
     {
-    r0_sroa_6_0 = r30;
-    r37_pn = r28;
+    r0_sroa_6_0 = r29;
+    r36_pn = r27;
     goto at__return_5;
     }
     at__join_8:;
-    r52 = chrono_rules_rule_Rule_members_from(a0, a1, r5_sroa_4_023, r39, r5_sroa_4_0, a3);
-    r54 = r52.f1;
-    r58_not = a3 > r54;
-    if (r58_not) { goto at__join_11; }
-    { r0_sroa_6_0 = r54; r37_pn = r52; goto at__return_5; }
+    r51 = chrono_rules_rule_Rule_members_from(a0, a1, r5_sroa_4_023, r38, r5_sroa_4_0, a3);
+    r53 = r51.f1;
+    r57_not = a3 > r53;
+    if (r57_not) { goto at__join_11; }
+    { r0_sroa_6_0 = r53; r36_pn = r51; goto at__return_5; }
     at__join_11:;
-    r66 = (uint32_t)(r54 - r39);
-    r1_2 = (uint64_t)((uint64_t)(int32_t)r11);
+    r65 = (uint32_t)(r53 - r38);
+    r1625 = (uint32_t)(r5_sroa_4_0 - r5_sroa_4_023);
+    v4 = (uint32_t)(r53 ^ 4294967295u);
+    r27_2 = (uint32_t)(a3 + v4);
+    r4 = r16_2 == UINT64_C(0);
+    if (r4) { goto at__trap_1; }
+    goto at__ok_2;
+    at__ok_2:;
+    r23 = (uint32_t)(r11 - r5_sroa_4_0);
+    r5 = (uint32_t)(r23 / r1625);
+    r6_2 = r53 == r38;
+    if (r6_2) { { common_ret_op = r5; goto at__chrono_rules_search_first_members_whole_times_exit_i; } }
+    goto at__ok_6;
+    at__ok_6:;
+    r13 = (uint32_t)(r27_2 / r65);
+    a1_a0 = r13 < r5 ? r13 : r5;
+    {
+    common_ret_op = a1_a0;
+    goto at__chrono_rules_search_first_members_whole_times_exit_i;
+    }
+    at__trap_1:;
+    TRAP();
+    UNREACHABLE();
+    at__chrono_rules_search_first_members_whole_times_exit_i:;
+    r34 = (uint32_t)(common_ret_op * r1625);
+    r1_2 = (uint64_t)r34;
     sext = (uint64_t)(r6 << (UINT64_C(32) & 63u));
-    r1_i5 = (uint64_t)((int64_t)sext >> (UINT64_C(32) & 63u));
-    r236 = (uint64_t)(r4 + r1_i5);
-    r25_not7 = (int64_t)r236 <= (int64_t)r1_2;
-    r308 = (uint32_t)(a3 - r54);
-    r329 = r66 < r308;
-    or_cond10 = (uint8_t)(((uint32_t)r25_not7 & (uint32_t)r329) & 1);
-    if (or_cond10) { { r2312 = r236; r5_011 = r54; goto at__join_5; } }
-    { r4_sroa_0_0_lcssa = r5_sroa_4_0; r5_0_lcssa = r54; goto at__chrono_rules_rule_Rule_cycles_on_exit; }
-    at__join_5:;
-    r5_sroa_4_0_2 = (uint32_t)(r2312);
+    r1_3 = (uint64_t)((int64_t)sext >> (UINT64_C(32) & 63u));
+    r6_3 = (uint64_t)(r1_3 + r1_2);
+    r11_3 = (int64_t)r6_3 < (int64_t)UINT64_C(2147483648);
+    r5_sroa_4_0_2 = (uint32_t)(r6_3);
     v5 = (uint32_t)(r5_sroa_4_0_2 + 95746129u);
     or_cond_3 = v5 < 191491529u;
-    if (or_cond_3) { goto at__chrono_rules_search_periods_moved_exit_i; }
+    not_not_2 = r11_3 ? or_cond_3 : 0;
+    if (not_not_2) { goto at__chrono_rules_rule_Rule_cycles_on_exit; }
     goto at__arm_2_3;
     at__arm_2_3:;
     TRAP();
     UNREACHABLE();
-    at__chrono_rules_search_periods_moved_exit_i:;
-    r43 = (uint32_t)(r5_011 + r66);
-    r23 = (uint64_t)(r2312 + r4);
-    r25_not = (int64_t)r23 <= (int64_t)r1_2;
-    r30_2 = (uint32_t)(a3 - r43);
-    r32 = r66 < r30_2;
-    or_cond28 = r25_not ? r32 : 0;
-    if (or_cond28) { { r2312 = r23; r5_011 = r43; goto at__join_5; } }
-    { r4_sroa_0_0_lcssa = r5_sroa_4_0_2; r5_0_lcssa = r43; goto at__chrono_rules_rule_Rule_cycles_on_exit; }
     at__chrono_rules_rule_Rule_cycles_on_exit:;
-    r84 = chrono_rules_rule_Rule_members_from(a0, a1, r4_sroa_0_0_lcssa, r5_0_lcssa, a2, a3);
-    r86 = r84.f1;
+    r41 = (uint32_t)(common_ret_op * r65);
+    r43 = (uint32_t)(r41 + r53);
+    r82 = chrono_rules_rule_Rule_members_from(a0, a1, r5_sroa_4_0_2, r43, a2, a3);
+    r84 = r82.f1;
     {
-    r0_sroa_6_0 = r86;
-    r37_pn = r84;
+    r0_sroa_6_0 = r84;
+    r36_pn = r82;
     goto at__return_5;
     }
     at__return_5:;
-    r88_fca_1_insert = r37_pn;
-    r88_fca_1_insert.f1 = r0_sroa_6_0;
-    return r88_fca_1_insert;
+    r86_fca_1_insert = r36_pn;
+    r86_fca_1_insert.f1 = r0_sroa_6_0;
+    return r86_fca_1_insert;
+}
+
+static uint64_t chrono_rules_rule_Rule_cycle(bytes a0)
+{
+    uint64_t r1_05, r3_04, r1_05_i3, r3_04_i4, r1_05_i_i_i15, r3_04_i_i_i16, r1_05_i3_i_i28, r3_04_i4_i_i29, sink, a0_val, r2_sroa_0_0_copyload, r3_sroa_0_0_copyload, r18, r25, r28, r30, r18_i5, r25_i7, r28_i8, r30_i9, r2_sroa_0_0_copyload_i10, a0_val_i1, r2_sroa_0_0_copyload_i_i6, r3_sroa_0_0_copyload_i_i10, r18_i_i_i17, r25_i_i_i19, r28_i_i_i20, r30_i_i_i21, r18_i5_i_i30, r25_i7_i_i32, r28_i8_i_i33, r30_i9_i_i34, r2_sroa_0_0_copyload_i10_i40, r3_sroa_0_0_copyload_i15_i44, r1, r17;
+    uint32_t r15_i_sink, narrow7, r1_0, r1_05_2, r2_04, a0_val_2, narrow, a0_val35, narrow6, a0_val310, narrow11, a0_val3, narrow_2, r21, r15;
+    uint8_t r2, r3, r3_i_i4, r3_i2, exitcond_not, r32, exitcond_not_i10, r32_i11, r3_i_i11, r3_i_i_i2, r3_i_i4_i7, r3_i2_i_i11, exitcond_not_i_i_i22, r32_i_i_i24, exitcond_not_i10_i_i35, r32_i11_i_i37, r3_i_i11_i41, r3_i2_i16_i45, r13_not;
+    bytes v0, r4, r10, r4_i5, r22, r10_i8, r22_i6, r4_i9, v1, r4_i_i5, r10_i_i9, r4_i5_i13, r22_i_i_i18, r10_i8_i26, r22_i6_i_i31, r4_i9_i39, r10_i14_i43, v2, v3, v4, v5;
+    LOAD(uint8_t, r2, a0);
+    switch (r2) {
+    case 0: goto at__arm_1;
+    case 1: goto at__arm_2;
+    case 2: goto at__join_3;
+    case 3: goto at__join_3;
+    default: goto at__noarm_5;
+    }
+    at__arm_1:;
+    v0 = (a0 + 16);
+    LOAD(uint64_t, a0_val, v0);
+    r3 = a0_val == UINT64_C(0);
+    if (r3) { goto at__else_4; }
+    goto at__join_3_thread;
+    at__else_4:;
+    r4 = (a0 + 24);
+    LOAD(uint64_t, r2_sroa_0_0_copyload, r4);
+    r3_i_i4 = r2_sroa_0_0_copyload == UINT64_C(0);
+    if (r3_i_i4) { goto at__chrono_rules_rule_Rule_lacks_month_days_exit_i_i; }
+    goto at__join_3_thread;
+    at__chrono_rules_rule_Rule_lacks_month_days_exit_i_i:;
+    r10 = (a0 + 32);
+    LOAD(uint64_t, r3_sroa_0_0_copyload, r10);
+    r3_i2 = r3_sroa_0_0_copyload == UINT64_C(0);
+    if (r3_i2) { goto at__after_1; }
+    goto at__join_3_thread;
+    at__after_1:;
+    r4_i5 = (a0 + 160);
+    {
+    r1_05 = UINT64_C(0);
+    r3_04 = UINT64_C(0);
+    goto at__join_5;
+    }
+    at__join_5:;
+    r18 = (uint64_t)(r3_04 << (UINT64_C(3) & 63u));
+    r22 = (r4_i5 + (int64_t)r18);
+    LOAD(uint64_t, r25, r22);
+    r28 = (uint64_t)(r25 | r1_05);
+    r30 = (uint64_t)(r3_04 + UINT64_C(1));
+    exitcond_not = r30 == UINT64_C(6);
+    if (exitcond_not) { goto at__chrono_sets_place_set_PlaceSet_is_empty_exit_i_i_i; }
+    { r1_05 = r28; r3_04 = r30; goto at__join_5; }
+    at__chrono_sets_place_set_PlaceSet_is_empty_exit_i_i_i:;
+    r32 = r28 == UINT64_C(0);
+    if (r32) { goto at__then_1_i7; }
+    goto at__join_3_thread;
+    at__then_1_i7:;
+    r10_i8 = (a0 + 208);
+    {
+    r1_05_i3 = UINT64_C(0);
+    r3_04_i4 = UINT64_C(0);
+    goto at__join_5_i2;
+    }
+    at__join_5_i2:;
+    r18_i5 = (uint64_t)(r3_04_i4 << (UINT64_C(3) & 63u));
+    r22_i6 = (r10_i8 + (int64_t)r18_i5);
+    LOAD(uint64_t, r25_i7, r22_i6);
+    r28_i8 = (uint64_t)(r25_i7 | r1_05_i3);
+    r30_i9 = (uint64_t)(r3_04_i4 + UINT64_C(1));
+    exitcond_not_i10 = r30_i9 == UINT64_C(6);
+    if (exitcond_not_i10) { goto at__chrono_rules_rule_Rule_lacks_year_days_exit_i_i; }
+    { r1_05_i3 = r28_i8; r3_04_i4 = r30_i9; goto at__join_5_i2; }
+    at__chrono_rules_rule_Rule_lacks_year_days_exit_i_i:;
+    r32_i11 = r28_i8 == UINT64_C(0);
+    if (r32_i11) { goto at__then_11; }
+    goto at__join_3_thread;
+    at__then_11:;
+    r4_i9 = (a0 + 256);
+    LOAD(uint64_t, r2_sroa_0_0_copyload_i10, r4_i9);
+    r3_i_i11 = r2_sroa_0_0_copyload_i10 == UINT64_C(0);
+    if (r3_i_i11) { goto at__chrono_rules_rule_Rule_repeats_by_weeks_exit; }
+    goto at__join_3_thread;
+    at__arm_2:;
+    v1 = (a0 + 16);
+    LOAD(uint64_t, a0_val_i1, v1);
+    r3_i_i_i2 = a0_val_i1 == UINT64_C(0);
+    if (r3_i_i_i2) { goto at__else_4_i4; }
+    goto at__join_3_thread9;
+    at__else_4_i4:;
+    r4_i_i5 = (a0 + 24);
+    LOAD(uint64_t, r2_sroa_0_0_copyload_i_i6, r4_i_i5);
+    r3_i_i4_i7 = r2_sroa_0_0_copyload_i_i6 == UINT64_C(0);
+    if (r3_i_i4_i7) { goto at__chrono_rules_rule_Rule_lacks_month_days_exit_i8_i; }
+    goto at__join_3_thread9;
+    at__chrono_rules_rule_Rule_lacks_month_days_exit_i8_i:;
+    r10_i_i9 = (a0 + 32);
+    LOAD(uint64_t, r3_sroa_0_0_copyload_i_i10, r10_i_i9);
+    r3_i2_i_i11 = r3_sroa_0_0_copyload_i_i10 == UINT64_C(0);
+    if (r3_i2_i_i11) { goto at__after_1_i12; }
+    goto at__join_3_thread9;
+    at__after_1_i12:;
+    r4_i5_i13 = (a0 + 160);
+    {
+    r1_05_i_i_i15 = UINT64_C(0);
+    r3_04_i_i_i16 = UINT64_C(0);
+    goto at__join_5_i_i_i14;
+    }
+    at__join_5_i_i_i14:;
+    r18_i_i_i17 = (uint64_t)(r3_04_i_i_i16 << (UINT64_C(3) & 63u));
+    r22_i_i_i18 = (r4_i5_i13 + (int64_t)r18_i_i_i17);
+    LOAD(uint64_t, r25_i_i_i19, r22_i_i_i18);
+    r28_i_i_i20 = (uint64_t)(r25_i_i_i19 | r1_05_i_i_i15);
+    r30_i_i_i21 = (uint64_t)(r3_04_i_i_i16 + UINT64_C(1));
+    exitcond_not_i_i_i22 = r30_i_i_i21 == UINT64_C(6);
+    if (exitcond_not_i_i_i22) { goto at__chrono_sets_place_set_PlaceSet_is_empty_exit_i_i23_i; }
+    { r1_05_i_i_i15 = r28_i_i_i20; r3_04_i_i_i16 = r30_i_i_i21; goto at__join_5_i_i_i14; }
+    at__chrono_sets_place_set_PlaceSet_is_empty_exit_i_i23_i:;
+    r32_i_i_i24 = r28_i_i_i20 == UINT64_C(0);
+    if (r32_i_i_i24) { goto at__then_1_i7_i25; }
+    goto at__join_3_thread9;
+    at__then_1_i7_i25:;
+    r10_i8_i26 = (a0 + 208);
+    {
+    r1_05_i3_i_i28 = UINT64_C(0);
+    r3_04_i4_i_i29 = UINT64_C(0);
+    goto at__join_5_i2_i_i27;
+    }
+    at__join_5_i2_i_i27:;
+    r18_i5_i_i30 = (uint64_t)(r3_04_i4_i_i29 << (UINT64_C(3) & 63u));
+    r22_i6_i_i31 = (r10_i8_i26 + (int64_t)r18_i5_i_i30);
+    LOAD(uint64_t, r25_i7_i_i32, r22_i6_i_i31);
+    r28_i8_i_i33 = (uint64_t)(r25_i7_i_i32 | r1_05_i3_i_i28);
+    r30_i9_i_i34 = (uint64_t)(r3_04_i4_i_i29 + UINT64_C(1));
+    exitcond_not_i10_i_i35 = r30_i9_i_i34 == UINT64_C(6);
+    if (exitcond_not_i10_i_i35) { goto at__chrono_rules_rule_Rule_lacks_year_days_exit_i36_i; }
+    { r1_05_i3_i_i28 = r28_i8_i_i33; r3_04_i4_i_i29 = r30_i9_i_i34; goto at__join_5_i2_i_i27; }
+    at__chrono_rules_rule_Rule_lacks_year_days_exit_i36_i:;
+    r32_i11_i_i37 = r28_i8_i_i33 == UINT64_C(0);
+    if (r32_i11_i_i37) { goto at__then_11_i38; }
+    goto at__join_3_thread9;
+    at__then_11_i38:;
+    r4_i9_i39 = (a0 + 256);
+    LOAD(uint64_t, r2_sroa_0_0_copyload_i10_i40, r4_i9_i39);
+    r3_i_i11_i41 = r2_sroa_0_0_copyload_i10_i40 == UINT64_C(0);
+    if (r3_i_i11_i41) { goto at__chrono_rules_rule_Rule_repeats_by_weeks_exit; }
+    goto at__join_3_thread9;
+    at__noarm_5:;
+    UNREACHABLE();
+    at__chrono_rules_rule_Rule_repeats_by_weeks_exit:;
+    r10_i14_i43 = (a0 + 264);
+    LOAD(uint64_t, r3_sroa_0_0_copyload_i15_i44, r10_i14_i43);
+    r3_i2_i16_i45 = r3_sroa_0_0_copyload_i15_i44 == UINT64_C(0);
+    if (r3_i2_i16_i45) { goto at__then_1; }
+    goto at__join_3;
+    at__common_ret:;
+    r1 = (uint64_t)r15_i_sink;
+    r17 = (uint64_t)(sink * r1);
+    return r17;
+    at__then_1:;
+    v2 = (a0 + 4);
+    LOAD(uint32_t, a0_val_2, v2);
+    narrow = a0_val_2 > 1 ? a0_val_2 : 1;
+    {
+    r15_i_sink = narrow;
+    sink = UINT64_C(7);
+    goto at__common_ret;
+    }
+    at__join_3_thread:;
+    v3 = (a0 + 4);
+    LOAD(uint32_t, a0_val35, v3);
+    narrow6 = a0_val35 > 1 ? a0_val35 : 1;
+    {
+    narrow7 = narrow6;
+    r1_0 = 146097u;
+    goto at__chrono_rules_rule_Rule_periods_of_400_years_exit_i;
+    }
+    at__join_3_thread9:;
+    v4 = (a0 + 4);
+    LOAD(uint32_t, a0_val310, v4);
+    narrow11 = a0_val310 > 1 ? a0_val310 : 1;
+    {
+    narrow7 = narrow11;
+    r1_0 = 20871u;
+    goto at__chrono_rules_rule_Rule_periods_of_400_years_exit_i;
+    }
+    at__join_3:;
+    v5 = (a0 + 4);
+    LOAD(uint32_t, a0_val3, v5);
+    narrow_2 = a0_val3 > 1 ? a0_val3 : 1;
+    switch (r2) {
+    case 0: { narrow7 = narrow_2; r1_0 = 146097u; goto at__chrono_rules_rule_Rule_periods_of_400_years_exit_i; }
+    case 1: goto at__arm_2_2;
+    case 2: goto at__arm_3;
+    case 3: goto at__arm_4;
+    default: goto at__noarm_5_2;
+    }
+    at__arm_2_2:;
+    {
+    narrow7 = narrow_2;
+    r1_0 = 20871u;
+    goto at__chrono_rules_rule_Rule_periods_of_400_years_exit_i;
+    }
+    at__arm_3:;
+    {
+    narrow7 = narrow_2;
+    r1_0 = 4800u;
+    goto at__chrono_rules_rule_Rule_periods_of_400_years_exit_i;
+    }
+    at__arm_4:;
+    {
+    narrow7 = narrow_2;
+    r1_0 = 400u;
+    goto at__chrono_rules_rule_Rule_periods_of_400_years_exit_i;
+    }
+    at__noarm_5_2:;
+    UNREACHABLE();
+    at__chrono_rules_rule_Rule_periods_of_400_years_exit_i:;
+    {
+    r1_05_2 = narrow7;
+    r2_04 = r1_0;
+    goto at__ok_8;
+    }
+    at__ok_8:;
+    r21 = (uint32_t)(r1_05_2 % r2_04);
+    r13_not = r21 == 0;
+    if (r13_not) { goto at__chrono_rules_rule_Rule_rounds_exit; }
+    { r1_05_2 = r2_04; r2_04 = r21; goto at__ok_8; }
+    at__chrono_rules_rule_Rule_rounds_exit:;
+    r15 = (uint32_t)(narrow7 / r2_04);
+    {
+    r15_i_sink = r15;
+    sink = UINT64_C(146097);
+    goto at__common_ret;
+    }
 }
 
 static t_struct_i32_i32_end chrono_rules_rule_Rule_members_from(bytes a0, uint32_t a1, uint32_t a2, uint32_t a3, uint32_t a4, uint32_t a5)
@@ -34083,7 +34340,7 @@ static t_struct_i32_i32_end chrono_rules_rule_Rule_members_from(bytes a0, uint32
     r17_2 = chrono_rules_rule_Rule_to_period_end(a0, r26);
     r1_i3 = (uint64_t)((uint64_t)(int32_t)r26);
     r28_i_i3 = (uint64_t)(r1 - r1_i3);
-    r28_r17 = (int64_t)r28_i_i3 < (int64_t)r17_2 ? r28_i_i3 : r17_2;
+    r28_r17 = (uint64_t)LESSER64((int64_t)r28_i_i3, (int64_t)r17_2);
     r2526 = (int64_t)r28_r17 > (int64_t)UINT64_C(0);
     if (r2526) { { r8_031 = UINT64_C(0); r7_sroa_4_030 = r7_016; r7_sroa_0_029 = 0; goto at__join_5_4; } }
     { r7_sroa_4_0_lcssa = r7_016; r8_0_lcssa = UINT64_C(0); goto at__after_1_2; }
@@ -34386,7 +34643,7 @@ static t_struct_i8_i32_end chrono_rules_rule_Rule_first_between(bytes a0, uint32
     r12_2 = (a0 + 12);
     LOAD(uint32_t, r4_sroa_0_0_copyload, r12_2);
     r16 = (uint32_t)(r4_sroa_0_0_copyload + 1);
-    r16_a1 = (int32_t)r16 < (int32_t)a3 ? r16 : a3;
+    r16_a1 = (uint32_t)LESSER32((int32_t)r16, (int32_t)a3);
     {
     r3_0 = r16_a1;
     goto at__chrono_rules_rule_Rule_end_before_exit;
@@ -34493,7 +34750,7 @@ static t_struct_i8_i32_end chrono_rules_rule_Rule_first_between(bytes a0, uint32
     at__noarm_5_2:;
     UNREACHABLE();
     at__chrono_rules_rule_Rule_period_of_start_exit:;
-    r12_sroa_0_0_sroa_speculated = (int32_t)a1 > (int32_t)a2 ? a1 : a2;
+    r12_sroa_0_0_sroa_speculated = (uint32_t)GREATER32((int32_t)a1, (int32_t)a2);
     spec_select_4 = (uint64_t)r6_2;
     r16_4 = (a0 + 368);
     v8 = (a0 + 16);
@@ -36420,11 +36677,11 @@ static uint32_t in_calendar_rule_next(bytes a0, uint64_t a1, uint32_t a2, uint32
 
 static t_struct_i8_i32_end chrono_rules_rule_Rule_next_after(bytes a0, uint32_t a1, uint32_t a2)
 {
-    uint32_t r0_sroa_5_0, common_ret_op, r0_sroa_6_0, r9, r6, v1, r12_sroa_0_0_sroa_speculated, a0_val, narrow, r5_sroa_4_0, v3, r24, r35, spec_select14, r65, mux, r12, r28, spec_select;
-    uint8_t r0_sroa_0_sroa_0_0_i10, r0_sroa_0_sroa_0_0_shrunk, r4, v0, r11_i_not, or_cond, or_cond_2, r49, or_cond_3, r23, v4, r34, v5, spec_select4, r64, v6, brmerge, not, r19_not, r19, r0_sroa_0_sroa_0_0;
+    uint32_t r0_sroa_5_0, common_ret_op, r0_sroa_6_0, r9, r6, v1, r12_sroa_0_0_sroa_speculated, r5_sroa_4_0, v2, r24, r35, spec_select14, r65, mux, r12, r28, spec_select;
+    uint8_t r0_sroa_0_sroa_0_0_i10, r0_sroa_0_sroa_0_0_shrunk, r4, v0, r11_i_not, or_cond, or_cond_2, r49, or_cond_3, r23, v3, r34, v4, spec_select4, r64, v5, brmerge, not, r19_not, r19, r0_sroa_0_sroa_0_0;
     t_struct_i8_i32_end r22_pn, r22, r33, r54_fca_0_insert, r54_fca_1_insert, r29, r95_fca_0_insert, r95_fca_1_insert;
-    bytes r3, r8, v2, r1121;
-    uint64_t spec_select_2, r4_2, r1, r18, r6_2;
+    bytes r3, r8, r1121;
+    uint64_t r16, r1, r18, r6_2;
     t_struct_i32_i32_end r26;
     r3 = (a0 + 8);
     LOAD(uint8_t, r4, r3);
@@ -36444,18 +36701,14 @@ static t_struct_i8_i32_end chrono_rules_rule_Rule_next_after(bytes a0, uint32_t 
     if (or_cond) { goto at__arm_5; }
     { r0_sroa_6_0 = 0; r0_sroa_0_sroa_0_0_shrunk = 0; goto at__return_4; }
     at__arm_5:;
-    r12_sroa_0_0_sroa_speculated = (int32_t)a1 > (int32_t)r6 ? a1 : r6;
-    v2 = (a0 + 4);
-    LOAD(uint32_t, a0_val, v2);
-    narrow = a0_val > 1 ? a0_val : 1;
-    spec_select_2 = (uint64_t)narrow;
-    r4_2 = (uint64_t)(spec_select_2 * UINT64_C(146097));
+    r12_sroa_0_0_sroa_speculated = (uint32_t)GREATER32((int32_t)a1, (int32_t)r6);
+    r16 = chrono_rules_rule_Rule_cycle(a0);
     r1 = (uint64_t)((uint64_t)(int32_t)r12_sroa_0_0_sroa_speculated);
     r18 = (uint64_t)(r1 + UINT64_C(366));
-    r6_2 = (uint64_t)(r18 + r4_2);
+    r6_2 = (uint64_t)(r18 + r16);
     r5_sroa_4_0 = (uint32_t)(r6_2);
-    v3 = (uint32_t)(r5_sroa_4_0 + 95746129u);
-    or_cond_2 = v3 < 191491529u;
+    v2 = (uint32_t)(r5_sroa_4_0 + 95746129u);
+    or_cond_2 = v2 < 191491529u;
     r49 = (int64_t)r6_2 < (int64_t)UINT64_C(95745035);
     or_cond_3 = r49 ? or_cond_2 : 0;
     if (or_cond_3) { goto at__arm_1; }
@@ -36463,8 +36716,8 @@ static t_struct_i8_i32_end chrono_rules_rule_Rule_next_after(bytes a0, uint32_t 
     at__arm_1:;
     r22 = chrono_rules_rule_Rule_first_between(a0, a1, r6, r5_sroa_4_0);
     r23 = r22.f0;
-    v4 = r23 == 1;
-    if (v4) { goto at__arm_1_i11; }
+    v3 = r23 == 1;
+    if (v3) { goto at__arm_1_i11; }
     goto at__join_4;
     at__arm_1_i11:;
     r24 = r22.f1;
@@ -36477,9 +36730,9 @@ static t_struct_i8_i32_end chrono_rules_rule_Rule_next_after(bytes a0, uint32_t 
     r33 = chrono_rules_rule_Rule_first_between(a0, a1, 95745034u, 95745400u);
     r34 = r33.f0;
     r35 = r33.f1;
-    v5 = r34 == 1;
-    spec_select14 = v5 ? r35 : 0;
-    spec_select4 = (uint8_t)v5;
+    v4 = r34 == 1;
+    spec_select14 = v4 ? r35 : 0;
+    spec_select4 = (uint8_t)v4;
     {
     r0_sroa_5_0 = spec_select14;
     r0_sroa_0_sroa_0_0_i10 = spec_select4;
@@ -36503,10 +36756,10 @@ static t_struct_i8_i32_end chrono_rules_rule_Rule_next_after(bytes a0, uint32_t 
     at__chrono_rules_rule_Rule_first_member_exit:;
     r64 = r22_pn.f0;
     r65 = r22_pn.f1;
-    v6 = r64 != 1;
-    brmerge = (uint8_t)(((uint32_t)v0 | (uint32_t)v6) & 1);
-    mux = v6 ? 0 : r65;
-    not = (uint8_t)(((uint32_t)v6 ^ (uint32_t)1) & 1);
+    v5 = r64 != 1;
+    brmerge = (uint8_t)(((uint32_t)v0 | (uint32_t)v5) & 1);
+    mux = v5 ? 0 : r65;
+    not = (uint8_t)(((uint32_t)v5 ^ (uint32_t)1) & 1);
     if (brmerge) { { r0_sroa_6_0 = mux; r0_sroa_0_sroa_0_0_shrunk = not; goto at__return_4; } }
     goto at__arm_320;
     at__arm_320:;
@@ -36596,12 +36849,12 @@ static uint32_t in_calendar_rule_prev(bytes a0, uint64_t a1, uint32_t a2, uint32
 
 static t_struct_i8_i32_end chrono_rules_rule_Rule_prev_before(bytes a0, uint32_t a1, uint32_t a2)
 {
-    uint32_t r6_sroa_0_0, storemerge, spec_select_2, r0_sroa_6_0, r9, r27, r26, spec_select, r7_sroa_0_0_copyload, r6, v2, a0_val, narrow, r5_sroa_4_0, v5, r10_sroa_0_0, v8, r5_sroa_4_0_2, v11, r18_sroa_0_0, a1_i_pn_2, v15, r6_4, r53, a1_i_pn, v18, r6_5;
+    uint32_t r6_sroa_0_0, storemerge, spec_select_2, r0_sroa_6_0, r9, r27, r26, spec_select, r7_sroa_0_0_copyload, r6, v2, r5_sroa_4_0, v5, r10_sroa_0_0, v8, r5_sroa_4_0_2, v11, r18_sroa_0_0, a1_i_pn_2, v15, r6_4, r53, a1_i_pn, v18, r6_5;
     t_struct_i8_i32_end r34_i_pn, r34_i_pn_2, r14, r34, r14_2, r34_2, r78_fca_0_insert, r78_fca_1_insert;
-    uint8_t r0_sroa_0_sroa_0_0, r6_2, v0, r19_not, or_cond, r31, v1, r272, or_cond_2, r11, or_cond_3, v6, v7, or_cond_4, r23, r11_2, or_cond_i_i_i_i_i_i13, v12, v13, or_cond_5, r15, v14, or_cond_6, r35, v16, r15_i14, v17, or_cond_7, r35_2, v19, spec_select27;
-    bytes r5, r8, r18, v3;
+    uint8_t r0_sroa_0_sroa_0_0, r6_2, v0, r19_not, or_cond, r31, v1, r272, or_cond_2, v3, r11, or_cond_i_not3_not4, or_cond_3, v6, v7, or_cond_4, r23, r11_2, or_cond_i_i_i_i_i_i14, v12, v13, or_cond_5, r15, v14, or_cond_6, r35, v16, r15_i15, v17, or_cond_7, r35_2, v19, spec_select28;
+    bytes r5, r8, r18;
     t_struct_i32_i32_end r25;
-    uint64_t spec_select_3, r4_i_neg, r1, r19, r6_3, v4, v9, r1_i5, reass_add, r6_i_i_i_i_i_i12, v10;
+    uint64_t r16_i12, r1, reass_sub, r6_3, v4, v9, r1_i5, reass_add, r6_i_i_i_i_i_i13, v10;
     r5 = (a0 + 8);
     LOAD(uint8_t, r6_2, r5);
     v0 = r6_2 == 1;
@@ -36641,22 +36894,20 @@ static t_struct_i8_i32_end chrono_rules_rule_Rule_prev_before(bytes a0, uint32_t
     TRAP();
     UNREACHABLE();
     at__chrono_rules_rule_Rule_end_of_until_exit_i:;
-    v3 = (a0 + 4);
-    LOAD(uint32_t, a0_val, v3);
-    narrow = a0_val > 1 ? a0_val : 1;
-    spec_select_3 = (uint64_t)narrow;
-    r4_i_neg = (uint64_t)(spec_select_3 * UINT64_C(18446744073709405519));
+    r16_i12 = chrono_rules_rule_Rule_cycle(a0);
     r1 = (uint64_t)((uint64_t)(int32_t)r6_sroa_0_0);
-    r19 = (uint64_t)(r1 + UINT64_C(18446744073709551250));
-    r6_3 = (uint64_t)(r19 + r4_i_neg);
-    v4 = (uint64_t)(r6_3 + UINT64_C(2147483648));
+    reass_sub = (uint64_t)(r1 - r16_i12);
+    r6_3 = (uint64_t)(reass_sub + UINT64_C(18446744073709551250));
+    v3 = (int64_t)r6_3 < (int64_t)r1;
+    v4 = (uint64_t)(reass_sub + UINT64_C(2147483282));
     r11 = v4 < UINT64_C(4294967296);
+    or_cond_i_not3_not4 = (uint8_t)(((uint32_t)v3 & (uint32_t)r11) & 1);
     r5_sroa_4_0 = (uint32_t)(r6_3);
     v5 = (uint32_t)(r5_sroa_4_0 + 95746129u);
     or_cond_3 = v5 < 191491529u;
     v6 = (int32_t)a1 < (int32_t)r5_sroa_4_0;
     v7 = (uint8_t)(((uint32_t)v6 & (uint32_t)or_cond_3) & 1);
-    or_cond_4 = r11 ? v7 : 0;
+    or_cond_4 = or_cond_i_not3_not4 ? v7 : 0;
     r10_sroa_0_0 = or_cond_4 ? r5_sroa_4_0 : a1;
     v8 = (uint32_t)(r6_sroa_0_0 ^ 4294967295u);
     v9 = (uint64_t)((uint64_t)(int32_t)v8);
@@ -36671,14 +36922,14 @@ static t_struct_i8_i32_end chrono_rules_rule_Rule_prev_before(bytes a0, uint32_t
     at__join_5:;
     r1_i5 = (uint64_t)((uint64_t)(int32_t)storemerge);
     reass_add = (uint64_t)(r1_i5 << (UINT64_C(1) & 63u));
-    r6_i_i_i_i_i_i12 = (uint64_t)(reass_add + v9);
-    v10 = (uint64_t)(r6_i_i_i_i_i_i12 + UINT64_C(2147483648));
+    r6_i_i_i_i_i_i13 = (uint64_t)(reass_add + v9);
+    v10 = (uint64_t)(r6_i_i_i_i_i_i13 + UINT64_C(2147483648));
     r11_2 = v10 < UINT64_C(4294967296);
-    r5_sroa_4_0_2 = (uint32_t)(r6_i_i_i_i_i_i12);
+    r5_sroa_4_0_2 = (uint32_t)(r6_i_i_i_i_i_i13);
     v11 = (uint32_t)(r5_sroa_4_0_2 + 95746129u);
-    or_cond_i_i_i_i_i_i13 = v11 < 191491529u;
+    or_cond_i_i_i_i_i_i14 = v11 < 191491529u;
     v12 = (int32_t)r10_sroa_0_0 < (int32_t)r5_sroa_4_0_2;
-    v13 = (uint8_t)(((uint32_t)v12 & (uint32_t)or_cond_i_i_i_i_i_i13) & 1);
+    v13 = (uint8_t)(((uint32_t)v12 & (uint32_t)or_cond_i_i_i_i_i_i14) & 1);
     or_cond_5 = r11_2 ? v13 : 0;
     r18_sroa_0_0 = or_cond_5 ? r5_sroa_4_0_2 : r10_sroa_0_0;
     r14 = chrono_rules_rule_Rule_first_between(a0, a1, r18_sroa_0_0, storemerge);
@@ -36705,8 +36956,8 @@ static t_struct_i8_i32_end chrono_rules_rule_Rule_prev_before(bytes a0, uint32_t
     at__join_8:;
     r53 = (uint32_t)(a1 + 366u);
     r14_2 = chrono_rules_rule_Rule_first_between(a0, a1, a1, r53);
-    r15_i14 = r14_2.f0;
-    v17 = r15_i14 == 1;
+    r15_i15 = r14_2.f0;
+    v17 = r15_i15 == 1;
     if (v17) { { r34_i_pn_2 = r14_2; goto at__loop_7_2; } }
     { spec_select_2 = 0; goto at__chrono_rules_rule_Rule_last_between_exit_i; }
     at__loop_7_2:;
@@ -36723,10 +36974,10 @@ static t_struct_i8_i32_end chrono_rules_rule_Rule_prev_before(bytes a0, uint32_t
     if (v19) { { r34_i_pn_2 = r34_2; goto at__loop_7_2; } }
     { spec_select_2 = a1_i_pn; goto at__chrono_rules_rule_Rule_last_between_exit_i; }
     at__chrono_rules_rule_Rule_last_between_exit_i:;
-    spec_select27 = (uint8_t)v17;
+    spec_select28 = (uint8_t)v17;
     {
     r0_sroa_6_0 = spec_select_2;
-    r0_sroa_0_sroa_0_0 = spec_select27;
+    r0_sroa_0_sroa_0_0 = spec_select28;
     goto at__chrono_rules_rule_Rule_last_member_exit;
     }
     at__chrono_rules_rule_Rule_last_member_exit:;
@@ -36753,7 +37004,7 @@ static uint32_t in_calendar_zone_fault_text(bytes a0, bytes a1, uint64_t a2)
     switch_gep = ((bytes)&switch_table_in_calendar_zone_fault_text + (int64_t)v1 * 8);
     LOAD(uint64_t, switch_load, switch_gep);
     v2 = (uint64_t)switch_tableidx;
-    switch_gep7 = ((bytes)&switch_table_in_calendar_zone_fault_text_286 + (int64_t)v2 * 8);
+    switch_gep7 = ((bytes)&switch_table_in_calendar_zone_fault_text_285 + (int64_t)v2 * 8);
     LOAD(bytes, switch_load8, switch_gep7);
     r16 = a2 < switch_load;
     if (r16) { { r6_0 = 2147483648u; goto at__join_4; } }
@@ -36790,7 +37041,7 @@ static uint32_t in_calendar_zone_fault_text(bytes a0, bytes a1, uint64_t a2)
 static uint32_t in_calendar_text_fault_text(bytes a0, bytes a1, uint64_t a2)
 {
     uint32_t switch_tableidx10_sink16, r6_0, r10, switch_tableidx, switch_tableidx10, r32;
-    bytes switch_table_in_calendar_text_fault_text_288_sink, switch_table_in_calendar_text_fault_text_289_sink, switch_gep12, switch_load13, switch_gep14, r20, r24;
+    bytes switch_table_in_calendar_text_fault_text_287_sink, switch_table_in_calendar_text_fault_text_288_sink, switch_gep12, switch_load13, switch_gep14, r20, r24;
     uint64_t r0_04, v2, v3, switch_load15, r8, r9, r10_2, r30;
     uint8_t r4, v0, v1, r161, r11, r26, exitcond_not;
     LOAD(uint32_t, r10, a0);
@@ -36800,19 +37051,19 @@ static uint32_t in_calendar_text_fault_text(bytes a0, bytes a1, uint64_t a2)
     at__then_1:;
     switch_tableidx = (uint32_t)(r10 + 4294967295u);
     v0 = switch_tableidx < 13u;
-    if (v0) { { switch_tableidx10_sink16 = switch_tableidx; switch_table_in_calendar_text_fault_text_288_sink = (bytes)&switch_table_in_calendar_text_fault_text; switch_table_in_calendar_text_fault_text_289_sink = (bytes)&switch_table_in_calendar_text_fault_text_287; goto at__arm_1; } }
+    if (v0) { { switch_tableidx10_sink16 = switch_tableidx; switch_table_in_calendar_text_fault_text_287_sink = (bytes)&switch_table_in_calendar_text_fault_text; switch_table_in_calendar_text_fault_text_288_sink = (bytes)&switch_table_in_calendar_text_fault_text_286; goto at__arm_1; } }
     { r6_0 = 2147483648u; goto at__join_4; }
     at__else_2:;
     switch_tableidx10 = (uint32_t)(r10 + 4294967282u);
     v1 = switch_tableidx10 < 13u;
-    if (v1) { { switch_tableidx10_sink16 = switch_tableidx10; switch_table_in_calendar_text_fault_text_288_sink = (bytes)&switch_table_in_calendar_text_fault_text_288; switch_table_in_calendar_text_fault_text_289_sink = (bytes)&switch_table_in_calendar_text_fault_text_289; goto at__arm_1; } }
+    if (v1) { { switch_tableidx10_sink16 = switch_tableidx10; switch_table_in_calendar_text_fault_text_287_sink = (bytes)&switch_table_in_calendar_text_fault_text_287; switch_table_in_calendar_text_fault_text_288_sink = (bytes)&switch_table_in_calendar_text_fault_text_288; goto at__arm_1; } }
     { r6_0 = 2147483648u; goto at__join_4; }
     at__arm_1:;
     v2 = (uint64_t)switch_tableidx10_sink16;
-    switch_gep12 = (switch_table_in_calendar_text_fault_text_288_sink + (int64_t)v2 * 8);
+    switch_gep12 = (switch_table_in_calendar_text_fault_text_287_sink + (int64_t)v2 * 8);
     LOAD(bytes, switch_load13, switch_gep12);
     v3 = (uint64_t)switch_tableidx10_sink16;
-    switch_gep14 = (switch_table_in_calendar_text_fault_text_289_sink + (int64_t)v3 * 8);
+    switch_gep14 = (switch_table_in_calendar_text_fault_text_288_sink + (int64_t)v3 * 8);
     LOAD(uint64_t, switch_load15, switch_gep14);
     r161 = a2 < switch_load15;
     if (r161) { { r6_0 = 2147483648u; goto at__join_4; } }
@@ -43123,7 +43374,7 @@ static void chrono_cron_schedule_Schedule_next_after(bytes a0, bytes a1, bytes a
     memset(a0, 0, UINT64_C(16));
     goto at__common_ret;
     at__arm_8:;
-    v16 = (int32_t)r1_sroa_0_0_copyload < (int32_t)95599301u ? r1_sroa_0_0_copyload : 95599301u;
+    v16 = (uint32_t)LESSER32((int32_t)r1_sroa_0_0_copyload, (int32_t)95599301u);
     sink = (uint32_t)(v16 + 146098u);
     not83 = (int32_t)r618 > (int32_t)sink;
     if (not83) { goto at__arm_12; }
@@ -45102,10 +45353,10 @@ static uint32_t in_calendar_rule_fault_text(bytes a0, bytes a1, uint64_t a2)
     LOAD(uint8_t, r18_sroa_0_0_copyload, r43);
     memset(r2, 0, UINT64_C(64));
     v1 = (uint64_t)r18_sroa_0_0_copyload;
-    switch_gep20 = ((bytes)&switch_table_in_calendar_rule_fault_text_293 + (int64_t)v1 * 8);
+    switch_gep20 = ((bytes)&switch_table_in_calendar_rule_fault_text_292 + (int64_t)v1 * 8);
     LOAD(uint64_t, switch_load21, switch_gep20);
     v2 = (uint64_t)r18_sroa_0_0_copyload;
-    switch_gep22 = ((bytes)&switch_table_in_calendar_rule_fault_text_294 + (int64_t)v2 * 8);
+    switch_gep22 = ((bytes)&switch_table_in_calendar_rule_fault_text_293 + (int64_t)v2 * 8);
     LOAD(bytes, switch_load23, switch_gep22);
     memcpy(r2, switch_load23, switch_load21);
     r21_i3 = (r2 + (int64_t)switch_load21);
@@ -45269,7 +45520,7 @@ static uint32_t in_calendar_rule_fault_text(bytes a0, bytes a1, uint64_t a2)
     switch_gep = ((bytes)&switch_table_in_calendar_rule_fault_text + (int64_t)v3 * 8);
     LOAD(uint64_t, switch_load, switch_gep);
     v4 = (uint64_t)r45_sroa_0_1_copyload;
-    switch_gep12 = ((bytes)&switch_table_in_calendar_rule_fault_text_290 + (int64_t)v4 * 8);
+    switch_gep12 = ((bytes)&switch_table_in_calendar_rule_fault_text_289 + (int64_t)v4 * 8);
     LOAD(bytes, switch_load13, switch_gep12);
     {
     r3_sroa_31_0 = switch_load;
@@ -45278,10 +45529,10 @@ static uint32_t in_calendar_rule_fault_text(bytes a0, bytes a1, uint64_t a2)
     }
     at__switch_lookup14:;
     v5 = (uint64_t)r45_sroa_0_1_copyload;
-    switch_gep15 = ((bytes)&switch_table_in_calendar_rule_fault_text_291 + (int64_t)v5 * 8);
+    switch_gep15 = ((bytes)&switch_table_in_calendar_rule_fault_text_290 + (int64_t)v5 * 8);
     LOAD(uint64_t, switch_load16, switch_gep15);
     v6 = (uint64_t)r45_sroa_0_1_copyload;
-    switch_gep17 = ((bytes)&switch_table_in_calendar_rule_fault_text_292 + (int64_t)v6 * 8);
+    switch_gep17 = ((bytes)&switch_table_in_calendar_rule_fault_text_291 + (int64_t)v6 * 8);
     LOAD(bytes, switch_load18, switch_gep17);
     {
     r3_sroa_31_0 = switch_load16;
@@ -45456,7 +45707,7 @@ static void layers_c_schedule_words_schedule_line(bytes a0, bytes a1)
     switch_gep = ((bytes)&switch_table_layers_c_schedule_words_schedule_line + (int64_t)v1 * 8);
     LOAD(uint64_t, switch_load, switch_gep);
     v2 = (uint64_t)r1_sroa_3_1_copyload;
-    switch_gep92 = ((bytes)&switch_table_layers_c_schedule_words_schedule_line_295 + (int64_t)v2 * 8);
+    switch_gep92 = ((bytes)&switch_table_layers_c_schedule_words_schedule_line_294 + (int64_t)v2 * 8);
     LOAD(bytes, switch_load93, switch_gep92);
     r10 = (r9 + 104);
     LOAD(uint64_t, r11, r10);
@@ -45611,10 +45862,10 @@ static void layers_c_schedule_words_schedule_line(bytes a0, bytes a1)
     r1642 = (uint64_t)(r1626 + UINT64_C(2));
     STORE(uint64_t, r1087, r1642);
     v9 = (uint64_t)r1_sroa_7_16_copyload;
-    switch_gep95 = ((bytes)&switch_table_layers_c_schedule_words_schedule_line_296 + (int64_t)v9 * 8);
+    switch_gep95 = ((bytes)&switch_table_layers_c_schedule_words_schedule_line_295 + (int64_t)v9 * 8);
     LOAD(uint64_t, switch_load96, switch_gep95);
     v10 = (uint64_t)r1_sroa_7_16_copyload;
-    switch_gep97 = ((bytes)&switch_table_layers_c_schedule_words_schedule_line_297 + (int64_t)v10 * 8);
+    switch_gep97 = ((bytes)&switch_table_layers_c_schedule_words_schedule_line_296 + (int64_t)v10 * 8);
     LOAD(bytes, switch_load98, switch_gep97);
     r2158 = (r9 + (int64_t)r1642);
     memcpy(r2158, switch_load98, switch_load96);
@@ -46303,11 +46554,11 @@ static uint8_t in_calendar_column_from_date32(bytes a0, uint64_t a1, bytes a2, u
 
 static uint64_t in_calendar_rule_instances(bytes a0, uint64_t a1, uint32_t a2, uint32_t a3, uint32_t a4, bytes a5, uint64_t a6)
 {
-    uint64_t common_ret_op, r7_019, r2_03, r3_02, r2_0_lcssa, r2_03_i_i_i_i11, r3_02_i_i_i_i12, r2_0_lcssa_i_i_i_i26, r7_013, r9_sroa_3_0_copyload, spec_select_3, r4_3, invariant_op, r13_sroa_3_0_copyload, r1_i10, reass_sub, r229, r25, r28_2, r30, r1, r11, r161, r4_4, r48, r31, r1_2, r6_i_i_i_i_i_i_i_i_i_i_i_i_reass, r1_i10_i_i_i_i8, reass_sub_i_i_i_i_i9, r229_i_i_i_i13, r25_i_i_i_i14, r28_i_i_i_i15, r30_i_i_i_i16, r1_i_i_i_i_i19, r11_i_i_i_i_i_i20, r161_i_i_i_i_i_i21, r4_i_i_i_i_i22, r48_i_i_i_i23, r31_i_i_i28, r49_3, r56;
-    uint32_t r9_sroa_8_0_r6_sroa_idx_promoted, r16_i_i1418, r39_i_i1517, r3_0, r2_sroa_0_0, v10, r0_sroa_5_0, r23_i_i_sink, r1_0_i_i_sink, v1, v2, v3, spec_select_2, r9, r28, r4_2, r9_2, a0_val, narrow, v7, r35_val, r13_sroa_0_0_copyload, r12_sroa_0_0_sroa_speculated, r5_sroa_4_0, v11, r24, r35_2, spec_select, r23, r1_0, r23_2, r3_0_r1_0, r35_val_i_i_i_i18, r13_sroa_0_0_copyload_i_i_i30, r6, v16, r49;
-    uint8_t r0_sroa_0_sroa_0_0_i10, r14, v0, or_cond, or_cond_i_i_i_i3, or_cond_2, r6_i2, v4, r19_not, or_cond3, r2616_not, r17_not1, r4, v5, r17_not1_i_i_i_i6, or_cond_3, r17_not, r26_2, r11_2, or_cond_not, or_cond_4, r49_2, or_cond_5, r23_3, v12, r34_2, v13, spec_select4, r22_2, v14, r106, r17_not_i_i_i_i24, r26_i_i_i27, r25_2, or_cond_6, not, exitcond_not;
+    uint64_t common_ret_op, r7_019, r2_03, r3_02, r2_0_lcssa, r2_03_i_i_i_i11, r3_02_i_i_i_i12, r2_0_lcssa_i_i_i_i26, r7_013, r9_sroa_3_0_copyload, r13_sroa_3_0_copyload, r1_i10, reass_sub, r229, r25, r28_2, r30, r1, r11, r161, r4_3, r48, r31, r16, r1_2, r18, r6_4, r1_i10_i_i_i_i8, reass_sub_i_i_i_i_i9, r229_i_i_i_i13, r25_i_i_i_i14, r28_i_i_i_i15, r30_i_i_i_i16, r1_i_i_i_i_i19, r11_i_i_i_i_i_i20, r161_i_i_i_i_i_i21, r4_i_i_i_i_i22, r48_i_i_i_i23, r31_i_i_i28, r49_3, r56;
+    uint32_t r9_sroa_8_0_r6_sroa_idx_promoted, r16_i_i1418, r39_i_i1517, r3_0, r2_sroa_0_0, v9, r0_sroa_5_0, r23_i_i_sink, r1_0_i_i_sink, v1, v2, v3, spec_select_2, r9, r28, r4_2, r9_2, v6, r35_val, r13_sroa_0_0_copyload, r12_sroa_0_0_sroa_speculated, r5_sroa_4_0, v10, r24, r35_2, spec_select, r23, r1_0, r23_2, r3_0_r1_0, r35_val_i_i_i_i18, r13_sroa_0_0_copyload_i_i_i30, r6, v15, r49;
+    uint8_t r0_sroa_0_sroa_0_0_i10, r14, v0, or_cond, or_cond_i_i_i_i3, or_cond_2, r6_i2, v4, r19_not, or_cond3, r2616_not, r17_not1, r4, v5, r17_not1_i_i_i_i6, or_cond_3, r17_not, r26_2, r11_2, or_cond_not, or_cond_4, r49_2, or_cond_5, r23_3, v11, r34_2, v12, spec_select4, r22_2, v13, r106, r17_not_i_i_i_i24, r26_i_i_i27, r25_2, or_cond_6, not, exitcond_not;
     t_struct_i8_i32_end r22_pn, r22, r33, r54_fca_0_insert, r54_fca_1_insert, r29;
-    bytes r6_2, r3, r62, r6_3, r9_sroa_5, r15, r4_sroa_3_0_r3_sroa_idx, r4_sroa_4_0_r3_sroa_idx, r4_sroa_5_0_r3_sroa_idx, r4_sroa_6_0_r3_sroa_idx, r4_sroa_7_0_r3_sroa_idx, r4_sroa_8_0_r3_sroa_idx, r5_i1, r8, r9_sroa_5_0_r6_sroa_idx, r9_sroa_6_0_r6_sroa_idx, r9_sroa_3_0_r6_sroa_idx, r9_sroa_4_0_r6_sroa_idx, r9_sroa_7_0_r6_sroa_idx, r9_sroa_8_0_r6_sroa_idx, r9_sroa_0_0_copyload, r9_sroa_3_0_r39_sroa_idx, r3_2, r8_2, v6, r13_sroa_3_0_r30_sroa_idx, r13_sroa_0_0_copyload_2, v8, r35, r34, v15, r35_i_i_i_i17, r34_i_i_i29, r52;
+    bytes r6_2, r3, r62, r6_3, r9_sroa_5, r15, r4_sroa_3_0_r3_sroa_idx, r4_sroa_4_0_r3_sroa_idx, r4_sroa_5_0_r3_sroa_idx, r4_sroa_6_0_r3_sroa_idx, r4_sroa_7_0_r3_sroa_idx, r4_sroa_8_0_r3_sroa_idx, r5_i1, r8, r9_sroa_5_0_r6_sroa_idx, r9_sroa_6_0_r6_sroa_idx, r9_sroa_3_0_r6_sroa_idx, r9_sroa_4_0_r6_sroa_idx, r9_sroa_7_0_r6_sroa_idx, r9_sroa_8_0_r6_sroa_idx, r9_sroa_0_0_copyload, r9_sroa_3_0_r39_sroa_idx, r3_2, r8_2, r13_sroa_3_0_r30_sroa_idx, r13_sroa_0_0_copyload_2, v7, r35, r34, v14, r35_i_i_i_i17, r34_i_i_i29, r52;
     t_struct_i32_i32_end r26;
     uint64_t room_r6_2[1];
     uint64_t room_r3[52];
@@ -46411,15 +46662,9 @@ static uint64_t in_calendar_rule_instances(bytes a0, uint64_t a1, uint32_t a2, u
     LOAD(uint8_t, r4, r3_2);
     v5 = r4 == 1;
     r8_2 = (r62 + 12);
-    v6 = (r62 + 4);
     r4_2 = (uint32_t)v5;
     r13_sroa_3_0_r30_sroa_idx = (r62 + 408);
     LOAD(uint32_t, r9_2, r8_2);
-    LOAD(uint32_t, a0_val, v6);
-    narrow = a0_val > 1 ? a0_val : 1;
-    spec_select_3 = (uint64_t)narrow;
-    r4_3 = (uint64_t)(spec_select_3 * UINT64_C(146097));
-    invariant_op = (uint64_t)(r4_3 + UINT64_C(366));
     LOAD(bytes, r13_sroa_0_0_copyload_2, r9_sroa_6_0_r6_sroa_idx);
     LOAD(uint64_t, r13_sroa_3_0_copyload, r13_sroa_3_0_r30_sroa_idx);
     r17_not1_i_i_i_i6 = r13_sroa_3_0_copyload == UINT64_C(0);
@@ -46430,8 +46675,8 @@ static uint64_t in_calendar_rule_instances(bytes a0, uint64_t a1, uint32_t a2, u
     goto at__join_5;
     }
     at__join_5:;
-    v7 = (uint32_t)(r16_i_i1418 + 95746129u);
-    or_cond_3 = v7 < 191491529u;
+    v6 = (uint32_t)(r16_i_i1418 + 95746129u);
+    or_cond_3 = v6 < 191491529u;
     if (or_cond_3) { { r3_0 = r39_i_i1517; r2_sroa_0_0 = r16_i_i1418; goto at__loop_2; } }
     { r7_013 = r7_019; goto at__layers_c_rules_write_instances_exit; }
     at__loop_2:;
@@ -46450,27 +46695,27 @@ static uint64_t in_calendar_rule_instances(bytes a0, uint64_t a1, uint32_t a2, u
     r25 = (uint64_t)(r3_02 - r229);
     r28_2 = (uint64_t)(r25 + r2_03);
     r30 = (uint64_t)(r28_2 << (UINT64_C(2) & 63u));
-    v8 = (r9_sroa_0_0_copyload + (int64_t)r30);
-    r35 = (v8 - 4);
+    v7 = (r9_sroa_0_0_copyload + (int64_t)r30);
+    r35 = (v7 - 4);
     LOAD(uint32_t, r35_val, r35);
     r1 = (uint64_t)((uint64_t)(int32_t)r35_val);
     r11 = (uint64_t)(reass_sub - r1);
     r161 = (uint64_t)(r11 >> (UINT64_C(62) & 63u));
-    r4_4 = (uint64_t)(r161 * r25);
-    r48 = (uint64_t)(r4_4 + r2_03);
+    r4_3 = (uint64_t)(r161 * r25);
+    r48 = (uint64_t)(r4_3 + r2_03);
     r17_not = r229 == UINT64_C(0);
     if (r17_not) { { r2_0_lcssa = r48; goto at__chrono_naive_rising_dates_RisingDates_count_before_exit_i_i_i_i_i_i_i; } }
     { r2_03 = r48; r3_02 = r229; goto at__join_5_2; }
     at__chrono_naive_rising_dates_RisingDates_count_before_exit_i_i_i_i_i_i_i:;
     r26_2 = r2_0_lcssa < r9_sroa_3_0_copyload;
-    if (r26_2) { goto at__9; }
-    { v10 = 0; goto at__chrono_rules_search_date_list_first_listed_exit_i_i_i_i_i; }
-    at__9:;
+    if (r26_2) { goto at__8; }
+    { v9 = 0; goto at__chrono_rules_search_date_list_first_listed_exit_i_i_i_i_i; }
+    at__8:;
     r31 = (uint64_t)(r2_0_lcssa << (UINT64_C(2) & 63u));
     r34 = (r9_sroa_0_0_copyload + (int64_t)r31);
     LOAD(uint32_t, r13_sroa_0_0_copyload, r34);
     {
-    v10 = r13_sroa_0_0_copyload;
+    v9 = r13_sroa_0_0_copyload;
     goto at__chrono_rules_search_date_list_first_listed_exit_i_i_i_i_i;
     }
     at__chrono_rules_search_date_list_first_listed_exit_i_i_i_i_i:;
@@ -46479,21 +46724,23 @@ static uint64_t in_calendar_rule_instances(bytes a0, uint64_t a1, uint32_t a2, u
     if (or_cond_not) { goto at__arm_2; }
     goto at__join_3_2;
     at__join_3_2:;
-    r12_sroa_0_0_sroa_speculated = (int32_t)a2 > (int32_t)r2_sroa_0_0 ? a2 : r2_sroa_0_0;
+    r12_sroa_0_0_sroa_speculated = (uint32_t)GREATER32((int32_t)a2, (int32_t)r2_sroa_0_0);
+    r16 = chrono_rules_rule_Rule_cycle(r62);
     r1_2 = (uint64_t)((uint64_t)(int32_t)r12_sroa_0_0_sroa_speculated);
-    r6_i_i_i_i_i_i_i_i_i_i_i_i_reass = (uint64_t)(invariant_op + r1_2);
-    r5_sroa_4_0 = (uint32_t)(r6_i_i_i_i_i_i_i_i_i_i_i_i_reass);
-    v11 = (uint32_t)(r5_sroa_4_0 + 95746129u);
-    or_cond_4 = v11 < 191491529u;
-    r49_2 = (int64_t)r6_i_i_i_i_i_i_i_i_i_i_i_i_reass < (int64_t)UINT64_C(95745035);
+    r18 = (uint64_t)(r1_2 + UINT64_C(366));
+    r6_4 = (uint64_t)(r18 + r16);
+    r5_sroa_4_0 = (uint32_t)(r6_4);
+    v10 = (uint32_t)(r5_sroa_4_0 + 95746129u);
+    or_cond_4 = v10 < 191491529u;
+    r49_2 = (int64_t)r6_4 < (int64_t)UINT64_C(95745035);
     or_cond_5 = r49_2 ? or_cond_4 : 0;
     if (or_cond_5) { goto at__arm_1_3; }
     goto at__arm_2_2;
     at__arm_1_3:;
     r22 = chrono_rules_rule_Rule_first_between(r62, a2, r2_sroa_0_0, r5_sroa_4_0);
     r23_3 = r22.f0;
-    v12 = r23_3 == 1;
-    if (v12) { goto at__arm_1_i11; }
+    v11 = r23_3 == 1;
+    if (v11) { goto at__arm_1_i11; }
     goto at__join_4;
     at__arm_1_i11:;
     r24 = r22.f1;
@@ -46506,9 +46753,9 @@ static uint64_t in_calendar_rule_instances(bytes a0, uint64_t a1, uint32_t a2, u
     r33 = chrono_rules_rule_Rule_first_between(r62, a2, 95745034u, 95745400u);
     r34_2 = r33.f0;
     r35_2 = r33.f1;
-    v13 = r34_2 == 1;
-    spec_select = v13 ? r35_2 : 0;
-    spec_select4 = (uint8_t)v13;
+    v12 = r34_2 == 1;
+    spec_select = v12 ? r35_2 : 0;
+    spec_select4 = (uint8_t)v12;
     {
     r0_sroa_5_0 = spec_select;
     r0_sroa_0_sroa_0_0_i10 = spec_select4;
@@ -46532,19 +46779,19 @@ static uint64_t in_calendar_rule_instances(bytes a0, uint64_t a1, uint32_t a2, u
     at__chrono_rules_rule_Rule_first_instance_exit_i_i_i_i_i:;
     r22_2 = r22_pn.f0;
     r23 = r22_pn.f1;
-    v14 = r22_2 == 1;
-    if (v14) { goto at__arm_1_4; }
+    v13 = r22_2 == 1;
+    if (v13) { goto at__arm_1_4; }
     goto at__arm_2;
     at__arm_1_4:;
     r1_0 = (uint32_t)(r3_0 + r4_2);
     if (r26_2) { goto at__arm_8; }
     { r23_i_i_sink = r23; r1_0_i_i_sink = r1_0; goto at__arm_3; }
     at__arm_2:;
-    if (r26_2) { { r23_i_i_sink = v10; r1_0_i_i_sink = r3_0; goto at__arm_3; } }
+    if (r26_2) { { r23_i_i_sink = v9; r1_0_i_i_sink = r3_0; goto at__arm_3; } }
     { r7_013 = r7_019; goto at__layers_c_rules_write_instances_exit; }
     at__arm_8:;
-    r106 = (int32_t)v10 < (int32_t)r23;
-    r23_2 = (int32_t)v10 < (int32_t)r23 ? v10 : r23;
+    r106 = (int32_t)v9 < (int32_t)r23;
+    r23_2 = (uint32_t)LESSER32((int32_t)v9, (int32_t)r23);
     r3_0_r1_0 = r106 ? r3_0 : r1_0;
     {
     r23_i_i_sink = r23_2;
@@ -46567,8 +46814,8 @@ static uint64_t in_calendar_rule_instances(bytes a0, uint64_t a1, uint32_t a2, u
     r25_i_i_i_i14 = (uint64_t)(r3_02_i_i_i_i12 - r229_i_i_i_i13);
     r28_i_i_i_i15 = (uint64_t)(r25_i_i_i_i14 + r2_03_i_i_i_i11);
     r30_i_i_i_i16 = (uint64_t)(r28_i_i_i_i15 << (UINT64_C(2) & 63u));
-    v15 = (r13_sroa_0_0_copyload_2 + (int64_t)r30_i_i_i_i16);
-    r35_i_i_i_i17 = (v15 - 4);
+    v14 = (r13_sroa_0_0_copyload_2 + (int64_t)r30_i_i_i_i16);
+    r35_i_i_i_i17 = (v14 - 4);
     LOAD(uint32_t, r35_val_i_i_i_i18, r35_i_i_i_i17);
     r1_i_i_i_i_i19 = (uint64_t)((uint64_t)(int32_t)r35_val_i_i_i_i18);
     r11_i_i_i_i_i_i20 = (uint64_t)(reass_sub_i_i_i_i_i9 - r1_i_i_i_i_i19);
@@ -46591,8 +46838,8 @@ static uint64_t in_calendar_rule_instances(bytes a0, uint64_t a1, uint32_t a2, u
     goto at__arm_64;
     at__join_9:;
     r6 = (uint32_t)(r23_i_i_sink + 1);
-    v16 = (uint32_t)(r23_i_i_sink + 95746130u);
-    or_cond_6 = v16 < 191491529u;
+    v15 = (uint32_t)(r23_i_i_sink + 95746130u);
+    or_cond_6 = v15 < 191491529u;
     if (or_cond_6) { { r3_0 = r1_0_i_i_sink; r2_sroa_0_0 = r6; goto at__loop_2; } }
     { r7_013 = r7_019; goto at__layers_c_rules_write_instances_exit; }
     at__arm_64:;
@@ -52330,6 +52577,853 @@ static uint32_t in_calendar_add_open_days_within(uint8_t a0, bytes a1, uint64_t 
     }
 }
 
+static uint8_t in_calendar_column_add_open_days_within(uint8_t a0, bytes a1, uint64_t a2, uint32_t a3, uint32_t a4, bytes a5, uint64_t a6, uint64_t a7, bytes a8, uint64_t a9)
+{
+    uint8_t common_ret_op, r29_not, r39, r1918_not, r27, or_cond, exitcond_not, spec_select_i23, r36_2, v1, r194_not, or_cond5, r25, r32, spec_select, r26, v3, r25_i19, r32_i20, spec_select_i21, exitcond_not_2;
+    uint64_t r22_0, r5_019, r6_05, r38, r36, r61, r24, r6, r8_2, r10_i4, r6_i_i_i_i_i_i14, r8_i_i_i_i_i_i15, r10_i4_i_i_i_i_i16, r43;
+    uint32_t r5_0, r41, v0, r29, v2, r5, r11, r13, r3, r71_i2, r10_2, r12, r6_2, r27_3, r5_i_i_i_i_i8, r11_i_i_i_i_i9, r13_i_i_i_i_i10, r3_i_i_i_i_i_i_i11, r71_i2_i_i_i_i_i_i12, r10_i_i_i_i_i_i13, r12_i_i_i_i_i_i17, r6_i_i_i_i_i18, v4;
+    bytes r10, r7, r8, r14_sroa_4, r37, r39_2, r58, r37_2, r27_2, r39_3;
+    t_struct_i8_i32_end r25_2;
+    uint64_t room_r10[5];
+    uint64_t room_r7[500];
+    uint64_t room_r8[4];
+    uint64_t room_r14_sroa_4[4];
+    r10 = (bytes)room_r10;
+    r7 = (bytes)room_r7;
+    r8 = (bytes)room_r8;
+    r14_sroa_4 = (bytes)room_r14_sroa_4;
+    memset(r7, 0, UINT64_C(4000));
+    r29_not = a9 == a6;
+    if (r29_not) { { r22_0 = UINT64_C(0); goto at__repeat_4; } }
+    { common_ret_op = 0; goto at__common_ret; }
+    at__common_ret_sink_split:;
+    {
+    common_ret_op = 0;
+    goto at__common_ret;
+    }
+    at__common_ret:;
+    return common_ret_op;
+    at__repeat_4:;
+    r37 = (r7 + (int64_t)r22_0);
+    STORE(uint32_t, r37, 4199221167u);
+    r38 = (uint64_t)(r22_0 + UINT64_C(4));
+    r39 = r38 == UINT64_C(4000);
+    if (r39) { goto at__filled_5; }
+    { r22_0 = r38; goto at__repeat_4; }
+    at__filled_5:;
+    memset(r10, 0, UINT64_C(40));
+    r1918_not = a2 == UINT64_C(0);
+    if (r1918_not) { goto at__arm_1; }
+    { r5_019 = UINT64_C(0); goto at__join_5; }
+    at__join_5:;
+    r27 = r5_019 == UINT64_C(1000);
+    if (r27) { goto at__common_ret_sink_split; }
+    goto at__join_8;
+    at__join_8:;
+    r36 = (uint64_t)(r5_019 << (UINT64_C(2) & 63u));
+    r39_2 = (a1 + (int64_t)r36);
+    LOAD(uint32_t, r41, r39_2);
+    v0 = (uint32_t)(r41 + 95746129u);
+    or_cond = v0 < 191491529u;
+    if (or_cond) { goto at__arm_9; }
+    goto at__common_ret_sink_split;
+    at__arm_9:;
+    r58 = (r7 + (int64_t)r36);
+    STORE(uint32_t, r58, r41);
+    r61 = (uint64_t)(r5_019 + UINT64_C(1));
+    exitcond_not = r61 == a2;
+    if (exitcond_not) { goto at__arm_1; }
+    { r5_019 = r61; goto at__join_5; }
+    at__arm_1:;
+    spec_select_i23 = (uint8_t)((uint32_t)a0 & (uint32_t)127u);
+    chrono_business_calendar_Calendar_try_new(r10, spec_select_i23, r7, a2);
+    LOAD(uint8_t, r36_2, r10);
+    v1 = r36_2 == 0;
+    if (v1) { goto at__arm_6; }
+    goto at__common_ret_sink_split;
+    at__arm_6:;
+    r37_2 = (r10 + 8);
+    memcpy(r14_sroa_4, r37_2, UINT64_C(32));
+    memcpy(r8, r14_sroa_4, UINT64_C(32));
+    r194_not = a9 == UINT64_C(0);
+    if (r194_not) { { common_ret_op = 1; goto at__common_ret; } }
+    { r6_05 = UINT64_C(0); goto at__join_5_2; }
+    at__join_5_2:;
+    r24 = (uint64_t)(r6_05 << (UINT64_C(2) & 63u));
+    r27_2 = (a5 + (int64_t)r24);
+    LOAD(uint32_t, r29, r27_2);
+    v2 = (uint32_t)(r29 + 95746129u);
+    or_cond5 = v2 < 191491529u;
+    if (or_cond5) { goto at__arm_1_2; }
+    { r5_0 = 2147483648u; goto at__layers_c_open_day_columns_within_moved_of_exit_i; }
+    at__arm_1_2:;
+    r5 = (uint32_t)(r29 << 2);
+    r11 = (uint32_t)(r5 + 383358527u);
+    r13 = (uint32_t)(r11 / 146097u);
+    r3 = (uint32_t)(r13 * 3);
+    r71_i2 = (uint32_t)(r3 + r11);
+    r10_2 = (uint32_t)(r71_i2 | 3);
+    r6 = (uint64_t)r10_2;
+    r8_2 = (uint64_t)(r6 * UINT64_C(376287347));
+    r10_i4 = (uint64_t)(r8_2 >> (UINT64_C(39) & 63u));
+    r12 = (uint32_t)(r10_i4);
+    r6_2 = (uint32_t)(r12 + 4294704897u);
+    r25 = (int32_t)a3 <= (int32_t)r6_2;
+    r32 = (int32_t)r6_2 <= (int32_t)a4;
+    spec_select = (uint8_t)(((uint32_t)r25 & (uint32_t)r32) & 1);
+    if (spec_select) { goto at__join_3; }
+    { r5_0 = 2147483648u; goto at__layers_c_open_day_columns_within_moved_of_exit_i; }
+    at__join_3:;
+    r25_2 = chrono_business_calendar_Calendar_add_open_days(r8, r29, a7);
+    r26 = r25_2.f0;
+    v3 = r26 == 1;
+    if (v3) { goto at__arm_5; }
+    { r5_0 = 2147483648u; goto at__layers_c_open_day_columns_within_moved_of_exit_i; }
+    at__arm_5:;
+    r27_3 = r25_2.f1;
+    r5_i_i_i_i_i8 = (uint32_t)(r27_3 << 2);
+    r11_i_i_i_i_i9 = (uint32_t)(r5_i_i_i_i_i8 + 383358527u);
+    r13_i_i_i_i_i10 = (uint32_t)(r11_i_i_i_i_i9 / 146097u);
+    r3_i_i_i_i_i_i_i11 = (uint32_t)(r13_i_i_i_i_i10 * 3);
+    r71_i2_i_i_i_i_i_i12 = (uint32_t)(r3_i_i_i_i_i_i_i11 + r11_i_i_i_i_i9);
+    r10_i_i_i_i_i_i13 = (uint32_t)(r71_i2_i_i_i_i_i_i12 | 3);
+    r6_i_i_i_i_i_i14 = (uint64_t)r10_i_i_i_i_i_i13;
+    r8_i_i_i_i_i_i15 = (uint64_t)(r6_i_i_i_i_i_i14 * UINT64_C(376287347));
+    r10_i4_i_i_i_i_i16 = (uint64_t)(r8_i_i_i_i_i_i15 >> (UINT64_C(39) & 63u));
+    r12_i_i_i_i_i_i17 = (uint32_t)(r10_i4_i_i_i_i_i16);
+    r6_i_i_i_i_i18 = (uint32_t)(r12_i_i_i_i_i_i17 + 4294704897u);
+    r25_i19 = (int32_t)a3 <= (int32_t)r6_i_i_i_i_i18;
+    r32_i20 = (int32_t)r6_i_i_i_i_i18 <= (int32_t)a4;
+    spec_select_i21 = (uint8_t)(((uint32_t)r25_i19 & (uint32_t)r32_i20) & 1);
+    v4 = spec_select_i21 ? r27_3 : 2147483648u;
+    {
+    r5_0 = v4;
+    goto at__layers_c_open_day_columns_within_moved_of_exit_i;
+    }
+    at__layers_c_open_day_columns_within_moved_of_exit_i:;
+    r39_3 = (a8 + (int64_t)r24);
+    STORE(uint32_t, r39_3, r5_0);
+    r43 = (uint64_t)(r6_05 + UINT64_C(1));
+    exitcond_not_2 = r43 == a9;
+    if (exitcond_not_2) { { common_ret_op = 1; goto at__common_ret; } }
+    { r6_05 = r43; goto at__join_5_2; }
+}
+
+static uint8_t in_calendar_column_is_open_day_within(uint8_t a0, bytes a1, uint64_t a2, uint32_t a3, uint32_t a4, bytes a5, uint64_t a6, bytes a7, uint64_t a8)
+{
+    uint8_t common_ret_op, common_ret_op_i_i_us, common_ret_op_2, r29_not, r39, r1918_not, r27, or_cond, exitcond_not, spec_select_i23, r36_2, v1, r12_sroa_4_i_sroa_0_0_copyload, r184_not, r17_not1, v2, or_cond_i_i_i_i_i_i5_us, r25_i_i_i_i_us, r32_i_i_i_i_us, spec_select_i_i_i_i_us, switch_idx_cast_i_i_i_i_i_i_i_i_us, v4, mux, exitcond_not_i_us, or_cond5, r25, r32, spec_select, switch_idx_cast, r11_2, r9, r11_i_not, r17_not, r26_2, r25_3, v7, exitcond_not_2;
+    uint64_t r22_0, r5_019, r6_05_i_us, r6_05, r2_03, r3_02, r38, r36, r61, r12_sroa_4_i_sroa_7_0_copyload, r12_sroa_4_i_sroa_7_0_copyload_fr, r23_i_us, r6_i_i_i_i_i_i_i_i_i_us, r8_i_i_i_i_i_i_i_i_i_us, r10_i4_i_i_i_i_i_i_i_i_us, r40_i_us, r23, r6, r8, r10_i4, r1_i10, reass_sub, r229, r25_2, r28_2, r30, r1, r11_3, r161, r4, r48, r31, r40;
+    bytes r10, r7, r37, r39_2, r58, r37_2, r12_sroa_4_i_sroa_6_0_r37_i_sroa_idx, r12_sroa_4_i_sroa_6_0_copyload, r12_sroa_4_i_sroa_7_0_r37_i_sroa_idx, r26_i_us, r36_i6_us, r26, v6, r35, r34, r366;
+    uint32_t r41, v0, r28_i_us, v3, r5_i_i_i_i_i_i_i_i_us, r11_i_i_i_i_i_i_i_i_us, r13_i_i_i_i_i_i_i_i_us, r3_i_i_i_i_i_i_i_i_i_i_us, r71_i2_i_i_i_i_i_i_i_i_i_us, r10_i_i_i_i_i_i_i_i_i_us, r12_i_i_i_i_i_i_i_i_i_us, r6_i_i_i_i_i_i_i_i_us, r5_i_i_i_i_i3_i_i_i_us, r3_i_i_i_i_i_i_i_i_us, r28, v5, r5, r11, r13, r3, r71_i2, r10_2, r12, r6_2, r5_i_i_i_i_i3, r3_2, r35_val, r13_sroa_0_0_copyload;
+    uint64_t room_r10[5];
+    uint64_t room_r7[500];
+    r10 = (bytes)room_r10;
+    r7 = (bytes)room_r7;
+    memset(r7, 0, UINT64_C(4000));
+    r29_not = a8 == a6;
+    if (r29_not) { { r22_0 = UINT64_C(0); goto at__repeat_4; } }
+    { common_ret_op = 0; goto at__common_ret; }
+    at__common_ret_sink_split:;
+    {
+    common_ret_op = 0;
+    goto at__common_ret;
+    }
+    at__common_ret:;
+    return common_ret_op;
+    at__repeat_4:;
+    r37 = (r7 + (int64_t)r22_0);
+    STORE(uint32_t, r37, 4199221167u);
+    r38 = (uint64_t)(r22_0 + UINT64_C(4));
+    r39 = r38 == UINT64_C(4000);
+    if (r39) { goto at__filled_5; }
+    { r22_0 = r38; goto at__repeat_4; }
+    at__filled_5:;
+    memset(r10, 0, UINT64_C(40));
+    r1918_not = a2 == UINT64_C(0);
+    if (r1918_not) { goto at__arm_1; }
+    { r5_019 = UINT64_C(0); goto at__join_5; }
+    at__join_5:;
+    r27 = r5_019 == UINT64_C(1000);
+    if (r27) { goto at__common_ret_sink_split; }
+    goto at__join_8;
+    at__join_8:;
+    r36 = (uint64_t)(r5_019 << (UINT64_C(2) & 63u));
+    r39_2 = (a1 + (int64_t)r36);
+    LOAD(uint32_t, r41, r39_2);
+    v0 = (uint32_t)(r41 + 95746129u);
+    or_cond = v0 < 191491529u;
+    if (or_cond) { goto at__arm_9; }
+    goto at__common_ret_sink_split;
+    at__arm_9:;
+    r58 = (r7 + (int64_t)r36);
+    STORE(uint32_t, r58, r41);
+    r61 = (uint64_t)(r5_019 + UINT64_C(1));
+    exitcond_not = r61 == a2;
+    if (exitcond_not) { goto at__arm_1; }
+    { r5_019 = r61; goto at__join_5; }
+    at__arm_1:;
+    spec_select_i23 = (uint8_t)((uint32_t)a0 & (uint32_t)127u);
+    chrono_business_calendar_Calendar_try_new(r10, spec_select_i23, r7, a2);
+    LOAD(uint8_t, r36_2, r10);
+    v1 = r36_2 == 0;
+    if (v1) { goto at__arm_6; }
+    goto at__common_ret_sink_split;
+    at__arm_6:;
+    r37_2 = (r10 + 8);
+    LOAD(uint8_t, r12_sroa_4_i_sroa_0_0_copyload, r37_2);
+    r12_sroa_4_i_sroa_6_0_r37_i_sroa_idx = (r10 + 24);
+    LOAD(bytes, r12_sroa_4_i_sroa_6_0_copyload, r12_sroa_4_i_sroa_6_0_r37_i_sroa_idx);
+    r12_sroa_4_i_sroa_7_0_r37_i_sroa_idx = (r10 + 32);
+    LOAD(uint64_t, r12_sroa_4_i_sroa_7_0_copyload, r12_sroa_4_i_sroa_7_0_r37_i_sroa_idx);
+    r12_sroa_4_i_sroa_7_0_copyload_fr = r12_sroa_4_i_sroa_7_0_copyload;
+    r184_not = a8 == UINT64_C(0);
+    if (r184_not) { { common_ret_op = 1; goto at__common_ret; } }
+    goto at__join_5_i_preheader;
+    at__join_5_i_preheader:;
+    r17_not1 = r12_sroa_4_i_sroa_7_0_copyload_fr == UINT64_C(0);
+    if (r17_not1) { goto at__join_5_i_preheader_split_us; }
+    { r6_05 = UINT64_C(0); goto at__join_5_2; }
+    at__join_5_i_preheader_split_us:;
+    v2 = (uint8_t)((uint32_t)r12_sroa_4_i_sroa_0_0_copyload ^ (uint32_t)255u);
+    {
+    r6_05_i_us = UINT64_C(0);
+    goto at__join_5_i_us;
+    }
+    at__join_5_i_us:;
+    r23_i_us = (uint64_t)(r6_05_i_us << (UINT64_C(2) & 63u));
+    r26_i_us = (a5 + (int64_t)r23_i_us);
+    LOAD(uint32_t, r28_i_us, r26_i_us);
+    v3 = (uint32_t)(r28_i_us + 95746129u);
+    or_cond_i_i_i_i_i_i5_us = v3 < 191491529u;
+    if (or_cond_i_i_i_i_i_i5_us) { goto at__arm_1_i_i_us; }
+    { common_ret_op_i_i_us = 0; goto at__layers_c_open_day_columns_within_open_of_exit_i_us; }
+    at__arm_1_i_i_us:;
+    r5_i_i_i_i_i_i_i_i_us = (uint32_t)(r28_i_us << 2);
+    r11_i_i_i_i_i_i_i_i_us = (uint32_t)(r5_i_i_i_i_i_i_i_i_us + 383358527u);
+    r13_i_i_i_i_i_i_i_i_us = (uint32_t)(r11_i_i_i_i_i_i_i_i_us / 146097u);
+    r3_i_i_i_i_i_i_i_i_i_i_us = (uint32_t)(r13_i_i_i_i_i_i_i_i_us * 3);
+    r71_i2_i_i_i_i_i_i_i_i_i_us = (uint32_t)(r3_i_i_i_i_i_i_i_i_i_i_us + r11_i_i_i_i_i_i_i_i_us);
+    r10_i_i_i_i_i_i_i_i_i_us = (uint32_t)(r71_i2_i_i_i_i_i_i_i_i_i_us | 3);
+    r6_i_i_i_i_i_i_i_i_i_us = (uint64_t)r10_i_i_i_i_i_i_i_i_i_us;
+    r8_i_i_i_i_i_i_i_i_i_us = (uint64_t)(r6_i_i_i_i_i_i_i_i_i_us * UINT64_C(376287347));
+    r10_i4_i_i_i_i_i_i_i_i_us = (uint64_t)(r8_i_i_i_i_i_i_i_i_i_us >> (UINT64_C(39) & 63u));
+    r12_i_i_i_i_i_i_i_i_i_us = (uint32_t)(r10_i4_i_i_i_i_i_i_i_i_us);
+    r6_i_i_i_i_i_i_i_i_us = (uint32_t)(r12_i_i_i_i_i_i_i_i_i_us + 4294704897u);
+    r25_i_i_i_i_us = (int32_t)a3 <= (int32_t)r6_i_i_i_i_i_i_i_i_us;
+    r32_i_i_i_i_us = (int32_t)r6_i_i_i_i_i_i_i_i_us <= (int32_t)a4;
+    spec_select_i_i_i_i_us = (uint8_t)(((uint32_t)r25_i_i_i_i_us & (uint32_t)r32_i_i_i_i_us) & 1);
+    if (spec_select_i_i_i_i_us) { goto at__join_3_i_i_i_us; }
+    { common_ret_op_i_i_us = 2; goto at__layers_c_open_day_columns_within_open_of_exit_i_us; }
+    at__join_3_i_i_i_us:;
+    r5_i_i_i_i_i3_i_i_i_us = (uint32_t)(r28_i_us + 95839631u);
+    r3_i_i_i_i_i_i_i_i_us = (uint32_t)(r5_i_i_i_i_i3_i_i_i_us % 7);
+    switch_idx_cast_i_i_i_i_i_i_i_i_us = (uint8_t)(r3_i_i_i_i_i_i_i_i_us);
+    v4 = (uint8_t)((uint32_t)v2 >> (switch_idx_cast_i_i_i_i_i_i_i_i_us & 7u));
+    mux = (uint8_t)((uint32_t)v4 & (uint32_t)1);
+    {
+    common_ret_op_i_i_us = mux;
+    goto at__layers_c_open_day_columns_within_open_of_exit_i_us;
+    }
+    at__layers_c_open_day_columns_within_open_of_exit_i_us:;
+    r36_i6_us = (a7 + (int64_t)r6_05_i_us);
+    STORE(uint8_t, r36_i6_us, common_ret_op_i_i_us);
+    r40_i_us = (uint64_t)(r6_05_i_us + UINT64_C(1));
+    exitcond_not_i_us = r40_i_us == a8;
+    if (exitcond_not_i_us) { { common_ret_op = 1; goto at__common_ret; } }
+    { r6_05_i_us = r40_i_us; goto at__join_5_i_us; }
+    at__join_5_2:;
+    r23 = (uint64_t)(r6_05 << (UINT64_C(2) & 63u));
+    r26 = (a5 + (int64_t)r23);
+    LOAD(uint32_t, r28, r26);
+    v5 = (uint32_t)(r28 + 95746129u);
+    or_cond5 = v5 < 191491529u;
+    if (or_cond5) { goto at__arm_1_2; }
+    { common_ret_op_2 = 0; goto at__layers_c_open_day_columns_within_open_of_exit_i; }
+    at__arm_1_2:;
+    r5 = (uint32_t)(r28 << 2);
+    r11 = (uint32_t)(r5 + 383358527u);
+    r13 = (uint32_t)(r11 / 146097u);
+    r3 = (uint32_t)(r13 * 3);
+    r71_i2 = (uint32_t)(r3 + r11);
+    r10_2 = (uint32_t)(r71_i2 | 3);
+    r6 = (uint64_t)r10_2;
+    r8 = (uint64_t)(r6 * UINT64_C(376287347));
+    r10_i4 = (uint64_t)(r8 >> (UINT64_C(39) & 63u));
+    r12 = (uint32_t)(r10_i4);
+    r6_2 = (uint32_t)(r12 + 4294704897u);
+    r25 = (int32_t)a3 <= (int32_t)r6_2;
+    r32 = (int32_t)r6_2 <= (int32_t)a4;
+    spec_select = (uint8_t)(((uint32_t)r25 & (uint32_t)r32) & 1);
+    if (spec_select) { goto at__join_3; }
+    { common_ret_op_2 = 2; goto at__layers_c_open_day_columns_within_open_of_exit_i; }
+    at__join_3:;
+    r5_i_i_i_i_i3 = (uint32_t)(r28 + 95839631u);
+    r3_2 = (uint32_t)(r5_i_i_i_i_i3 % 7);
+    switch_idx_cast = (uint8_t)(r3_2);
+    r11_2 = (uint8_t)((uint32_t)1 << (switch_idx_cast & 7u));
+    r9 = (uint8_t)((uint32_t)r11_2 & (uint32_t)r12_sroa_4_i_sroa_0_0_copyload);
+    r11_i_not = r9 == 0;
+    if (r11_i_not) { goto at__then_1; }
+    { common_ret_op_2 = 0; goto at__layers_c_open_day_columns_within_open_of_exit_i; }
+    at__then_1:;
+    r1_i10 = (uint64_t)((uint64_t)(int32_t)r28);
+    reass_sub = (uint64_t)(r1_i10 + UINT64_C(4611686018427387903));
+    {
+    r2_03 = UINT64_C(0);
+    r3_02 = r12_sroa_4_i_sroa_7_0_copyload_fr;
+    goto at__join_5_3;
+    }
+    at__join_5_3:;
+    r229 = (uint64_t)(r3_02 >> (UINT64_C(1) & 63u));
+    r25_2 = (uint64_t)(r3_02 - r229);
+    r28_2 = (uint64_t)(r25_2 + r2_03);
+    r30 = (uint64_t)(r28_2 << (UINT64_C(2) & 63u));
+    v6 = (r12_sroa_4_i_sroa_6_0_copyload + (int64_t)r30);
+    r35 = (v6 - 4);
+    LOAD(uint32_t, r35_val, r35);
+    r1 = (uint64_t)((uint64_t)(int32_t)r35_val);
+    r11_3 = (uint64_t)(reass_sub - r1);
+    r161 = (uint64_t)(r11_3 >> (UINT64_C(62) & 63u));
+    r4 = (uint64_t)(r161 * r25_2);
+    r48 = (uint64_t)(r4 + r2_03);
+    r17_not = r229 == UINT64_C(0);
+    if (r17_not) { goto at__chrono_naive_rising_dates_RisingDates_count_before_exit_i_i_i_i_i_i_i_loopexit; }
+    { r2_03 = r48; r3_02 = r229; goto at__join_5_3; }
+    at__chrono_naive_rising_dates_RisingDates_count_before_exit_i_i_i_i_i_i_i_loopexit:;
+    r26_2 = r48 < r12_sroa_4_i_sroa_7_0_copyload_fr;
+    if (r26_2) { goto at__arm_1_3; }
+    { common_ret_op_2 = 1; goto at__layers_c_open_day_columns_within_open_of_exit_i; }
+    at__arm_1_3:;
+    r31 = (uint64_t)(r48 << (UINT64_C(2) & 63u));
+    r34 = (r12_sroa_4_i_sroa_6_0_copyload + (int64_t)r31);
+    LOAD(uint32_t, r13_sroa_0_0_copyload, r34);
+    r25_3 = r13_sroa_0_0_copyload != r28;
+    v7 = (uint8_t)r25_3;
+    {
+    common_ret_op_2 = v7;
+    goto at__layers_c_open_day_columns_within_open_of_exit_i;
+    }
+    at__layers_c_open_day_columns_within_open_of_exit_i:;
+    r366 = (a7 + (int64_t)r6_05);
+    STORE(uint8_t, r366, common_ret_op_2);
+    r40 = (uint64_t)(r6_05 + UINT64_C(1));
+    exitcond_not_2 = r40 == a8;
+    if (exitcond_not_2) { { common_ret_op = 1; goto at__common_ret; } }
+    { r6_05 = r40; goto at__join_5_2; }
+}
+
+static uint8_t in_calendar_column_open_days_between_within(uint8_t a0, bytes a1, uint64_t a2, uint32_t a3, uint32_t a4, bytes a5, uint64_t a6, bytes a7, uint64_t a8, bytes a9, uint64_t a10)
+{
+    uint8_t common_ret_op, r31_not, r44_not, or_cond, r54, r1918_not, r27, or_cond_2, exitcond_not, spec_select_i23, r36_2, v1, r245_not, or_cond11, or_cond_i_i_i_i3, or_cond_3, r32_2, v4, exitcond_not_2;
+    uint64_t r24_0, r5_019, r8_06, common_ret_op_2, r53, r36, r61, r29, r33, r9_0, r49, r56;
+    bytes r10, r9, r10_2, r16_sroa_4, r52, r39, r58, r37, r32, r39_2, r52_2;
+    uint32_t r41, v0, r34, r41_2, v2, v3;
+    t_struct_i8_i64_end r31;
+    uint64_t room_r10[5];
+    uint64_t room_r9[500];
+    uint64_t room_r10_2[4];
+    uint64_t room_r16_sroa_4[4];
+    r10 = (bytes)room_r10;
+    r9 = (bytes)room_r9;
+    r10_2 = (bytes)room_r10_2;
+    r16_sroa_4 = (bytes)room_r16_sroa_4;
+    memset(r9, 0, UINT64_C(4000));
+    r31_not = a8 == a6;
+    r44_not = a10 == a6;
+    or_cond = (uint8_t)(((uint32_t)r31_not & (uint32_t)r44_not) & 1);
+    if (or_cond) { { r24_0 = UINT64_C(0); goto at__repeat_7; } }
+    { common_ret_op = 0; goto at__common_ret; }
+    at__common_ret_sink_split:;
+    {
+    common_ret_op = 0;
+    goto at__common_ret;
+    }
+    at__common_ret:;
+    return common_ret_op;
+    at__repeat_7:;
+    r52 = (r9 + (int64_t)r24_0);
+    STORE(uint32_t, r52, 4199221167u);
+    r53 = (uint64_t)(r24_0 + UINT64_C(4));
+    r54 = r53 == UINT64_C(4000);
+    if (r54) { goto at__filled_8; }
+    { r24_0 = r53; goto at__repeat_7; }
+    at__filled_8:;
+    memset(r10, 0, UINT64_C(40));
+    r1918_not = a2 == UINT64_C(0);
+    if (r1918_not) { goto at__arm_1; }
+    { r5_019 = UINT64_C(0); goto at__join_5; }
+    at__join_5:;
+    r27 = r5_019 == UINT64_C(1000);
+    if (r27) { goto at__common_ret_sink_split; }
+    goto at__join_8;
+    at__join_8:;
+    r36 = (uint64_t)(r5_019 << (UINT64_C(2) & 63u));
+    r39 = (a1 + (int64_t)r36);
+    LOAD(uint32_t, r41, r39);
+    v0 = (uint32_t)(r41 + 95746129u);
+    or_cond_2 = v0 < 191491529u;
+    if (or_cond_2) { goto at__arm_9; }
+    goto at__common_ret_sink_split;
+    at__arm_9:;
+    r58 = (r9 + (int64_t)r36);
+    STORE(uint32_t, r58, r41);
+    r61 = (uint64_t)(r5_019 + UINT64_C(1));
+    exitcond_not = r61 == a2;
+    if (exitcond_not) { goto at__arm_1; }
+    { r5_019 = r61; goto at__join_5; }
+    at__arm_1:;
+    spec_select_i23 = (uint8_t)((uint32_t)a0 & (uint32_t)127u);
+    chrono_business_calendar_Calendar_try_new(r10, spec_select_i23, r9, a2);
+    LOAD(uint8_t, r36_2, r10);
+    v1 = r36_2 == 0;
+    if (v1) { goto at__arm_9_2; }
+    goto at__common_ret_sink_split;
+    at__arm_9_2:;
+    r37 = (r10 + 8);
+    memcpy(r16_sroa_4, r37, UINT64_C(32));
+    memcpy(r10_2, r16_sroa_4, UINT64_C(32));
+    r245_not = a8 == UINT64_C(0);
+    if (r245_not) { { common_ret_op = 1; goto at__common_ret; } }
+    { r8_06 = UINT64_C(0); goto at__join_5_2; }
+    at__join_5_2:;
+    r29 = (uint64_t)(r8_06 << (UINT64_C(2) & 63u));
+    r32 = (a5 + (int64_t)r29);
+    LOAD(uint32_t, r34, r32);
+    r39_2 = (a7 + (int64_t)r29);
+    LOAD(uint32_t, r41_2, r39_2);
+    v2 = (uint32_t)(r34 + 95746129u);
+    or_cond11 = v2 < 191491529u;
+    v3 = (uint32_t)(r41_2 + 95746129u);
+    or_cond_i_i_i_i3 = v3 < 191491529u;
+    or_cond_3 = (uint8_t)(((uint32_t)or_cond11 & (uint32_t)or_cond_i_i_i_i3) & 1);
+    if (or_cond_3) { goto at__arm_5; }
+    { common_ret_op_2 = UINT64_C(9223372036854775808); goto at__layers_c_open_day_columns_within_between_of_exit_i; }
+    at__arm_5:;
+    r31 = chrono_business_calendar_Calendar_open_days_within(r10_2, a3, a4, r34, r41_2);
+    r32_2 = r31.f0;
+    v4 = r32_2 == 1;
+    r33 = r31.f1;
+    r9_0 = v4 ? r33 : UINT64_C(9223372036854775808);
+    {
+    common_ret_op_2 = r9_0;
+    goto at__layers_c_open_day_columns_within_between_of_exit_i;
+    }
+    at__layers_c_open_day_columns_within_between_of_exit_i:;
+    r49 = (uint64_t)(r8_06 << (UINT64_C(3) & 63u));
+    r52_2 = (a9 + (int64_t)r49);
+    STORE(uint64_t, r52_2, common_ret_op_2);
+    r56 = (uint64_t)(r8_06 + UINT64_C(1));
+    exitcond_not_2 = r56 == a8;
+    if (exitcond_not_2) { { common_ret_op = 1; goto at__common_ret; } }
+    { r8_06 = r56; goto at__join_5_2; }
+}
+
+static t_struct_i8_i64_end chrono_business_calendar_Calendar_open_days_within(bytes a0, uint32_t a1, uint32_t a2, uint32_t a3, uint32_t a4)
+{
+    uint64_t r2_03, r3_02, r2_03_i_i_i_i15, r3_02_i_i_i_i16, r0_sroa_5_0, r6, r8, r10_i4, r6_4, r8_2, r10_i4_2, r618, r819, r10_i420, r635, r836, r10_i437, r5_2, a0_val1, r5_i_i_i_i441, r1_i10, reass_sub, r229, r25_3, r28, r30, r1_i_i_i2, r1145, r161, r4, r48, r5_i_i_i_i4, r1_i10_i_i_i_i12, reass_sub_i_i_i_i_i13, r229_i_i_i_i17, r25_i_i_i_i18, r28_i_i_i_i19, r30_i_i_i_i20, r1_i_i_i2_i_i23, r11_i_i_i_i_i_i24, r161_i_i_i_i_i_i25, r4_i_i_i_i_i26, r48_i_i_i_i27, r1_3, r1_i1, r7;
+    uint8_t r11_i_i_i_i746, r0_sroa_0_sroa_0_0, r21_not, r25, r32, spec_select, or_cond, or_cond_2, r25_2, r32_2, spec_select_i_i10, r21_not9, r2523, r3224, spec_select25, or_cond26, or_cond27, r2540, r3241, spec_select_i_i1042, a0_val, r11_4, r17_not1, r11_i_i_i_i743, r17_not, r11_i_i_i_i7, r17_not_i_i_i_i28;
+    uint32_t r7_i_i145, r2_0_lcssa_i_i_i_i44, r2_0_lcssa_i_i_i_i30, r5, r11, r13, r3, r71_i2, r10, r12, r6_2, v0, r6_3, r11_2, r13_2, r3_2, r71_i2_2, r10_2, r12_2, r6_i_i_i_i_i_i9, r512, r1113, r1314, r315, r71_i216, r1017, r1221, r622, v1, r629, r1130, r1331, r332, r71_i233, r1034, r1238, r6_i_i_i_i_i_i939, r7_2, r11_3, r6_5, r7_i_i139, r11_i_i_i340, r35_val, r7_i_i1, r11_i_i_i3, r35_val_i_i_i_i22, v7, v8, r1, r10_3, r1_2, r16, r17, r6_i_i_i31, r10_i_i_i33, r1_i_i_i_i_i34, r16_i_i_i35, r17_i_i36;
+    bytes v2, r644, r9, v3, a0_val_2, v4, r9_i_i_i_i642, v5, r35, r9_i_i_i_i6, v6, r35_i_i_i_i21;
+    t_struct_i8_i64_end r39_fca_0_insert, r39_fca_1_insert;
+    r21_not = (int32_t)a4 > (int32_t)a3;
+    if (r21_not) { goto at__join_3; }
+    goto at__join_3_2;
+    at__join_3:;
+    r5 = (uint32_t)(a3 << 2);
+    r11 = (uint32_t)(r5 + 383358527u);
+    r13 = (uint32_t)(r11 / 146097u);
+    r3 = (uint32_t)(r13 * 3);
+    r71_i2 = (uint32_t)(r3 + r11);
+    r10 = (uint32_t)(r71_i2 | 3);
+    r6 = (uint64_t)r10;
+    r8 = (uint64_t)(r6 * UINT64_C(376287347));
+    r10_i4 = (uint64_t)(r8 >> (UINT64_C(39) & 63u));
+    r12 = (uint32_t)(r10_i4);
+    r6_2 = (uint32_t)(r12 + 4294704897u);
+    r25 = (int32_t)a1 <= (int32_t)r6_2;
+    r32 = (int32_t)r6_2 <= (int32_t)a2;
+    spec_select = (uint8_t)(((uint32_t)r25 & (uint32_t)r32) & 1);
+    v0 = (uint32_t)(a4 + 95746128u);
+    or_cond = v0 < 191491529u;
+    or_cond_2 = (uint8_t)(((uint32_t)or_cond & (uint32_t)spec_select) & 1);
+    if (or_cond_2) { goto at__chrono_business_known_years_KnownYears_contains_all_exit; }
+    { r0_sroa_5_0 = UINT64_C(0); r0_sroa_0_sroa_0_0 = 0; goto at__return_4; }
+    at__chrono_business_known_years_KnownYears_contains_all_exit:;
+    r6_3 = (uint32_t)(a4 << 2);
+    r11_2 = (uint32_t)(r6_3 + 383358523u);
+    r13_2 = (uint32_t)(r11_2 / 146097u);
+    r3_2 = (uint32_t)(r13_2 * 3);
+    r71_i2_2 = (uint32_t)(r3_2 + r11_2);
+    r10_2 = (uint32_t)(r71_i2_2 | 3);
+    r6_4 = (uint64_t)r10_2;
+    r8_2 = (uint64_t)(r6_4 * UINT64_C(376287347));
+    r10_i4_2 = (uint64_t)(r8_2 >> (UINT64_C(39) & 63u));
+    r12_2 = (uint32_t)(r10_i4_2);
+    r6_i_i_i_i_i_i9 = (uint32_t)(r12_2 + 4294704897u);
+    r25_2 = (int32_t)a1 <= (int32_t)r6_i_i_i_i_i_i9;
+    r32_2 = (int32_t)r6_i_i_i_i_i_i9 <= (int32_t)a2;
+    spec_select_i_i10 = (uint8_t)(((uint32_t)r25_2 & (uint32_t)r32_2) & 1);
+    if (spec_select_i_i10) { goto at__join_3_2; }
+    { r0_sroa_5_0 = UINT64_C(0); r0_sroa_0_sroa_0_0 = 0; goto at__return_4; }
+    at__join_3_2:;
+    r21_not9 = (int32_t)a3 > (int32_t)a4;
+    if (r21_not9) { goto at__join_311; }
+    goto at__join_7;
+    at__join_311:;
+    r512 = (uint32_t)(a4 << 2);
+    r1113 = (uint32_t)(r512 + 383358527u);
+    r1314 = (uint32_t)(r1113 / 146097u);
+    r315 = (uint32_t)(r1314 * 3);
+    r71_i216 = (uint32_t)(r315 + r1113);
+    r1017 = (uint32_t)(r71_i216 | 3);
+    r618 = (uint64_t)r1017;
+    r819 = (uint64_t)(r618 * UINT64_C(376287347));
+    r10_i420 = (uint64_t)(r819 >> (UINT64_C(39) & 63u));
+    r1221 = (uint32_t)(r10_i420);
+    r622 = (uint32_t)(r1221 + 4294704897u);
+    r2523 = (int32_t)a1 <= (int32_t)r622;
+    r3224 = (int32_t)r622 <= (int32_t)a2;
+    spec_select25 = (uint8_t)(((uint32_t)r2523 & (uint32_t)r3224) & 1);
+    v1 = (uint32_t)(a3 + 95746128u);
+    or_cond26 = v1 < 191491529u;
+    or_cond27 = (uint8_t)(((uint32_t)or_cond26 & (uint32_t)spec_select25) & 1);
+    if (or_cond27) { goto at__chrono_business_known_years_KnownYears_contains_all_exit43; }
+    { r0_sroa_5_0 = UINT64_C(0); r0_sroa_0_sroa_0_0 = 0; goto at__return_4; }
+    at__chrono_business_known_years_KnownYears_contains_all_exit43:;
+    r629 = (uint32_t)(a3 << 2);
+    r1130 = (uint32_t)(r629 + 383358523u);
+    r1331 = (uint32_t)(r1130 / 146097u);
+    r332 = (uint32_t)(r1331 * 3);
+    r71_i233 = (uint32_t)(r332 + r1130);
+    r1034 = (uint32_t)(r71_i233 | 3);
+    r635 = (uint64_t)r1034;
+    r836 = (uint64_t)(r635 * UINT64_C(376287347));
+    r10_i437 = (uint64_t)(r836 >> (UINT64_C(39) & 63u));
+    r1238 = (uint32_t)(r10_i437);
+    r6_i_i_i_i_i_i939 = (uint32_t)(r1238 + 4294704897u);
+    r2540 = (int32_t)a1 <= (int32_t)r6_i_i_i_i_i_i939;
+    r3241 = (int32_t)r6_i_i_i_i_i_i939 <= (int32_t)a2;
+    spec_select_i_i1042 = (uint8_t)(((uint32_t)r2540 & (uint32_t)r3241) & 1);
+    if (spec_select_i_i1042) { goto at__join_7; }
+    { r0_sroa_5_0 = UINT64_C(0); r0_sroa_0_sroa_0_0 = 0; goto at__return_4; }
+    at__join_7:;
+    r7_2 = (uint32_t)(a3 + 95746129u);
+    v2 = (a0 + 8);
+    LOAD(uint8_t, a0_val, v2);
+    r11_3 = (uint32_t)(r7_2 % 7);
+    r6_5 = (uint32_t)(r7_2 / 7);
+    r5_2 = (uint64_t)r11_3;
+    r644 = (a0 + 1);
+    r9 = (r644 + (int64_t)r5_2);
+    LOAD(uint8_t, r11_4, r9);
+    v3 = (a0 + 16);
+    LOAD(bytes, a0_val_2, v3);
+    v4 = (a0 + 24);
+    LOAD(uint64_t, a0_val1, v4);
+    r17_not1 = a0_val1 == UINT64_C(0);
+    if (r17_not1) { goto at__chrono_business_calendar_Calendar_rank_exit_thread_i; }
+    goto at__join_5_lr_ph;
+    at__chrono_business_calendar_Calendar_rank_exit_thread_i:;
+    r7_i_i139 = (uint32_t)(a4 + 95746129u);
+    r11_i_i_i340 = (uint32_t)(r7_i_i139 % 7);
+    r5_i_i_i_i441 = (uint64_t)r11_i_i_i340;
+    r9_i_i_i_i642 = (r644 + (int64_t)r5_i_i_i_i441);
+    LOAD(uint8_t, r11_i_i_i_i743, r9_i_i_i_i642);
+    {
+    r11_i_i_i_i746 = r11_i_i_i_i743;
+    r7_i_i145 = r7_i_i139;
+    r2_0_lcssa_i_i_i_i44 = 0;
+    r2_0_lcssa_i_i_i_i30 = 0;
+    goto at__chrono_business_calendar_Calendar_open_days_exit;
+    }
+    at__join_5_lr_ph:;
+    r1_i10 = (uint64_t)((uint64_t)(int32_t)a3);
+    reass_sub = (uint64_t)(r1_i10 + UINT64_C(4611686018427387903));
+    {
+    r2_03 = UINT64_C(0);
+    r3_02 = a0_val1;
+    goto at__join_5;
+    }
+    at__join_5:;
+    r229 = (uint64_t)(r3_02 >> (UINT64_C(1) & 63u));
+    r25_3 = (uint64_t)(r3_02 - r229);
+    r28 = (uint64_t)(r25_3 + r2_03);
+    r30 = (uint64_t)(r28 << (UINT64_C(2) & 63u));
+    v5 = (a0_val_2 + (int64_t)r30);
+    r35 = (v5 - 4);
+    LOAD(uint32_t, r35_val, r35);
+    r1_i_i_i2 = (uint64_t)((uint64_t)(int32_t)r35_val);
+    r1145 = (uint64_t)(reass_sub - r1_i_i_i2);
+    r161 = (uint64_t)(r1145 >> (UINT64_C(62) & 63u));
+    r4 = (uint64_t)(r161 * r25_3);
+    r48 = (uint64_t)(r4 + r2_03);
+    r17_not = r229 == UINT64_C(0);
+    if (r17_not) { goto at__join_5_lr_ph_i_i_i_i11; }
+    { r2_03 = r48; r3_02 = r229; goto at__join_5; }
+    at__join_5_lr_ph_i_i_i_i11:;
+    r7_i_i1 = (uint32_t)(a4 + 95746129u);
+    r11_i_i_i3 = (uint32_t)(r7_i_i1 % 7);
+    r5_i_i_i_i4 = (uint64_t)r11_i_i_i3;
+    r9_i_i_i_i6 = (r644 + (int64_t)r5_i_i_i_i4);
+    LOAD(uint8_t, r11_i_i_i_i7, r9_i_i_i_i6);
+    r1_i10_i_i_i_i12 = (uint64_t)((uint64_t)(int32_t)a4);
+    reass_sub_i_i_i_i_i13 = (uint64_t)(r1_i10_i_i_i_i12 + UINT64_C(4611686018427387903));
+    {
+    r2_03_i_i_i_i15 = UINT64_C(0);
+    r3_02_i_i_i_i16 = a0_val1;
+    goto at__join_5_i_i_i_i14;
+    }
+    at__join_5_i_i_i_i14:;
+    r229_i_i_i_i17 = (uint64_t)(r3_02_i_i_i_i16 >> (UINT64_C(1) & 63u));
+    r25_i_i_i_i18 = (uint64_t)(r3_02_i_i_i_i16 - r229_i_i_i_i17);
+    r28_i_i_i_i19 = (uint64_t)(r25_i_i_i_i18 + r2_03_i_i_i_i15);
+    r30_i_i_i_i20 = (uint64_t)(r28_i_i_i_i19 << (UINT64_C(2) & 63u));
+    v6 = (a0_val_2 + (int64_t)r30_i_i_i_i20);
+    r35_i_i_i_i21 = (v6 - 4);
+    LOAD(uint32_t, r35_val_i_i_i_i22, r35_i_i_i_i21);
+    r1_i_i_i2_i_i23 = (uint64_t)((uint64_t)(int32_t)r35_val_i_i_i_i22);
+    r11_i_i_i_i_i_i24 = (uint64_t)(reass_sub_i_i_i_i_i13 - r1_i_i_i2_i_i23);
+    r161_i_i_i_i_i_i25 = (uint64_t)(r11_i_i_i_i_i_i24 >> (UINT64_C(62) & 63u));
+    r4_i_i_i_i_i26 = (uint64_t)(r161_i_i_i_i_i_i25 * r25_i_i_i_i18);
+    r48_i_i_i_i27 = (uint64_t)(r4_i_i_i_i_i26 + r2_03_i_i_i_i15);
+    r17_not_i_i_i_i28 = r229_i_i_i_i17 == UINT64_C(0);
+    if (r17_not_i_i_i_i28) { goto at__chrono_business_calendar_Calendar_holidays_before_exit_loopexit_i_i29_i; }
+    { r2_03_i_i_i_i15 = r48_i_i_i_i27; r3_02_i_i_i_i16 = r229_i_i_i_i17; goto at__join_5_i_i_i_i14; }
+    at__chrono_business_calendar_Calendar_holidays_before_exit_loopexit_i_i29_i:;
+    v7 = (uint32_t)(r48);
+    v8 = (uint32_t)(r48_i_i_i_i27);
+    {
+    r11_i_i_i_i746 = r11_i_i_i_i7;
+    r7_i_i145 = r7_i_i1;
+    r2_0_lcssa_i_i_i_i44 = v7;
+    r2_0_lcssa_i_i_i_i30 = v8;
+    goto at__chrono_business_calendar_Calendar_open_days_exit;
+    }
+    at__chrono_business_calendar_Calendar_open_days_exit:;
+    r1 = (uint32_t)a0_val;
+    r10_3 = (uint32_t)(r6_5 * r1);
+    r1_2 = (uint32_t)r11_4;
+    r16 = (uint32_t)(r10_3 + r1_2);
+    r17 = (uint32_t)(r16 - r2_0_lcssa_i_i_i_i44);
+    r6_i_i_i31 = (uint32_t)(r7_i_i145 / 7);
+    r10_i_i_i33 = (uint32_t)(r6_i_i_i31 * r1);
+    r1_i_i_i_i_i34 = (uint32_t)r11_i_i_i_i746;
+    r16_i_i_i35 = (uint32_t)(r10_i_i_i33 + r1_i_i_i_i_i34);
+    r17_i_i36 = (uint32_t)(r16_i_i_i35 - r2_0_lcssa_i_i_i_i30);
+    r1_3 = (uint64_t)r17_i_i36;
+    r1_i1 = (uint64_t)r17;
+    r7 = (uint64_t)(r1_3 - r1_i1);
+    {
+    r0_sroa_5_0 = r7;
+    r0_sroa_0_sroa_0_0 = 1;
+    goto at__return_4;
+    }
+    at__return_4:;
+    r39_fca_0_insert = (t_struct_i8_i64_end){0};
+    r39_fca_0_insert.f0 = r0_sroa_0_sroa_0_0;
+    r39_fca_1_insert = r39_fca_0_insert;
+    r39_fca_1_insert.f1 = r0_sroa_5_0;
+    return r39_fca_1_insert;
+}
+
+static uint8_t in_calendar_column_roll_within(uint8_t a0, bytes a1, uint64_t a2, uint32_t a3, uint32_t a4, bytes a5, uint64_t a6, uint32_t a7, bytes a8, uint64_t a9)
+{
+    uint8_t common_ret_op, r31_not, v0, switch_idx_cast, r1_sroa_10_0, r50, r1918_not, r27, or_cond, exitcond_not, spec_select_i23, r36_2, v2, r204_not, or_cond6, r21, trunc, exitcond_not_2;
+    uint64_t r24_0, r5_019, r7_05, r49, r36, r61, r25, r457;
+    uint32_t r6_0, r41, v1, r30, v3, r22, spec_select;
+    bytes r10, r8, r9, r16_sroa_4, r48, r39, r58, r37, r28, r41_2;
+    t_struct_i8_i32_end r20;
+    uint64_t room_r10[5];
+    uint64_t room_r8[500];
+    uint64_t room_r9[4];
+    uint64_t room_r16_sroa_4[4];
+    r10 = (bytes)room_r10;
+    r8 = (bytes)room_r8;
+    r9 = (bytes)room_r9;
+    r16_sroa_4 = (bytes)room_r16_sroa_4;
+    memset(r8, 0, UINT64_C(4000));
+    r31_not = a9 == a6;
+    if (r31_not) { goto at__join_3; }
+    { common_ret_op = 0; goto at__common_ret; }
+    at__common_ret_sink_split:;
+    {
+    common_ret_op = 0;
+    goto at__common_ret;
+    }
+    at__common_ret:;
+    return common_ret_op;
+    at__join_3:;
+    v0 = a7 < 7;
+    switch_idx_cast = (uint8_t)(a7);
+    r1_sroa_10_0 = v0 ? switch_idx_cast : 0;
+    if (v0) { { r24_0 = UINT64_C(0); goto at__repeat_8; } }
+    { common_ret_op = 0; goto at__common_ret; }
+    at__repeat_8:;
+    r48 = (r8 + (int64_t)r24_0);
+    STORE(uint32_t, r48, 4199221167u);
+    r49 = (uint64_t)(r24_0 + UINT64_C(4));
+    r50 = r49 == UINT64_C(4000);
+    if (r50) { goto at__filled_9; }
+    { r24_0 = r49; goto at__repeat_8; }
+    at__filled_9:;
+    memset(r10, 0, UINT64_C(40));
+    r1918_not = a2 == UINT64_C(0);
+    if (r1918_not) { goto at__arm_1; }
+    { r5_019 = UINT64_C(0); goto at__join_5; }
+    at__join_5:;
+    r27 = r5_019 == UINT64_C(1000);
+    if (r27) { goto at__common_ret_sink_split; }
+    goto at__join_8;
+    at__join_8:;
+    r36 = (uint64_t)(r5_019 << (UINT64_C(2) & 63u));
+    r39 = (a1 + (int64_t)r36);
+    LOAD(uint32_t, r41, r39);
+    v1 = (uint32_t)(r41 + 95746129u);
+    or_cond = v1 < 191491529u;
+    if (or_cond) { goto at__arm_9; }
+    goto at__common_ret_sink_split;
+    at__arm_9:;
+    r58 = (r8 + (int64_t)r36);
+    STORE(uint32_t, r58, r41);
+    r61 = (uint64_t)(r5_019 + UINT64_C(1));
+    exitcond_not = r61 == a2;
+    if (exitcond_not) { goto at__arm_1; }
+    { r5_019 = r61; goto at__join_5; }
+    at__arm_1:;
+    spec_select_i23 = (uint8_t)((uint32_t)a0 & (uint32_t)127u);
+    chrono_business_calendar_Calendar_try_new(r10, spec_select_i23, r8, a2);
+    LOAD(uint8_t, r36_2, r10);
+    v2 = r36_2 == 0;
+    if (v2) { goto at__arm_10; }
+    goto at__common_ret_sink_split;
+    at__arm_10:;
+    r37 = (r10 + 8);
+    memcpy(r16_sroa_4, r37, UINT64_C(32));
+    memcpy(r9, r16_sroa_4, UINT64_C(32));
+    r204_not = a9 == UINT64_C(0);
+    if (r204_not) { { common_ret_op = 1; goto at__common_ret; } }
+    { r7_05 = UINT64_C(0); goto at__join_5_2; }
+    at__join_5_2:;
+    r25 = (uint64_t)(r7_05 << (UINT64_C(2) & 63u));
+    r28 = (a5 + (int64_t)r25);
+    LOAD(uint32_t, r30, r28);
+    v3 = (uint32_t)(r30 + 95746129u);
+    or_cond6 = v3 < 191491529u;
+    if (or_cond6) { goto at__arm_1_2; }
+    { r6_0 = 2147483648u; goto at__layers_c_open_day_columns_within_rolled_of_exit_i; }
+    at__arm_1_2:;
+    r20 = chrono_business_calendar_Calendar_roll_within(r9, a3, a4, r30, r1_sroa_10_0);
+    r21 = r20.f0;
+    r22 = r20.f1;
+    trunc = (uint8_t)((r21) & 1);
+    spec_select = trunc ? r22 : 2147483648u;
+    {
+    r6_0 = spec_select;
+    goto at__layers_c_open_day_columns_within_rolled_of_exit_i;
+    }
+    at__layers_c_open_day_columns_within_rolled_of_exit_i:;
+    r41_2 = (a8 + (int64_t)r25);
+    STORE(uint32_t, r41_2, r6_0);
+    r457 = (uint64_t)(r7_05 + UINT64_C(1));
+    exitcond_not_2 = r457 == a9;
+    if (exitcond_not_2) { { common_ret_op = 1; goto at__common_ret; } }
+    { r7_05 = r457; goto at__join_5_2; }
+}
+
+static t_struct_i8_i32_end chrono_business_calendar_Calendar_roll_within(bytes a0, uint32_t a1, uint32_t a2, uint32_t a3, uint8_t a4)
+{
+    uint32_t r0_sroa_5_0, r17, r5, r11, r13, r3, r71_i2, r10, r12, r6_2, r5_i_i_i_i_i11, r11_i_i_i_i_i12, r13_i_i_i_i_i13, r3_i_i_i_i_i_i_i14, r71_i2_i_i_i_i_i_i15, r10_i_i_i_i_i_i16, r12_i_i_i_i_i_i20, r6_i_i_i_i_i21, r5_sroa_4_0, v3, r5_2, r11_i_i_i_i_i_i26, r13_2, r3_2, r71_i2_2, r10_2, r12_2, r6_i_i_i_i_i_i27, spec_select;
+    uint8_t r0_sroa_0_sroa_0_0, r16, v0, r25, r32, spec_select_2, r25_i22, r32_i23, spec_select_i24, v1, r11_2, or_cond, not_not, r25_2, r32_2, spec_select_3, cond_fr, spec_select19;
+    t_struct_i8_i32_end r15, r50_fca_0_insert, r50_fca_1_insert;
+    uint64_t r6, r8, r10_i4, r6_i_i_i_i_i_i17, r8_i_i_i_i_i_i18, r10_i4_i_i_i_i_i19, r1, r1_i1, r23, r6_i_i_i_i_i25, v2, r6_3, r8_2, r10_i4_2;
+    r15 = chrono_business_calendar_Calendar_roll(a0, a3, a4);
+    r16 = r15.f0;
+    r17 = r15.f1;
+    v0 = r16 == 1;
+    if (v0) { goto at__arm_1; }
+    { r0_sroa_5_0 = 0; r0_sroa_0_sroa_0_0 = 0; goto at__return_5; }
+    at__arm_1:;
+    r5 = (uint32_t)(a3 << 2);
+    r11 = (uint32_t)(r5 + 383358527u);
+    r13 = (uint32_t)(r11 / 146097u);
+    r3 = (uint32_t)(r13 * 3);
+    r71_i2 = (uint32_t)(r3 + r11);
+    r10 = (uint32_t)(r71_i2 | 3);
+    r6 = (uint64_t)r10;
+    r8 = (uint64_t)(r6 * UINT64_C(376287347));
+    r10_i4 = (uint64_t)(r8 >> (UINT64_C(39) & 63u));
+    r12 = (uint32_t)(r10_i4);
+    r6_2 = (uint32_t)(r12 + 4294704897u);
+    r25 = (int32_t)a1 <= (int32_t)r6_2;
+    r32 = (int32_t)r6_2 <= (int32_t)a2;
+    spec_select_2 = (uint8_t)(((uint32_t)r25 & (uint32_t)r32) & 1);
+    if (spec_select_2) { goto at__join_3; }
+    { r0_sroa_5_0 = 0; r0_sroa_0_sroa_0_0 = 0; goto at__return_5; }
+    at__join_3:;
+    r5_i_i_i_i_i11 = (uint32_t)(r17 << 2);
+    r11_i_i_i_i_i12 = (uint32_t)(r5_i_i_i_i_i11 + 383358527u);
+    r13_i_i_i_i_i13 = (uint32_t)(r11_i_i_i_i_i12 / 146097u);
+    r3_i_i_i_i_i_i_i14 = (uint32_t)(r13_i_i_i_i_i13 * 3);
+    r71_i2_i_i_i_i_i_i15 = (uint32_t)(r3_i_i_i_i_i_i_i14 + r11_i_i_i_i_i12);
+    r10_i_i_i_i_i_i16 = (uint32_t)(r71_i2_i_i_i_i_i_i15 | 3);
+    r6_i_i_i_i_i_i17 = (uint64_t)r10_i_i_i_i_i_i16;
+    r8_i_i_i_i_i_i18 = (uint64_t)(r6_i_i_i_i_i_i17 * UINT64_C(376287347));
+    r10_i4_i_i_i_i_i19 = (uint64_t)(r8_i_i_i_i_i_i18 >> (UINT64_C(39) & 63u));
+    r12_i_i_i_i_i_i20 = (uint32_t)(r10_i4_i_i_i_i_i19);
+    r6_i_i_i_i_i21 = (uint32_t)(r12_i_i_i_i_i_i20 + 4294704897u);
+    r25_i22 = (int32_t)a1 <= (int32_t)r6_i_i_i_i_i21;
+    r32_i23 = (int32_t)r6_i_i_i_i_i21 <= (int32_t)a2;
+    spec_select_i24 = (uint8_t)(((uint32_t)r25_i22 & (uint32_t)r32_i23) & 1);
+    if (spec_select_i24) { goto at__join_6; }
+    { r0_sroa_5_0 = 0; r0_sroa_0_sroa_0_0 = 0; goto at__return_5; }
+    at__join_6:;
+    v1 = a4 == 6;
+    if (v1) { goto at__arm_7; }
+    { r0_sroa_5_0 = r17; r0_sroa_0_sroa_0_0 = 1; goto at__return_5; }
+    at__arm_7:;
+    r1 = (uint64_t)((uint64_t)(int32_t)a3);
+    r1_i1 = (uint64_t)((uint64_t)(int32_t)r17);
+    r23 = (uint64_t)(r1 - r1_i1);
+    r6_i_i_i_i_i25 = (uint64_t)(r23 + r1);
+    v2 = (uint64_t)(r6_i_i_i_i_i25 + UINT64_C(2147483648));
+    r11_2 = v2 < UINT64_C(4294967296);
+    r5_sroa_4_0 = (uint32_t)(r6_i_i_i_i_i25);
+    v3 = (uint32_t)(r5_sroa_4_0 + 95746129u);
+    or_cond = v3 < 191491529u;
+    not_not = r11_2 ? or_cond : 0;
+    if (not_not) { goto at__chrono_business_known_years_KnownYears_contains_roll_exit; }
+    { r0_sroa_5_0 = 0; r0_sroa_0_sroa_0_0 = 0; goto at__return_5; }
+    at__chrono_business_known_years_KnownYears_contains_roll_exit:;
+    r5_2 = (uint32_t)(r5_sroa_4_0 << 2);
+    r11_i_i_i_i_i_i26 = (uint32_t)(r5_2 + 383358527u);
+    r13_2 = (uint32_t)(r11_i_i_i_i_i_i26 / 146097u);
+    r3_2 = (uint32_t)(r13_2 * 3);
+    r71_i2_2 = (uint32_t)(r3_2 + r11_i_i_i_i_i_i26);
+    r10_2 = (uint32_t)(r71_i2_2 | 3);
+    r6_3 = (uint64_t)r10_2;
+    r8_2 = (uint64_t)(r6_3 * UINT64_C(376287347));
+    r10_i4_2 = (uint64_t)(r8_2 >> (UINT64_C(39) & 63u));
+    r12_2 = (uint32_t)(r10_i4_2);
+    r6_i_i_i_i_i_i27 = (uint32_t)(r12_2 + 4294704897u);
+    r25_2 = (int32_t)a1 <= (int32_t)r6_i_i_i_i_i_i27;
+    r32_2 = (int32_t)r6_i_i_i_i_i_i27 <= (int32_t)a2;
+    spec_select_3 = (uint8_t)(((uint32_t)r25_2 & (uint32_t)r32_2) & 1);
+    cond_fr = spec_select_3;
+    spec_select = cond_fr ? r17 : 0;
+    spec_select19 = (uint8_t)cond_fr;
+    {
+    r0_sroa_5_0 = spec_select;
+    r0_sroa_0_sroa_0_0 = spec_select19;
+    goto at__return_5;
+    }
+    at__return_5:;
+    r50_fca_0_insert = (t_struct_i8_i32_end){0};
+    r50_fca_0_insert.f0 = r0_sroa_0_sroa_0_0;
+    r50_fca_1_insert = r50_fca_0_insert;
+    r50_fca_1_insert.f1 = r0_sroa_5_0;
+    return r50_fca_1_insert;
+}
+
 static uint32_t in_calendar_is_open_day_within(uint8_t a0, bytes a1, uint64_t a2, uint32_t a3, uint32_t a4, uint32_t a5)
 {
     uint64_t r16_0, r5_019, r2_03, r3_02, r2_0_lcssa, r19, r36, r61, r12_sroa_4_i_sroa_7_0_copyload, r6, r8, r10_i4, r1_i10, reass_sub, r229, r25_2, r28, r30, r1, r11_3, r161, r4, r48, r31;
@@ -52478,10 +53572,11 @@ static uint32_t in_calendar_is_open_day_within(uint8_t a0, bytes a1, uint64_t a2
 
 static uint64_t in_calendar_open_days_between_within(uint8_t a0, bytes a1, uint64_t a2, uint32_t a3, uint32_t a4, uint32_t a5, uint32_t a6)
 {
-    uint64_t r19_0, r5_019, common_ret_op, r2_03, r3_02, r2_03_i_i_i_i15, r3_02_i_i_i_i16, r22, r36, r61, r6, r8, r10_i4, r6_4, r8_2, r10_i4_2, r6_i_i_i_i_i_i_i18, r8_i_i_i_i_i_i_i19, r10_i4_i_i_i_i_i_i20, r6_i_i_i_i_i_i_i_i35, r8_i_i_i_i_i_i_i_i36, r10_i4_i_i_i_i_i_i_i37, r5_2, a0_val1, r5_i_i_i_i441, r1_i10, reass_sub, r229, r25_3, r28, r30, r1_i_i_i2, r11_i_i_i_i_i_i_i45, r161, r4_2, r48, r5_i_i_i_i4, r1_i10_i_i_i_i12, reass_sub_i_i_i_i_i13, r229_i_i_i_i17, r25_i_i_i_i18, r28_i_i_i_i19, r30_i_i_i_i20, r1_i_i_i2_i_i23, r11_i_i_i_i_i_i24, r161_i_i_i_i_i_i25, r4_i_i_i_i_i26, r48_i_i_i_i27, r1_3, r1_i1, r7;
-    uint8_t r11_i_i_i_i746, r23, r1918_not, r27, or_cond, exitcond_not, spec_select_i23, r36_2, v1, or_cond_2, or_cond5, or_cond_3, r21_not, r25, r32, spec_select11, r25_2, r32_2, spec_select_i_i10, r21_not_i9, r25_i_i23, r32_i_i24, spec_select_i_i25, r25_i_i_i40, r32_i_i_i41, spec_select_i_i10_i42, a0_val, r11_4, r17_not1, r11_i_i_i_i743, r17_not, r11_i_i_i_i7, r17_not_i_i_i_i28;
-    uint32_t r2_0_lcssa_i_i_i_i44, r2_0_lcssa_i_i_i_i30, r41, v0, v2, v3, r5, r11, r13, r3_2, r71_i2, r10_2, r12, r6_2, r6_3, r11_2, r13_2, r3_3, r71_i2_2, r10_3, r12_2, r6_i_i_i_i_i_i9, r5_i_i_i_i_i_i12, r11_i_i_i_i_i_i13, r13_i_i_i_i_i_i14, r3_i_i_i_i_i_i_i_i15, r71_i2_i_i_i_i_i_i_i16, r10_i_i_i_i_i_i_i17, r12_i_i_i_i_i_i_i21, r6_i_i_i_i_i_i22, r6_i_i_i_i_i29, r11_i_i_i_i_i_i_i30, r13_i_i_i_i_i_i_i31, r3_i_i_i_i_i_i_i_i_i32, r71_i2_i_i_i_i_i_i_i_i33, r10_i_i_i_i_i_i_i_i34, r12_i_i_i_i_i_i_i_i38, r6_i_i_i_i_i_i9_i39, r11_3, r6_5, r11_i_i_i340, r35_val, r11_i_i_i3, r35_val_i_i_i_i22, v9, v10, r1, r10_4, r1_2, r16, r17, r6_i_i_i31, r10_i_i_i33, r1_i_i_i_i_i34, r16_i_i_i35, r17_i_i36;
-    bytes r10, r3, r4, r10_sroa_4, r21, r39, r58, r37, v4, r6_i_i_i_i_i44, r9, v5, a0_val_2, v6, r9_i_i_i_i642, v7, r35, r9_i_i_i_i6, v8, r35_i_i_i_i21;
+    uint64_t r19_0, r5_019, common_ret_op, r22, r36, r61, r63, r18_0;
+    bytes r10, r3, r4, r10_sroa_4, r21, r39, r58, r37;
+    uint8_t r23, r1918_not, r27, or_cond, exitcond_not, spec_select_i23, r36_2, v1, or_cond_2, or_cond5, or_cond_3, r62, v4;
+    uint32_t r41, v0, v2, v3;
+    t_struct_i8_i64_end r61_2;
     uint64_t room_r10[5];
     uint64_t room_r3[500];
     uint64_t room_r4[4];
@@ -52557,196 +53652,24 @@ static uint64_t in_calendar_open_days_between_within(uint8_t a0, bytes a1, uint6
     at__common_ret:;
     return common_ret_op;
     at__arm_10:;
-    r21_not = (int32_t)a6 > (int32_t)a5;
-    if (r21_not) { goto at__join_3; }
-    goto at__join_3_2;
-    at__join_3:;
-    r5 = (uint32_t)(a5 << 2);
-    r11 = (uint32_t)(r5 + 383358527u);
-    r13 = (uint32_t)(r11 / 146097u);
-    r3_2 = (uint32_t)(r13 * 3);
-    r71_i2 = (uint32_t)(r3_2 + r11);
-    r10_2 = (uint32_t)(r71_i2 | 3);
-    r6 = (uint64_t)r10_2;
-    r8 = (uint64_t)(r6 * UINT64_C(376287347));
-    r10_i4 = (uint64_t)(r8 >> (UINT64_C(39) & 63u));
-    r12 = (uint32_t)(r10_i4);
-    r6_2 = (uint32_t)(r12 + 4294704897u);
-    r25 = (int32_t)a3 <= (int32_t)r6_2;
-    r32 = (int32_t)r6_2 <= (int32_t)a4;
-    spec_select11 = (uint8_t)(((uint32_t)r25 & (uint32_t)r32) & 1);
-    if (spec_select11) { goto at__chrono_business_known_years_KnownYears_contains_all_exit_i; }
-    { common_ret_op = UINT64_C(9223372036854775808); goto at__common_ret; }
-    at__chrono_business_known_years_KnownYears_contains_all_exit_i:;
-    r6_3 = (uint32_t)(a6 << 2);
-    r11_2 = (uint32_t)(r6_3 + 383358523u);
-    r13_2 = (uint32_t)(r11_2 / 146097u);
-    r3_3 = (uint32_t)(r13_2 * 3);
-    r71_i2_2 = (uint32_t)(r3_3 + r11_2);
-    r10_3 = (uint32_t)(r71_i2_2 | 3);
-    r6_4 = (uint64_t)r10_3;
-    r8_2 = (uint64_t)(r6_4 * UINT64_C(376287347));
-    r10_i4_2 = (uint64_t)(r8_2 >> (UINT64_C(39) & 63u));
-    r12_2 = (uint32_t)(r10_i4_2);
-    r6_i_i_i_i_i_i9 = (uint32_t)(r12_2 + 4294704897u);
-    r25_2 = (int32_t)a3 <= (int32_t)r6_i_i_i_i_i_i9;
-    r32_2 = (int32_t)r6_i_i_i_i_i_i9 <= (int32_t)a4;
-    spec_select_i_i10 = (uint8_t)(((uint32_t)r25_2 & (uint32_t)r32_2) & 1);
-    if (spec_select_i_i10) { goto at__join_3_2; }
-    { common_ret_op = UINT64_C(9223372036854775808); goto at__common_ret; }
-    at__join_3_2:;
-    r21_not_i9 = (int32_t)a5 > (int32_t)a6;
-    if (r21_not_i9) { goto at__join_3_i11; }
-    goto at__join_710;
-    at__join_3_i11:;
-    r5_i_i_i_i_i_i12 = (uint32_t)(a6 << 2);
-    r11_i_i_i_i_i_i13 = (uint32_t)(r5_i_i_i_i_i_i12 + 383358527u);
-    r13_i_i_i_i_i_i14 = (uint32_t)(r11_i_i_i_i_i_i13 / 146097u);
-    r3_i_i_i_i_i_i_i_i15 = (uint32_t)(r13_i_i_i_i_i_i14 * 3);
-    r71_i2_i_i_i_i_i_i_i16 = (uint32_t)(r3_i_i_i_i_i_i_i_i15 + r11_i_i_i_i_i_i13);
-    r10_i_i_i_i_i_i_i17 = (uint32_t)(r71_i2_i_i_i_i_i_i_i16 | 3);
-    r6_i_i_i_i_i_i_i18 = (uint64_t)r10_i_i_i_i_i_i_i17;
-    r8_i_i_i_i_i_i_i19 = (uint64_t)(r6_i_i_i_i_i_i_i18 * UINT64_C(376287347));
-    r10_i4_i_i_i_i_i_i20 = (uint64_t)(r8_i_i_i_i_i_i_i19 >> (UINT64_C(39) & 63u));
-    r12_i_i_i_i_i_i_i21 = (uint32_t)(r10_i4_i_i_i_i_i_i20);
-    r6_i_i_i_i_i_i22 = (uint32_t)(r12_i_i_i_i_i_i_i21 + 4294704897u);
-    r25_i_i23 = (int32_t)a3 <= (int32_t)r6_i_i_i_i_i_i22;
-    r32_i_i24 = (int32_t)r6_i_i_i_i_i_i22 <= (int32_t)a4;
-    spec_select_i_i25 = (uint8_t)(((uint32_t)r25_i_i23 & (uint32_t)r32_i_i24) & 1);
-    if (spec_select_i_i25) { goto at__chrono_business_known_years_KnownYears_contains_all_exit43_i; }
-    { common_ret_op = UINT64_C(9223372036854775808); goto at__common_ret; }
-    at__chrono_business_known_years_KnownYears_contains_all_exit43_i:;
-    r6_i_i_i_i_i29 = (uint32_t)(a5 << 2);
-    r11_i_i_i_i_i_i_i30 = (uint32_t)(r6_i_i_i_i_i29 + 383358523u);
-    r13_i_i_i_i_i_i_i31 = (uint32_t)(r11_i_i_i_i_i_i_i30 / 146097u);
-    r3_i_i_i_i_i_i_i_i_i32 = (uint32_t)(r13_i_i_i_i_i_i_i31 * 3);
-    r71_i2_i_i_i_i_i_i_i_i33 = (uint32_t)(r3_i_i_i_i_i_i_i_i_i32 + r11_i_i_i_i_i_i_i30);
-    r10_i_i_i_i_i_i_i_i34 = (uint32_t)(r71_i2_i_i_i_i_i_i_i_i33 | 3);
-    r6_i_i_i_i_i_i_i_i35 = (uint64_t)r10_i_i_i_i_i_i_i_i34;
-    r8_i_i_i_i_i_i_i_i36 = (uint64_t)(r6_i_i_i_i_i_i_i_i35 * UINT64_C(376287347));
-    r10_i4_i_i_i_i_i_i_i37 = (uint64_t)(r8_i_i_i_i_i_i_i_i36 >> (UINT64_C(39) & 63u));
-    r12_i_i_i_i_i_i_i_i38 = (uint32_t)(r10_i4_i_i_i_i_i_i_i37);
-    r6_i_i_i_i_i_i9_i39 = (uint32_t)(r12_i_i_i_i_i_i_i_i38 + 4294704897u);
-    r25_i_i_i40 = (int32_t)a3 <= (int32_t)r6_i_i_i_i_i_i9_i39;
-    r32_i_i_i41 = (int32_t)r6_i_i_i_i_i_i9_i39 <= (int32_t)a4;
-    spec_select_i_i10_i42 = (uint8_t)(((uint32_t)r25_i_i_i40 & (uint32_t)r32_i_i_i41) & 1);
-    if (spec_select_i_i10_i42) { goto at__join_710; }
-    { common_ret_op = UINT64_C(9223372036854775808); goto at__common_ret; }
-    at__join_710:;
-    v4 = (r4 + 8);
-    LOAD(uint8_t, a0_val, v4);
-    r11_3 = (uint32_t)(v2 % 7);
-    r6_5 = (uint32_t)(v2 / 7);
-    r5_2 = (uint64_t)r11_3;
-    r6_i_i_i_i_i44 = (r4 + 1);
-    r9 = (r6_i_i_i_i_i44 + (int64_t)r5_2);
-    LOAD(uint8_t, r11_4, r9);
-    v5 = (r4 + 16);
-    LOAD(bytes, a0_val_2, v5);
-    v6 = (r4 + 24);
-    LOAD(uint64_t, a0_val1, v6);
-    r17_not1 = a0_val1 == UINT64_C(0);
-    if (r17_not1) { goto at__chrono_business_calendar_Calendar_rank_exit_thread_i_i; }
-    goto at__join_5_lr_ph;
-    at__chrono_business_calendar_Calendar_rank_exit_thread_i_i:;
-    r11_i_i_i340 = (uint32_t)(v3 % 7);
-    r5_i_i_i_i441 = (uint64_t)r11_i_i_i340;
-    r9_i_i_i_i642 = (r6_i_i_i_i_i44 + (int64_t)r5_i_i_i_i441);
-    LOAD(uint8_t, r11_i_i_i_i743, r9_i_i_i_i642);
+    r61_2 = chrono_business_calendar_Calendar_open_days_within(r4, a3, a4, a5, a6);
+    r62 = r61_2.f0;
+    v4 = r62 == 1;
+    r63 = r61_2.f1;
+    r18_0 = v4 ? r63 : UINT64_C(9223372036854775808);
     {
-    r11_i_i_i_i746 = r11_i_i_i_i743;
-    r2_0_lcssa_i_i_i_i44 = 0;
-    r2_0_lcssa_i_i_i_i30 = 0;
-    goto at__11;
-    }
-    at__join_5_lr_ph:;
-    r1_i10 = (uint64_t)((uint64_t)(int32_t)a5);
-    reass_sub = (uint64_t)(r1_i10 + UINT64_C(4611686018427387903));
-    {
-    r2_03 = UINT64_C(0);
-    r3_02 = a0_val1;
-    goto at__join_5_2;
-    }
-    at__join_5_2:;
-    r229 = (uint64_t)(r3_02 >> (UINT64_C(1) & 63u));
-    r25_3 = (uint64_t)(r3_02 - r229);
-    r28 = (uint64_t)(r25_3 + r2_03);
-    r30 = (uint64_t)(r28 << (UINT64_C(2) & 63u));
-    v7 = (a0_val_2 + (int64_t)r30);
-    r35 = (v7 - 4);
-    LOAD(uint32_t, r35_val, r35);
-    r1_i_i_i2 = (uint64_t)((uint64_t)(int32_t)r35_val);
-    r11_i_i_i_i_i_i_i45 = (uint64_t)(reass_sub - r1_i_i_i2);
-    r161 = (uint64_t)(r11_i_i_i_i_i_i_i45 >> (UINT64_C(62) & 63u));
-    r4_2 = (uint64_t)(r161 * r25_3);
-    r48 = (uint64_t)(r4_2 + r2_03);
-    r17_not = r229 == UINT64_C(0);
-    if (r17_not) { goto at__join_5_lr_ph_i_i_i_i11; }
-    { r2_03 = r48; r3_02 = r229; goto at__join_5_2; }
-    at__join_5_lr_ph_i_i_i_i11:;
-    r11_i_i_i3 = (uint32_t)(v3 % 7);
-    r5_i_i_i_i4 = (uint64_t)r11_i_i_i3;
-    r9_i_i_i_i6 = (r6_i_i_i_i_i44 + (int64_t)r5_i_i_i_i4);
-    LOAD(uint8_t, r11_i_i_i_i7, r9_i_i_i_i6);
-    r1_i10_i_i_i_i12 = (uint64_t)((uint64_t)(int32_t)a6);
-    reass_sub_i_i_i_i_i13 = (uint64_t)(r1_i10_i_i_i_i12 + UINT64_C(4611686018427387903));
-    {
-    r2_03_i_i_i_i15 = UINT64_C(0);
-    r3_02_i_i_i_i16 = a0_val1;
-    goto at__join_5_i_i_i_i14;
-    }
-    at__join_5_i_i_i_i14:;
-    r229_i_i_i_i17 = (uint64_t)(r3_02_i_i_i_i16 >> (UINT64_C(1) & 63u));
-    r25_i_i_i_i18 = (uint64_t)(r3_02_i_i_i_i16 - r229_i_i_i_i17);
-    r28_i_i_i_i19 = (uint64_t)(r25_i_i_i_i18 + r2_03_i_i_i_i15);
-    r30_i_i_i_i20 = (uint64_t)(r28_i_i_i_i19 << (UINT64_C(2) & 63u));
-    v8 = (a0_val_2 + (int64_t)r30_i_i_i_i20);
-    r35_i_i_i_i21 = (v8 - 4);
-    LOAD(uint32_t, r35_val_i_i_i_i22, r35_i_i_i_i21);
-    r1_i_i_i2_i_i23 = (uint64_t)((uint64_t)(int32_t)r35_val_i_i_i_i22);
-    r11_i_i_i_i_i_i24 = (uint64_t)(reass_sub_i_i_i_i_i13 - r1_i_i_i2_i_i23);
-    r161_i_i_i_i_i_i25 = (uint64_t)(r11_i_i_i_i_i_i24 >> (UINT64_C(62) & 63u));
-    r4_i_i_i_i_i26 = (uint64_t)(r161_i_i_i_i_i_i25 * r25_i_i_i_i18);
-    r48_i_i_i_i27 = (uint64_t)(r4_i_i_i_i_i26 + r2_03_i_i_i_i15);
-    r17_not_i_i_i_i28 = r229_i_i_i_i17 == UINT64_C(0);
-    if (r17_not_i_i_i_i28) { goto at__chrono_business_calendar_Calendar_holidays_before_exit_loopexit_i_i29_i_i; }
-    { r2_03_i_i_i_i15 = r48_i_i_i_i27; r3_02_i_i_i_i16 = r229_i_i_i_i17; goto at__join_5_i_i_i_i14; }
-    at__chrono_business_calendar_Calendar_holidays_before_exit_loopexit_i_i29_i_i:;
-    v9 = (uint32_t)(r48);
-    v10 = (uint32_t)(r48_i_i_i_i27);
-    {
-    r11_i_i_i_i746 = r11_i_i_i_i7;
-    r2_0_lcssa_i_i_i_i44 = v9;
-    r2_0_lcssa_i_i_i_i30 = v10;
-    goto at__11;
-    }
-    at__11:;
-    r1 = (uint32_t)a0_val;
-    r10_4 = (uint32_t)(r6_5 * r1);
-    r1_2 = (uint32_t)r11_4;
-    r16 = (uint32_t)(r10_4 + r1_2);
-    r17 = (uint32_t)(r16 - r2_0_lcssa_i_i_i_i44);
-    r6_i_i_i31 = (uint32_t)(v3 / 7);
-    r10_i_i_i33 = (uint32_t)(r6_i_i_i31 * r1);
-    r1_i_i_i_i_i34 = (uint32_t)r11_i_i_i_i746;
-    r16_i_i_i35 = (uint32_t)(r10_i_i_i33 + r1_i_i_i_i_i34);
-    r17_i_i36 = (uint32_t)(r16_i_i_i35 - r2_0_lcssa_i_i_i_i30);
-    r1_3 = (uint64_t)r17_i_i36;
-    r1_i1 = (uint64_t)r17;
-    r7 = (uint64_t)(r1_3 - r1_i1);
-    {
-    common_ret_op = r7;
+    common_ret_op = r18_0;
     goto at__common_ret;
     }
 }
 
 static uint32_t in_calendar_roll_within(uint8_t a0, bytes a1, uint64_t a2, uint32_t a3, uint32_t a4, uint32_t a5, uint32_t a6)
 {
-    uint64_t r18_0, r5_019, r21, r36, r61, r6, r8, r10_i4, r6_i_i_i_i_i_i17, r8_i_i_i_i_i_i18, r10_i4_i_i_i_i_i19, r1, r1_i1, r23, r6_i_i_i_i_i25, v6, r6_3, r8_2, r10_i4_2;
-    uint32_t common_ret_op, r41, v0, v3, r17, r5, r11, r13, r3_2, r71_i2, r10_2, r12, r6_2, r5_i_i_i_i_i11, r11_i_i_i_i_i12, r13_i_i_i_i_i13, r3_i_i_i_i_i_i_i14, r71_i2_i_i_i_i_i_i15, r10_i_i_i_i_i_i16, r12_i_i_i_i_i_i20, r6_i_i_i_i_i21, r5_sroa_4_0, v7, r5_2, r11_i_i_i_i_i_i26, r13_2, r3_3, r71_i2_2, r10_3, r12_2, r6_i_i_i_i_i_i27, v8;
+    uint64_t r18_0, r5_019, r21, r36, r61;
+    uint32_t common_ret_op, r41, v0, v3, r60, spec_select;
     bytes r10, r3, r4, r10_sroa_4, r20, r39, r58, r37;
-    uint8_t r22, r1918_not, r27, or_cond, exitcond_not, spec_select_i23, r36_2, v1, v2, or_cond_2, or_cond_3, switch_idx_cast, r16, v4, r25, r32, spec_select5, r25_i22, r32_i23, spec_select_i24, v5, r11_2, or_cond_4, not_not, r25_2, r32_2, spec_select, cond_fr;
-    t_struct_i8_i32_end r15;
+    uint8_t r22, r1918_not, r27, or_cond, exitcond_not, spec_select_i23, r36_2, v1, v2, or_cond_2, or_cond_3, switch_idx_cast, r59, trunc;
+    t_struct_i8_i32_end r58_2;
     uint64_t room_r10[5];
     uint64_t room_r3[500];
     uint64_t room_r4[4];
@@ -52822,82 +53745,13 @@ static uint32_t in_calendar_roll_within(uint8_t a0, bytes a1, uint64_t a2, uint3
     return common_ret_op;
     at__arm_10:;
     switch_idx_cast = (uint8_t)(a6);
-    r15 = chrono_business_calendar_Calendar_roll(r4, a5, switch_idx_cast);
-    r16 = r15.f0;
-    r17 = r15.f1;
-    v4 = r16 == 1;
-    if (v4) { goto at__arm_14; }
-    { common_ret_op = 2147483648u; goto at__common_ret; }
-    at__arm_14:;
-    r5 = (uint32_t)(a5 << 2);
-    r11 = (uint32_t)(r5 + 383358527u);
-    r13 = (uint32_t)(r11 / 146097u);
-    r3_2 = (uint32_t)(r13 * 3);
-    r71_i2 = (uint32_t)(r3_2 + r11);
-    r10_2 = (uint32_t)(r71_i2 | 3);
-    r6 = (uint64_t)r10_2;
-    r8 = (uint64_t)(r6 * UINT64_C(376287347));
-    r10_i4 = (uint64_t)(r8 >> (UINT64_C(39) & 63u));
-    r12 = (uint32_t)(r10_i4);
-    r6_2 = (uint32_t)(r12 + 4294704897u);
-    r25 = (int32_t)a3 <= (int32_t)r6_2;
-    r32 = (int32_t)r6_2 <= (int32_t)a4;
-    spec_select5 = (uint8_t)(((uint32_t)r25 & (uint32_t)r32) & 1);
-    if (spec_select5) { goto at__join_3; }
-    { common_ret_op = 2147483648u; goto at__common_ret; }
-    at__join_3:;
-    r5_i_i_i_i_i11 = (uint32_t)(r17 << 2);
-    r11_i_i_i_i_i12 = (uint32_t)(r5_i_i_i_i_i11 + 383358527u);
-    r13_i_i_i_i_i13 = (uint32_t)(r11_i_i_i_i_i12 / 146097u);
-    r3_i_i_i_i_i_i_i14 = (uint32_t)(r13_i_i_i_i_i13 * 3);
-    r71_i2_i_i_i_i_i_i15 = (uint32_t)(r3_i_i_i_i_i_i_i14 + r11_i_i_i_i_i12);
-    r10_i_i_i_i_i_i16 = (uint32_t)(r71_i2_i_i_i_i_i_i15 | 3);
-    r6_i_i_i_i_i_i17 = (uint64_t)r10_i_i_i_i_i_i16;
-    r8_i_i_i_i_i_i18 = (uint64_t)(r6_i_i_i_i_i_i17 * UINT64_C(376287347));
-    r10_i4_i_i_i_i_i19 = (uint64_t)(r8_i_i_i_i_i_i18 >> (UINT64_C(39) & 63u));
-    r12_i_i_i_i_i_i20 = (uint32_t)(r10_i4_i_i_i_i_i19);
-    r6_i_i_i_i_i21 = (uint32_t)(r12_i_i_i_i_i_i20 + 4294704897u);
-    r25_i22 = (int32_t)a3 <= (int32_t)r6_i_i_i_i_i21;
-    r32_i23 = (int32_t)r6_i_i_i_i_i21 <= (int32_t)a4;
-    spec_select_i24 = (uint8_t)(((uint32_t)r25_i22 & (uint32_t)r32_i23) & 1);
-    if (spec_select_i24) { goto at__join_6; }
-    { common_ret_op = 2147483648u; goto at__common_ret; }
-    at__join_6:;
-    v5 = a6 == 6;
-    if (v5) { goto at__arm_7; }
-    { common_ret_op = r17; goto at__common_ret; }
-    at__arm_7:;
-    r1 = (uint64_t)((uint64_t)(int32_t)a5);
-    r1_i1 = (uint64_t)((uint64_t)(int32_t)r17);
-    r23 = (uint64_t)(r1 - r1_i1);
-    r6_i_i_i_i_i25 = (uint64_t)(r23 + r1);
-    v6 = (uint64_t)(r6_i_i_i_i_i25 + UINT64_C(2147483648));
-    r11_2 = v6 < UINT64_C(4294967296);
-    r5_sroa_4_0 = (uint32_t)(r6_i_i_i_i_i25);
-    v7 = (uint32_t)(r5_sroa_4_0 + 95746129u);
-    or_cond_4 = v7 < 191491529u;
-    not_not = r11_2 ? or_cond_4 : 0;
-    if (not_not) { goto at__chrono_business_known_years_KnownYears_contains_roll_exit_i; }
-    { common_ret_op = 2147483648u; goto at__common_ret; }
-    at__chrono_business_known_years_KnownYears_contains_roll_exit_i:;
-    r5_2 = (uint32_t)(r5_sroa_4_0 << 2);
-    r11_i_i_i_i_i_i26 = (uint32_t)(r5_2 + 383358527u);
-    r13_2 = (uint32_t)(r11_i_i_i_i_i_i26 / 146097u);
-    r3_3 = (uint32_t)(r13_2 * 3);
-    r71_i2_2 = (uint32_t)(r3_3 + r11_i_i_i_i_i_i26);
-    r10_3 = (uint32_t)(r71_i2_2 | 3);
-    r6_3 = (uint64_t)r10_3;
-    r8_2 = (uint64_t)(r6_3 * UINT64_C(376287347));
-    r10_i4_2 = (uint64_t)(r8_2 >> (UINT64_C(39) & 63u));
-    r12_2 = (uint32_t)(r10_i4_2);
-    r6_i_i_i_i_i_i27 = (uint32_t)(r12_2 + 4294704897u);
-    r25_2 = (int32_t)a3 <= (int32_t)r6_i_i_i_i_i_i27;
-    r32_2 = (int32_t)r6_i_i_i_i_i_i27 <= (int32_t)a4;
-    spec_select = (uint8_t)(((uint32_t)r25_2 & (uint32_t)r32_2) & 1);
-    cond_fr = spec_select;
-    v8 = cond_fr ? r17 : 2147483648u;
+    r58_2 = chrono_business_calendar_Calendar_roll_within(r4, a3, a4, a5, switch_idx_cast);
+    r59 = r58_2.f0;
+    r60 = r58_2.f1;
+    trunc = (uint8_t)((r59) & 1);
+    spec_select = trunc ? r60 : 2147483648u;
     {
-    common_ret_op = v8;
+    common_ret_op = spec_select;
     goto at__common_ret;
     }
 }
@@ -55853,13 +56707,13 @@ static void layers_c_zone_bytes_zone_of_parts(bytes a0, uint32_t a1, bytes a2, u
     at__zone_table_offsets_offset_of_count_exit_i10_i_i_i:;
     r10_i_i8 = (r8_i7 - 8);
     LOAD(uint32_t, r0_sroa_0_0_copyload_i_i9, r10_i_i8);
-    a0_a1 = (int32_t)r0_sroa_0_0_copyload_i_i9 > (int32_t)r5_sroa_0_0_i16 ? r0_sroa_0_0_copyload_i_i9 : r5_sroa_0_0_i16;
+    a0_a1 = (uint32_t)GREATER32((int32_t)r0_sroa_0_0_copyload_i_i9, (int32_t)r5_sroa_0_0_i16);
     r1_2 = WIDE_OF_SIGNED((int64_t)r10_2);
     r1_i1 = WIDE_OF_SIGNED((int32_t)a0_a1);
     r7_i12 = wide_add(r1_i1, r1_2);
     r10_i_i8_i21 = (r8_i7 + 8);
     LOAD(uint32_t, r0_sroa_0_0_copyload_i_i9_i22, r10_i_i8_i21);
-    a1_a0 = (int32_t)r0_sroa_0_0_copyload_i_i9_i22 < (int32_t)r0_sroa_0_0_copyload_i_i9 ? r0_sroa_0_0_copyload_i_i9_i22 : r0_sroa_0_0_copyload_i_i9;
+    a1_a0 = (uint32_t)LESSER32((int32_t)r0_sroa_0_0_copyload_i_i9_i22, (int32_t)r0_sroa_0_0_copyload_i_i9);
     r1_i_i_i28 = WIDE_OF_SIGNED((int64_t)r10_i8);
     r1_i1_i_i29 = WIDE_OF_SIGNED((int32_t)a1_a0);
     r7_i12_i30 = wide_add(r1_i1_i_i29, r1_i_i_i28);
@@ -55957,7 +56811,7 @@ static void layers_c_zone_bytes_zone_of_parts(bytes a0, uint32_t a1, bytes a2, u
     if (r38_2) { goto at__join_3; }
     goto at__else_4;
     at__else_4:;
-    a1_a0_2 = (int64_t)r4_i_sroa_0_0 < (int64_t)r3_i_sroa_0_0 ? r4_i_sroa_0_0 : r3_i_sroa_0_0;
+    a1_a0_2 = (uint64_t)LESSER64((int64_t)r4_i_sroa_0_0, (int64_t)r3_i_sroa_0_0);
     reass_sub = (uint64_t)(a1_a0_2 - r31_i44);
     r45 = (int64_t)r31_i44 < (int64_t)r4_i_sroa_7_0;
     r53 = (int64_t)reass_sub < (int64_t)UINT64_C(18446744073678340264);
@@ -56715,7 +57569,7 @@ static t_struct_i8_i64_end zone_rule_rule_Daylight_hold_in_cycle(bytes a0, uint3
     { r2_0666 = r1567; goto at__join_565; }
     at__zone_rule_rule_next_of_exit72:;
     r30 = zone_rule_rule_Daylight_is_last_begun(a0, a1, r6_2, a2);
-    a1_a0 = (int64_t)r3_0_lcssa71 < (int64_t)r3_0_lcssa ? r3_0_lcssa71 : r3_0_lcssa;
+    a1_a0 = (uint64_t)LESSER64((int64_t)r3_0_lcssa71, (int64_t)r3_0_lcssa);
     {
     r5_sroa_4_0_copyload_pn_i_pn = a1_a0;
     r0_sroa_0_0_in = r30;
@@ -57176,7 +58030,7 @@ static uint32_t zone_zone_Zone_offset_of_instant(bytes a0, uint64_t a1)
     if (r38) { goto at__join_31; }
     goto at__else_4;
     at__else_4:;
-    a1_a0 = (int64_t)r4_i_sroa_0_0 < (int64_t)r3_i_sroa_0_0 ? r4_i_sroa_0_0 : r3_i_sroa_0_0;
+    a1_a0 = (uint64_t)LESSER64((int64_t)r4_i_sroa_0_0, (int64_t)r3_i_sroa_0_0);
     reass_sub = (uint64_t)(a1_a0 - r31_i44);
     r45 = (int64_t)r31_i44 < (int64_t)r4_i_sroa_7_0;
     r53 = (int64_t)reass_sub < (int64_t)UINT64_C(18446744073678340264);
@@ -58791,7 +59645,7 @@ static t_struct_i8_i64_end calendar_rules_timed_reader_read_part(bytes a0, uint6
     switch_gep = ((bytes)&switch_table_calendar_rules_timed_reader_read_part + (int64_t)v0 * 8);
     LOAD(uint64_t, switch_load, switch_gep);
     v1 = (uint64_t)a2;
-    switch_gep71 = ((bytes)&switch_table_calendar_rules_timed_reader_read_part_298 + (int64_t)v1 * 8);
+    switch_gep71 = ((bytes)&switch_table_calendar_rules_timed_reader_read_part_297 + (int64_t)v1 * 8);
     LOAD(bytes, switch_load72, switch_gep71);
     calendar_rules_part_value_value_of(r9, a0, a1, switch_load72, switch_load);
     LOAD(uint8_t, r2, r9);
@@ -58810,7 +59664,7 @@ static t_struct_i8_i64_end calendar_rules_timed_reader_read_part(bytes a0, uint6
     r9_2 = (r9 + 16);
     LOAD(bytes, r11_sroa_6_i_sroa_0_0_copyload, r9_2);
     v4 = (uint64_t)a2;
-    switch_gep73 = ((bytes)&switch_table_calendar_rules_timed_reader_read_part_300 + (int64_t)v4 * 4);
+    switch_gep73 = ((bytes)&switch_table_calendar_rules_timed_reader_read_part_299 + (int64_t)v4 * 4);
     {
     r4_sroa_0_0 = UINT64_C(0);
     r5_sroa_0_0 = r11_sroa_6_i_sroa_0_0_copyload;
@@ -58908,7 +59762,7 @@ static t_struct_i8_i64_end calendar_rules_timed_reader_read_part(bytes a0, uint6
     { r0_sroa_0_sroa_0_0 = 0; r0_sroa_4_0 = UINT64_C(0); goto at__return_5; }
     at__switch_lookup75:;
     v7 = (uint64_t)a2;
-    switch_gep76 = ((bytes)&switch_table_calendar_rules_timed_reader_read_part_300 + (int64_t)v7 * 4);
+    switch_gep76 = ((bytes)&switch_table_calendar_rules_timed_reader_read_part_299 + (int64_t)v7 * 4);
     LOAD(uint32_t, switch_load77, switch_gep76);
     r27_not_i39 = r4_0_pn_i_i_i_i25 > switch_load77;
     if (r27_not_i39) { { r0_sroa_0_sroa_0_0 = 0; r0_sroa_4_0 = UINT64_C(0); goto at__return_5; } }
@@ -58965,7 +59819,7 @@ static void calendar_rules_instant_list_put_instants_16a892625931f552(bytes a0, 
     v1 = (uint64_t)r1_sroa_0_0_copyload;
     switch_gep = ((bytes)&switch_table_calendar_rules_instant_list_put_instants_16a892625931f552 + (int64_t)v1 * 8);
     v2 = (uint64_t)r1_sroa_0_0_copyload;
-    switch_gep16 = ((bytes)&switch_table_calendar_rules_instant_list_put_instants_16a892625931f552_301 + (int64_t)v2 * 8);
+    switch_gep16 = ((bytes)&switch_table_calendar_rules_instant_list_put_instants_16a892625931f552_300 + (int64_t)v2 * 8);
     {
     r4_sroa_334_sroa_0_0_in = r1_sroa_4_0_copyload;
     r4_sroa_5_0 = r1_sroa_5_0_copyload;
@@ -59516,7 +60370,7 @@ static uint32_t zoned_rules_local_instant_offset_of_16a892625931f552(bytes a0, b
     r49 = (v1 - 24);
     spec_select = r35 ? a0 : r49;
     LOAD(uint32_t, r12_sroa_0_0, spec_select);
-    a0_a1 = (int32_t)r12_sroa_0_0 > (int32_t)r29_val ? r12_sroa_0_0 : r29_val;
+    a0_a1 = (uint32_t)GREATER32((int32_t)r12_sroa_0_0, (int32_t)r29_val);
     LOAD(uint32_t, a0_val, r12_2);
     r10_2 = (a0 + 32);
     LOAD(uint8_t, r11, r10_2);
@@ -59526,13 +60380,13 @@ static uint32_t zoned_rules_local_instant_offset_of_16a892625931f552(bytes a0, b
     at__arm_1_3:;
     r13_2 = (a0 + 36);
     LOAD(uint32_t, r5_sroa_0_0_copyload_3, r13_2);
-    a0_a1_i_i3 = (int32_t)r5_sroa_0_0_copyload_3 > (int32_t)a0_val ? r5_sroa_0_0_copyload_3 : a0_val;
+    a0_a1_i_i3 = (uint32_t)GREATER32((int32_t)r5_sroa_0_0_copyload_3, (int32_t)a0_val);
     {
     r4_0 = a0_a1_i_i3;
     goto at__zone_zone_is_local_behind_exit_i_i;
     }
     at__zone_zone_is_local_behind_exit_i_i:;
-    a0_a1_2 = (int32_t)r4_0 > (int32_t)a0_a1 ? r4_0 : a0_a1;
+    a0_a1_2 = (uint32_t)GREATER32((int32_t)r4_0, (int32_t)a0_a1);
     r1_2 = WIDE_OF_SIGNED((int64_t)r6_sroa_3_8_copyload);
     r1_i1 = WIDE_OF_SIGNED((int32_t)a0_a1_2);
     r7_2 = wide_add(r1_i1, r1_2);
@@ -59596,7 +60450,7 @@ static uint32_t zoned_rules_local_instant_offset_of_16a892625931f552(bytes a0, b
     r24 = zone_rule_rule_ZoneRule_stretch_of_instant(r12_3, r1226);
     r1762 = r24.f1;
     r1963 = (uint64_t)(r25 + UINT64_C(86400));
-    a1_a0_i64 = (int64_t)r1963 < (int64_t)r1762 ? r1963 : r1762;
+    a1_a0_i64 = (uint64_t)LESSER64((int64_t)r1963, (int64_t)r1762);
     {
     r5_sroa_3_0_copyload20 = r5_sroa_3_0_copyload1923;
     a1_a0_i70 = a1_a0_i64;
@@ -59609,7 +60463,7 @@ static uint32_t zoned_rules_local_instant_offset_of_16a892625931f552(bytes a0, b
     r33 = zone_table_offsets_stretch_of_instant(r6_sroa_0_0_copyload_2, r7_sroa_0_0_copyload_pre_3, r5_sroa_3_0_copyload1924, r1225);
     r17 = r33.f1;
     r19 = (uint64_t)(r25 + UINT64_C(86400));
-    a1_a0 = (int64_t)r19 < (int64_t)r17 ? r19 : r17;
+    a1_a0 = (uint64_t)LESSER64((int64_t)r19, (int64_t)r17);
     if (v0) { { r5_sroa_3_0_copyload20 = r5_sroa_3_0_copyload1924; a1_a0_i70 = a1_a0; r1969 = r19; r24_pn_i_i68 = r33; goto at__zone_time_zone_RefZoneTimeZone_stretch_from_exit_split_us_i; } }
     goto at__zone_time_zone_RefZoneTimeZone_stretch_from_exit_split_i;
     at__zone_time_zone_RefZoneTimeZone_stretch_from_exit_split_us_i:;
@@ -59628,7 +60482,7 @@ static uint32_t zoned_rules_local_instant_offset_of_16a892625931f552(bytes a0, b
     at__arm_1_i_i20_us_us_us:;
     r24_i_i33_us_us_us = zone_rule_rule_ZoneRule_stretch_of_instant(r12_i_i_i71, r4_0_us_us53_us);
     r35_us_us_us = r24_i_i33_us_us_us.f1;
-    a1_a0_i35_us_us_us = (int64_t)r1969 < (int64_t)r35_us_us_us ? r1969 : r35_us_us_us;
+    a1_a0_i35_us_us_us = (uint64_t)LESSER64((int64_t)r1969, (int64_t)r35_us_us_us);
     r24_i_i_i_us_us_us = zone_rule_rule_ZoneRule_stretch_of_instant(r12_i_i_i71, a1_a0_i35_us_us_us);
     r11_i37_us_us_us = r24_i_i_i_us_us_us.f0;
     r1_i_i38_us_us_us = (uint64_t)((uint64_t)(int32_t)r11_i37_us_us_us);
@@ -59677,7 +60531,7 @@ static uint32_t zoned_rules_local_instant_offset_of_16a892625931f552(bytes a0, b
     }
     at__zone_time_zone_RefZoneTimeZone_stretch_from_exit34_us_i:;
     r35_us = r24_pn_i_i19_us.f1;
-    a1_a0_i35_us = (int64_t)r1969 < (int64_t)r35_us ? r1969 : r35_us;
+    a1_a0_i35_us = (uint64_t)LESSER64((int64_t)r1969, (int64_t)r35_us);
     {
     r4_0_us = a1_a0_i35_us;
     r15_pn_us = r24_pn_i_i19_us;
@@ -59694,7 +60548,7 @@ static uint32_t zoned_rules_local_instant_offset_of_16a892625931f552(bytes a0, b
     at__join_5:;
     r33_i_i18 = zone_table_offsets_stretch_of_instant(r6_sroa_0_0_copyload_2, r7_sroa_0_0_copyload_pre_3, r5_sroa_3_0_copyload1924, r4_046);
     r35_3 = r33_i_i18.f1;
-    a1_a0_i35 = (int64_t)r19 < (int64_t)r35_3 ? r19 : r35_3;
+    a1_a0_i35 = (uint64_t)LESSER64((int64_t)r19, (int64_t)r35_3);
     r33_2 = zone_table_offsets_stretch_of_instant(r6_sroa_0_0_copyload_2, r7_sroa_0_0_copyload_pre_3, r5_sroa_3_0_copyload1924, a1_a0_i35);
     r11_2 = r33_2.f0;
     r16 = (uint64_t)((uint64_t)(int32_t)r11_2);
@@ -59753,8 +60607,8 @@ static void zone_zone_offsets_by_rule(bytes a0, bytes a1, uint64_t a2)
     LOAD(uint32_t, r3_val, r3);
     r1_i6 = (uint64_t)((uint64_t)(int32_t)r3_val);
     r32 = (uint64_t)(r3_0 - r1_i6);
-    a1_a0 = (int64_t)r32 < (int64_t)r25 ? r32 : r25;
-    a0_a1 = (int64_t)r32 > (int64_t)r25 ? r32 : r25;
+    a1_a0 = (uint64_t)LESSER64((int64_t)r32, (int64_t)r25);
+    a0_a1 = (uint64_t)GREATER64((int64_t)r32, (int64_t)r25);
     or_cond = a1_a0 > UINT64_C(12622780799);
     if (or_cond) { goto at__join_4; }
     goto at__after_1;
@@ -59786,7 +60640,7 @@ static void zone_zone_offsets_by_rule(bytes a0, bytes a1, uint64_t a2)
     r24 = (uint64_t)(r31_i38 + UINT64_C(18446744073677994664));
     r4_i_sroa_0_0 = r16 ? r21 : r28_i37;
     r4_i_sroa_7_0 = r16 ? r24 : r31_i38;
-    a1_a0_2 = (int64_t)r4_i_sroa_0_0 < (int64_t)r3_i_sroa_0_0 ? r4_i_sroa_0_0 : r3_i_sroa_0_0;
+    a1_a0_2 = (uint64_t)LESSER64((int64_t)r4_i_sroa_0_0, (int64_t)r3_i_sroa_0_0);
     reass_sub = (uint64_t)(a1_a0_2 - r31_i46);
     r34 = (uint64_t)(reass_sub + UINT64_C(31556952));
     r38 = (int64_t)r31_i46 < (int64_t)r3_i_sroa_8_0;
@@ -59872,7 +60726,7 @@ static void zone_zone_offsets_by_rule(bytes a0, bytes a1, uint64_t a2)
     if (r38_2) { goto at__join_3; }
     goto at__else_4_2;
     at__else_4_2:;
-    a1_a0_3 = (int64_t)r4_i_sroa_0_0_2 < (int64_t)r3_i_sroa_0_0_2 ? r4_i_sroa_0_0_2 : r3_i_sroa_0_0_2;
+    a1_a0_3 = (uint64_t)LESSER64((int64_t)r4_i_sroa_0_0_2, (int64_t)r3_i_sroa_0_0_2);
     reass_sub_2 = (uint64_t)(a1_a0_3 - r31_i44);
     r45_2 = (int64_t)r31_i44 < (int64_t)r4_i_sroa_7_0_2;
     r53_2 = (int64_t)reass_sub_2 < (int64_t)UINT64_C(18446744073678340264);
@@ -59928,7 +60782,7 @@ static void zone_zone_offsets_by_rule(bytes a0, bytes a1, uint64_t a2)
     if (r38_i_i39) { goto at__join_3_i5; }
     goto at__else_4_i_i40;
     at__else_4_i_i40:;
-    a1_a0_i_i41 = (int64_t)r4_i_sroa_0_0_i37 < (int64_t)r3_i_sroa_0_0_i22 ? r4_i_sroa_0_0_i37 : r3_i_sroa_0_0_i22;
+    a1_a0_i_i41 = (uint64_t)LESSER64((int64_t)r4_i_sroa_0_0_i37, (int64_t)r3_i_sroa_0_0_i22);
     reass_sub_i42 = (uint64_t)(a1_a0_i_i41 - r31_i44_i9);
     r45_i_i43 = (int64_t)r31_i44_i9 < (int64_t)r4_i_sroa_7_0_i38;
     r53_i_i44 = (int64_t)reass_sub_i42 < (int64_t)UINT64_C(18446744073678340264);
@@ -59962,8 +60816,8 @@ static void zone_zone_offsets_by_rule(bytes a0, bytes a1, uint64_t a2)
     if (cond_fr) { { sink = 1; r14_sroa_4_0_sroa_speculated_sink = r3_val; r14_sroa_7_0_sroa_speculated_sink = 0; goto at__zone_rule_rule_Daylight_offsets_of_local_exit_i; } }
     goto at__join_9;
     at__join_9:;
-    r14_sroa_7_0_sroa_speculated = (int32_t)r3_val < (int32_t)r3_sroa_0_0_copyload ? r3_val : r3_sroa_0_0_copyload;
-    r14_sroa_4_0_sroa_speculated = (int32_t)r3_val > (int32_t)r3_sroa_0_0_copyload ? r3_val : r3_sroa_0_0_copyload;
+    r14_sroa_7_0_sroa_speculated = (uint32_t)LESSER32((int32_t)r3_val, (int32_t)r3_sroa_0_0_copyload);
+    r14_sroa_4_0_sroa_speculated = (uint32_t)GREATER32((int32_t)r3_val, (int32_t)r3_sroa_0_0_copyload);
     {
     sink = 2;
     r14_sroa_4_0_sroa_speculated_sink = r14_sroa_4_0_sroa_speculated;
@@ -60289,7 +61143,7 @@ static void zone_table_offsets_offsets_near_change(bytes a0, uint32_t a1, bytes 
     at__zone_table_offsets_start_of_exit_i:;
     r8 = (a2 + (int64_t)r5_i_pre_phi);
     LOAD(uint64_t, r10_2, r8);
-    a1_a0 = (int32_t)r5_sroa_0_0_i10 < (int32_t)r5_sroa_0_0_i17 ? r5_sroa_0_0_i10 : r5_sroa_0_0_i17;
+    a1_a0 = (uint32_t)LESSER32((int32_t)r5_sroa_0_0_i10, (int32_t)r5_sroa_0_0_i17);
     r1_2 = WIDE_OF_SIGNED((int64_t)r10_2);
     r1_i1 = WIDE_OF_SIGNED((int32_t)a1_a0);
     r7_i12 = wide_add(r1_i1, r1_2);
@@ -60720,20 +61574,17 @@ static uint64_t in_calendar_text_instances(bytes a0, uint64_t a1, bytes a2, uint
 
 static t_struct_i8_i64_end zoned_rules_zoned_recurrence_ZonedRecurrence_first_member_16a892625931f552(bytes a0, uint64_t a1)
 {
-    uint64_t r1_0, r1_06, r3_0, r5_sroa_3_0_copyload50, r0_sroa_5_045, r4_sroa_4_017, r3_sroa_5_015, r3_0_i_i_i_i35, r2_0, r3_010, r6_sroa_3_0_copyload, r1_sroa_4_0, r12_sroa_5_0, r12_sroa_5_0_i_i_ph, r12_sroa_5_019, r1_sroa_5_0_copyload, r0_sroa_4_0, r11_2, a1_2, r14, r1_2, r18, r1_i2, r25, r19, r5_sroa_3_0_copyload, r5_sroa_3_0_copyload42, r33, r1_3, r18_2, r1_i2_2, r25_2, v3, r31, r14_i8, r18_3, r23_3, r26, r22, r24, r18_i_i_i_i1, r25_3, r6_sroa_3_0_copyload_pre, r4_sroa_3_0_copyload, r236, r4_sroa_3_8_copyload, r1814, r23_i_i2, r26_2, r31_2, r31_i44, r1_4, r1_i50, r1_i51, r28_i24, r31_i25, r21_i13, r24_i14, r3_i_sroa_0_0, r3_i_sroa_8_0, r1_i57, r1_i58, r1_i59, r28_i35, r31_i36, r21, r24_2, r4_i_sroa_0_0, r4_i_sroa_7_0, a1_a012, reass_sub, r1_i12, r21_2, a1_a0, spec_select6, a1_a0_2, spec_select6_2, r5_sroa_3_0_copyload_2, r23_2, r1_5, r18_5, r1_i2_3, r25_4;
-    uint32_t r2_05, r0_sroa_0_0_2, r2_0_2, r10_2, r23, r4_sroa_0_0_copyload_2, r4_sroa_3_0_copyload_2, r14_4, r15_val, r15_val4, r14_i_i_i1, r45, r5_sroa_0_0_copyload_3, r13_i20, r17, r8_sroa_0_0_copyload, r13_i28, r17_i31, r0_sroa_0_0, r5_sroa_0_0_copyload4, r27, r14_i_i_i_i_i_lhs_trunc, r14_i_i_i_i_i55, v7, r23_i_lhs_trunc, r22_i7, v8, sadd_i_i_i54, v9, r14_val, r14_val2, r14_5;
-    uint8_t r0_sroa_0_sroa_0_047, r3_sroa_0_sroa_0_014, common_ret_op, r1_sroa_0_sroa_0_0, r12_sroa_0_sroa_0_0, r10, trunc, v0, r7, r74_not, r13, v1, exitcond_not, r35, r18_i13, r18_i1343, r4, or_cond, or_cond_2, r12_2, r9_2, v4, r7_i_i_not, r12_i_not, r97, v6, r12_3, r16_i7, r16_2, r38, r45_2, r53, or_cond_3, r67, r74_not13, or_cond18, r18_i3, r23_i_i_i_i2, r30_not, or_cond_4, trunc_i_i2, trunc5, r18_4, trunc5_2, v10, r7_i_i_not_not_not_i_not_not_not_i_not, r10_3;
-    bytes r4_sroa_0_016, r0_sroa_0_0_in, r6_sroa_0_0_copyload, r5_sroa_0_0, r1, r5_sroa_3_0_r14_sroa_idx41, r6, r14_2, r4_sroa_3_0_r14_sroa_idx, r13_i49_in, r14_3, r1211, r16_i21, r12_i27, r16_i30, r16, r5_sroa_3_0_r16_sroa_idx, r1349, r5_sroa_0_0_copyload, r7_2, r22_phi_trans_insert, r6_sroa_3_0_r22_sroa_idx_phi_trans_insert, r11, r8, r119, r30, v2, r6_sroa_0_0_copyload_pre, r4_sroa_0_0_copyload, v5, r28, r1_a0, r5_sroa_0_0_copyload_2, r20, v11;
-    t_struct_i8_i64_end r44_fca_1_insert21, r44_fca_1_insert20, r9, r12, r44_fca_1_insert18, r44_fca_0_insert, r44_fca_1_insert, r32_fca_1_insert;
+    uint64_t r1_0, r5_sroa_3_0_copyload47, r0_sroa_5_042, r4_sroa_4_017, r3_sroa_5_015, r3_0_i_i_i_i35, r2_0, r3_0, r6_sroa_3_0_copyload, r1_sroa_4_0, r12_sroa_5_0, r12_sroa_5_0_i_i_ph, r12_sroa_5_016, r1_sroa_5_0_copyload, r0_sroa_4_0, r11_2, r32, r19, r5_sroa_3_0_copyload, r5_sroa_3_0_copyload39, r33, r1_2, r18, r1_i2, r25, v2, r31, r14_i8, r18_2, r23_2, r26, r22, r24, r18_i_i_i_i1, r25_2, r6_sroa_3_0_copyload_pre, r4_sroa_3_0_copyload, r236, r4_sroa_3_8_copyload, r1811, r23_i_i2, r26_2, r31_2, r31_i44, r1_3, r1_i50, r1_i51, r28_i24, r31_i25, r21_i13, r24_i14, r3_i_sroa_0_0, r3_i_sroa_8_0, r1_i57, r1_i58, r1_i59, r28_i35, r31_i36, r21, r24_2, r4_i_sroa_0_0, r4_i_sroa_7_0, a1_a010, reass_sub, r1_i12, r21_2, a1_a0, spec_select6, a1_a0_2, spec_select6_2, r5_sroa_3_0_copyload_2, r23, r1_4, r18_4, r1_i2_2, r25_3;
+    uint8_t r0_sroa_0_sroa_0_044, r3_sroa_0_sroa_0_014, common_ret_op, r1_sroa_0_sroa_0_0, r12_sroa_0_sroa_0_0, r10, v0, r35, r18_i13, r18_i1340, r4, or_cond, or_cond_2, r12_2, r9_2, v3, r7_i_i_not, r12_i_not, r97, v5, r12_3, r16_i7, r16_2, r38, r45_2, r53, or_cond_3, r67, r74_not, or_cond18, r18_i3, r23_i_i_i_i2, r30_not, or_cond_4, trunc, trunc5, r18_3, trunc5_2, v9, r7_i_i_not_not_not_i_not_not_not_i_not, r10_2;
+    bytes r4_sroa_0_016, r0_sroa_0_0_in, r6_sroa_0_0_copyload, r5_sroa_0_0, r1, r5_sroa_3_0_r14_sroa_idx38, r13_i46_in, r14, r12, r16_i21, r12_i27, r16_i30, r16, r5_sroa_3_0_r16_sroa_idx, r1346, r5_sroa_0_0_copyload, r7, r22_phi_trans_insert, r6_sroa_3_0_r22_sroa_idx_phi_trans_insert, r11, r8, r119, r30, v1, r6_sroa_0_0_copyload_pre, r4_sroa_0_0_copyload, v4, r28, r1_a0, r5_sroa_0_0_copyload_2, r20, v10;
+    uint32_t r0_sroa_0_0_2, r2_0_2, r15_val, r15_val4, r14_2, r45, r5_sroa_0_0_copyload_3, r13_i20, r17, r8_sroa_0_0_copyload, r13_i28, r17_i31, r0_sroa_0_0, r5_sroa_0_0_copyload4, r27, r14_i_i_i_i_i_lhs_trunc, r14_i_i_i_i_i55, v6, r23_i_lhs_trunc, r22_i7, v7, sadd_i_i_i54, v8, r14_val, r14_val2, r14_3;
+    t_struct_i8_i64_end r44_fca_1_insert18, r44_fca_1_insert17, r9, r44_fca_1_insert15, r44_fca_0_insert, r44_fca_1_insert, r32_fca_1_insert;
     uint64_t room_r1[7];
     r1 = (bytes)room_r1;
-    r5_sroa_3_0_r14_sroa_idx41 = (a0 + 456);
-    r6 = (a0 + 432);
-    r14_2 = (a0 + 436);
-    r4_sroa_3_0_r14_sroa_idx = (a0 + 440);
-    r13_i49_in = (a0 + 424);
-    r14_3 = (a0 + 448);
-    r1211 = (r1 + 20);
+    r5_sroa_3_0_r14_sroa_idx38 = (a0 + 456);
+    r13_i46_in = (a0 + 424);
+    r14 = (a0 + 448);
+    r12 = (r1 + 20);
     r16_i21 = (r1 + 24);
     r12_i27 = (r1 + 44);
     r16_i30 = (r1 + 48);
@@ -60746,126 +61597,86 @@ static t_struct_i8_i64_end zoned_rules_zoned_recurrence_ZonedRecurrence_first_me
     at__loop_2:;
     r9 = zoned_rules_zoned_rule_ZonedRule_first_after_16a892625931f552(a0, r1_0);
     r10 = r9.f0;
-    r11_2 = r9.f1;
-    trunc = (uint8_t)((r10) & 1);
-    a1_2 = trunc ? r11_2 : UINT64_C(0);
     v0 = r10 == 1;
-    if (v0) { goto at__arm_1; }
+    if (v0) { goto at__zoned_rules_zoned_rule_ZonedRule_next_second_16a892625931f552_exit_i; }
     goto at__zoned_rules_zoned_rule_ZonedRule_next_second_16a892625931f552_exit_i_thread;
-    at__arm_1:;
-    LOAD(uint8_t, r7, r6);
-    switch (r7) {
-    case 0: { r3_0 = UINT64_C(8210266876799); goto at__zoned_rules_zoned_rule_ZonedRule_next_second_16a892625931f552_exit_i; }
-    case 1: goto at__arm_2;
-    case 2: goto at__arm_3;
-    default: goto at__noarm_4;
-    }
-    at__arm_2:;
-    LOAD(uint32_t, r10_2, r14_2);
-    r74_not = r10_2 == 0;
-    if (r74_not) { { r3_0 = UINT64_C(18446735739108322815); goto at__zoned_rules_zoned_rule_ZonedRule_next_second_16a892625931f552_exit_i; } }
-    { r1_06 = UINT64_C(18446735739108322815); r2_05 = 0; goto at__join_5; }
-    at__join_5:;
-    r12 = zoned_rules_zoned_rule_ZonedRule_first_after_16a892625931f552(a0, r1_06);
-    r13 = r12.f0;
-    v1 = r13 == 1;
-    if (v1) { goto at__arm_6; }
-    { r3_0 = UINT64_C(8210266876799); goto at__zoned_rules_zoned_rule_ZonedRule_next_second_16a892625931f552_exit_i; }
-    at__arm_6:;
-    r14 = r12.f1;
-    r23 = (uint32_t)(r2_05 + 1);
-    exitcond_not = r23 == r10_2;
-    if (exitcond_not) { { r3_0 = r14; goto at__zoned_rules_zoned_rule_ZonedRule_next_second_16a892625931f552_exit_i; } }
-    { r1_06 = r14; r2_05 = r23; goto at__join_5; }
-    at__arm_3:;
-    LOAD(uint32_t, r4_sroa_0_0_copyload_2, r14_2);
-    LOAD(uint32_t, r4_sroa_3_0_copyload_2, r4_sroa_3_0_r14_sroa_idx);
-    r14_4 = (uint32_t)(r4_sroa_0_0_copyload_2 + 4294248133u);
-    r1_2 = (uint64_t)((uint64_t)(int32_t)r14_4);
-    r18 = (uint64_t)(r1_2 * UINT64_C(86400));
-    r1_i2 = (uint64_t)r4_sroa_3_0_copyload_2;
-    r25 = (uint64_t)(r18 + r1_i2);
-    {
-    r3_0 = r25;
-    goto at__zoned_rules_zoned_rule_ZonedRule_next_second_16a892625931f552_exit_i;
-    }
-    at__noarm_4:;
-    UNREACHABLE();
     at__zoned_rules_zoned_rule_ZonedRule_next_second_16a892625931f552_exit_i:;
-    r35 = (int64_t)r3_0 >= (int64_t)a1_2;
-    r19 = r35 ? a1_2 : UINT64_C(0);
-    LOAD(uint64_t, r5_sroa_3_0_copyload, r5_sroa_3_0_r14_sroa_idx41);
+    r11_2 = r9.f1;
+    r32 = zoned_rules_zoned_rule_ZonedRule_last_second_16a892625931f552(a0);
+    r35 = (int64_t)r32 >= (int64_t)r11_2;
+    r19 = r35 ? r11_2 : UINT64_C(0);
+    LOAD(uint64_t, r5_sroa_3_0_copyload, r5_sroa_3_0_r14_sroa_idx38);
     r18_i13 = r5_sroa_3_0_copyload == UINT64_C(0);
     if (r18_i13) { goto at__zoned_rules_listed_instants_first_listed_16a892625931f552_exit_i_thread; }
-    { r5_sroa_3_0_copyload50 = r5_sroa_3_0_copyload; r0_sroa_0_sroa_0_047 = r35; r0_sroa_5_045 = r19; goto at__arm_3_i_preheader; }
+    { r5_sroa_3_0_copyload47 = r5_sroa_3_0_copyload; r0_sroa_0_sroa_0_044 = r35; r0_sroa_5_042 = r19; goto at__arm_3_i_preheader; }
     at__zoned_rules_zoned_rule_ZonedRule_next_second_16a892625931f552_exit_i_thread:;
-    LOAD(uint64_t, r5_sroa_3_0_copyload42, r5_sroa_3_0_r14_sroa_idx41);
-    r18_i1343 = r5_sroa_3_0_copyload42 == UINT64_C(0);
-    if (r18_i1343) { { r44_fca_1_insert20 = (t_struct_i8_i64_end){0}; r0_sroa_4_0 = UINT64_C(0); goto at__return_10; } }
-    { r5_sroa_3_0_copyload50 = r5_sroa_3_0_copyload42; r0_sroa_0_sroa_0_047 = 0; r0_sroa_5_045 = UINT64_C(0); goto at__arm_3_i_preheader; }
+    LOAD(uint64_t, r5_sroa_3_0_copyload39, r5_sroa_3_0_r14_sroa_idx38);
+    r18_i1340 = r5_sroa_3_0_copyload39 == UINT64_C(0);
+    if (r18_i1340) { { r44_fca_1_insert17 = (t_struct_i8_i64_end){0}; r0_sroa_4_0 = UINT64_C(0); goto at__return_10; } }
+    { r5_sroa_3_0_copyload47 = r5_sroa_3_0_copyload39; r0_sroa_0_sroa_0_044 = 0; r0_sroa_5_042 = UINT64_C(0); goto at__arm_3_i_preheader; }
     at__arm_3_i_preheader:;
-    LOAD(bytes, r1349, r13_i49_in);
-    LOAD(bytes, r5_sroa_0_0_copyload, r14_3);
-    r7_2 = (r1349 + 24);
-    r22_phi_trans_insert = (r1349 + 8);
-    r6_sroa_3_0_r22_sroa_idx_phi_trans_insert = (r1349 + 16);
-    r11 = (r1349 + 28);
-    r8 = (r1349 + 32);
-    r119 = (r1349 + 36);
+    LOAD(bytes, r1346, r13_i46_in);
+    LOAD(bytes, r5_sroa_0_0_copyload, r14);
+    r7 = (r1346 + 24);
+    r22_phi_trans_insert = (r1346 + 8);
+    r6_sroa_3_0_r22_sroa_idx_phi_trans_insert = (r1346 + 16);
+    r11 = (r1346 + 28);
+    r8 = (r1346 + 32);
+    r119 = (r1346 + 36);
     {
-    r4_sroa_4_017 = r5_sroa_3_0_copyload50;
+    r4_sroa_4_017 = r5_sroa_3_0_copyload47;
     r4_sroa_0_016 = r5_sroa_0_0_copyload;
     r3_sroa_5_015 = UINT64_C(0);
     r3_sroa_0_sroa_0_014 = 0;
-    goto at__arm_3_2;
+    goto at__arm_3;
     }
-    at__arm_3_2:;
+    at__arm_3:;
     r30 = (r4_sroa_0_016 + 24);
     r33 = (uint64_t)(r4_sroa_4_017 + UINT64_C(18446744073709551615));
     LOAD(uint32_t, r15_val, r4_sroa_0_016);
-    v2 = (r4_sroa_0_016 + 4);
-    LOAD(uint32_t, r15_val4, v2);
-    r14_i_i_i1 = (uint32_t)(r15_val + 4294248133u);
-    r1_3 = (uint64_t)((uint64_t)(int32_t)r14_i_i_i1);
-    r18_2 = (uint64_t)(r1_3 * UINT64_C(86400));
-    r1_i2_2 = (uint64_t)r15_val4;
-    r25_2 = (uint64_t)(r18_2 + r1_i2_2);
-    r4 = (int64_t)r1_0 >= (int64_t)r25_2;
-    v3 = (uint64_t)(r25_2 + UINT64_C(18446735863442674816));
-    or_cond = v3 < UINT64_C(18446727528841446016);
+    v1 = (r4_sroa_0_016 + 4);
+    LOAD(uint32_t, r15_val4, v1);
+    r14_2 = (uint32_t)(r15_val + 4294248133u);
+    r1_2 = (uint64_t)((uint64_t)(int32_t)r14_2);
+    r18 = (uint64_t)(r1_2 * UINT64_C(86400));
+    r1_i2 = (uint64_t)r15_val4;
+    r25 = (uint64_t)(r18 + r1_i2);
+    r4 = (int64_t)r1_0 >= (int64_t)r25;
+    v2 = (uint64_t)(r25 + UINT64_C(18446735863442674816));
+    or_cond = v2 < UINT64_C(18446727528841446016);
     or_cond_2 = r4 ? 1 : or_cond;
     if (or_cond_2) { goto at__join_4; }
     goto at__after_1;
     at__after_1:;
-    r12_2 = (int64_t)r25_2 < (int64_t)UINT64_C(0);
+    r12_2 = (int64_t)r25 < (int64_t)UINT64_C(0);
     if (r12_2) { goto at__else_2_i6; }
     goto at__then_1_i7;
     at__then_1_i7:;
-    r31 = (uint64_t)(r25_2 % UINT64_C(86400));
-    r14_i8 = (uint64_t)(r25_2 / UINT64_C(86400));
+    r31 = (uint64_t)(r25 % UINT64_C(86400));
+    r14_i8 = (uint64_t)(r25 / UINT64_C(86400));
     {
     r3_0_i_i_i_i35 = r31;
     r2_0 = r14_i8;
-    goto at__arm_1_2;
+    goto at__arm_1;
     }
     at__else_2_i6:;
-    r18_3 = (uint64_t)(r25_2 ^ UINT64_C(18446744073709551615));
-    r23_3 = (uint64_t)(r18_3 % UINT64_C(86400));
-    r26 = (uint64_t)(UINT64_C(86399) - r23_3);
-    r22 = (uint64_t)(r18_3 / UINT64_C(86400));
+    r18_2 = (uint64_t)(r25 ^ UINT64_C(18446744073709551615));
+    r23_2 = (uint64_t)(r18_2 % UINT64_C(86400));
+    r26 = (uint64_t)(UINT64_C(86399) - r23_2);
+    r22 = (uint64_t)(r18_2 / UINT64_C(86400));
     r24 = (uint64_t)(r22 ^ UINT64_C(18446744073709551615));
     {
     r3_0_i_i_i_i35 = r26;
     r2_0 = r24;
-    goto at__arm_1_2;
+    goto at__arm_1;
     }
-    at__arm_1_2:;
+    at__arm_1:;
     r45 = (uint32_t)(r2_0);
     r18_i_i_i_i1 = (uint64_t)(r2_0 * UINT64_C(86400));
-    r25_3 = (uint64_t)(r18_i_i_i_i1 + r3_0_i_i_i_i35);
-    LOAD(uint8_t, r9_2, r7_2);
-    v4 = r9_2 == 1;
-    if (v4) { goto at__arm_1_3; }
+    r25_2 = (uint64_t)(r18_i_i_i_i1 + r3_0_i_i_i_i35);
+    LOAD(uint8_t, r9_2, r7);
+    v3 = r9_2 == 1;
+    if (v3) { goto at__arm_1_2; }
     goto at__start_join_4_crit_edge;
     at__start_join_4_crit_edge:;
     LOAD(bytes, r6_sroa_0_0_copyload_pre, r22_phi_trans_insert);
@@ -60875,7 +61686,7 @@ static t_struct_i8_i64_end zoned_rules_zoned_recurrence_ZonedRecurrence_first_me
     r6_sroa_0_0_copyload = r6_sroa_0_0_copyload_pre;
     goto at__join_4_2;
     }
-    at__arm_1_3:;
+    at__arm_1_2:;
     LOAD(uint64_t, r4_sroa_3_0_copyload, r6_sroa_3_0_r22_sroa_idx_phi_trans_insert);
     r7_i_i_not = r4_sroa_3_0_copyload == UINT64_C(0);
     if (r7_i_i_not) { goto at__then_5; }
@@ -60883,46 +61694,46 @@ static t_struct_i8_i64_end zoned_rules_zoned_recurrence_ZonedRecurrence_first_me
     at__zone_zone_is_behind_exit_i:;
     LOAD(bytes, r4_sroa_0_0_copyload, r22_phi_trans_insert);
     r236 = (uint64_t)(r4_sroa_3_0_copyload << (UINT64_C(4) & 63u));
-    v5 = (r4_sroa_0_0_copyload + (int64_t)r236);
-    r28 = (v5 - 16);
+    v4 = (r4_sroa_0_0_copyload + (int64_t)r236);
+    r28 = (v4 - 16);
     LOAD(uint64_t, r4_sroa_3_8_copyload, r28);
-    r12_i_not = (int64_t)r4_sroa_3_8_copyload > (int64_t)r25_3;
+    r12_i_not = (int64_t)r4_sroa_3_8_copyload > (int64_t)r25_2;
     if (r12_i_not) { { r6_sroa_3_0_copyload = r4_sroa_3_0_copyload; r6_sroa_0_0_copyload = r4_sroa_0_0_copyload; goto at__join_4_2; } }
     goto at__then_5;
     at__then_5:;
     memset(r1, 0, UINT64_C(52));
     LOAD(uint8_t, r97, r8);
-    v6 = r97 == 1;
-    if (v6) { goto at__arm_18; }
+    v5 = r97 == 1;
+    if (v5) { goto at__arm_18; }
     { r0_sroa_0_0_in = r11; goto at__zone_rule_rule_ZoneRule_offset_of_instant_exit_i; }
     at__arm_18:;
     memcpy(r1, r119, UINT64_C(52));
     LOAD(uint32_t, r5_sroa_0_0_copyload_3, r11);
-    r12_3 = (int64_t)r25_3 < (int64_t)UINT64_C(0);
+    r12_3 = (int64_t)r25_2 < (int64_t)UINT64_C(0);
     if (r12_3) { goto at__then_1; }
     goto at__else_2;
     at__then_1:;
-    r1814 = (uint64_t)(r25_3 ^ UINT64_C(18446744073709551615));
-    r23_i_i2 = (uint64_t)(r1814 % UINT64_C(12622780800));
+    r1811 = (uint64_t)(r25_2 ^ UINT64_C(18446744073709551615));
+    r23_i_i2 = (uint64_t)(r1811 % UINT64_C(12622780800));
     r26_2 = (uint64_t)(UINT64_C(12622780799) - r23_i_i2);
     {
-    r3_010 = r26_2;
+    r3_0 = r26_2;
     goto at__core_int_i64_div_euclid_exit_i_i_i;
     }
     at__else_2:;
-    r31_2 = (uint64_t)(r25_3 % UINT64_C(12622780800));
+    r31_2 = (uint64_t)(r25_2 % UINT64_C(12622780800));
     {
-    r3_010 = r31_2;
+    r3_0 = r31_2;
     goto at__core_int_i64_div_euclid_exit_i_i_i;
     }
     at__core_int_i64_div_euclid_exit_i_i_i:;
-    r31_i44 = (uint64_t)(r3_010 % UINT64_C(31556952));
-    LOAD(uint32_t, r13_i20, r1211);
-    r1_4 = (uint64_t)((uint64_t)(int32_t)r13_i20);
+    r31_i44 = (uint64_t)(r3_0 % UINT64_C(31556952));
+    LOAD(uint32_t, r13_i20, r12);
+    r1_3 = (uint64_t)((uint64_t)(int32_t)r13_i20);
     LOAD(uint32_t, r17, r16_i21);
     r1_i50 = (uint64_t)((uint64_t)(int32_t)r17);
     r1_i51 = (uint64_t)((uint64_t)(int32_t)r5_sroa_0_0_copyload_3);
-    r28_i24 = (uint64_t)(r1_4 - r1_i51);
+    r28_i24 = (uint64_t)(r1_3 - r1_i51);
     r31_i25 = (uint64_t)(r1_i50 - r1_i51);
     r16_i7 = (int64_t)r31_i44 < (int64_t)r31_i25;
     r21_i13 = (uint64_t)(r28_i24 + UINT64_C(18446744073677994664));
@@ -60946,8 +61757,8 @@ static t_struct_i8_i64_end zoned_rules_zoned_recurrence_ZonedRecurrence_first_me
     if (r38) { goto at__join_3_i_i1; }
     goto at__else_4;
     at__else_4:;
-    a1_a012 = (int64_t)r4_i_sroa_0_0 < (int64_t)r3_i_sroa_0_0 ? r4_i_sroa_0_0 : r3_i_sroa_0_0;
-    reass_sub = (uint64_t)(a1_a012 - r31_i44);
+    a1_a010 = (uint64_t)LESSER64((int64_t)r4_i_sroa_0_0, (int64_t)r3_i_sroa_0_0);
+    reass_sub = (uint64_t)(a1_a010 - r31_i44);
     r45_2 = (int64_t)r31_i44 < (int64_t)r4_i_sroa_7_0;
     r53 = (int64_t)reass_sub < (int64_t)UINT64_C(18446744073678340264);
     or_cond_3 = (uint8_t)(((uint32_t)r45_2 | (uint32_t)r53) & 1);
@@ -60955,12 +61766,12 @@ static t_struct_i8_i64_end zoned_rules_zoned_recurrence_ZonedRecurrence_first_me
     goto at__after_1_2;
     at__after_1_2:;
     r67 = (int64_t)r3_i_sroa_0_0 >= (int64_t)r4_i_sroa_7_0;
-    r74_not13 = (int64_t)r4_i_sroa_0_0 > (int64_t)r3_i_sroa_8_0;
-    or_cond18 = r67 ? 1 : r74_not13;
+    r74_not = (int64_t)r4_i_sroa_0_0 > (int64_t)r3_i_sroa_8_0;
+    or_cond18 = r67 ? 1 : r74_not;
     if (or_cond18) { { common_ret_op = r67; goto at__zone_rule_rule_Daylight_holds_at_exit_i_i; } }
     goto at__join_3_i_i1;
     at__join_3_i_i1:;
-    r18_i3 = zone_rule_rule_Daylight_holds_near(r1, r5_sroa_0_0_copyload_3, r3_010);
+    r18_i3 = zone_rule_rule_Daylight_holds_near(r1, r5_sroa_0_0_copyload_3, r3_0);
     {
     common_ret_op = r18_i3;
     goto at__zone_rule_rule_Daylight_holds_at_exit_i_i;
@@ -60978,8 +61789,8 @@ static t_struct_i8_i64_end zoned_rules_zoned_recurrence_ZonedRecurrence_first_me
     goto at__zone_zone_Zone_offset_of_instant_exit;
     }
     at__join_4_2:;
-    LOAD(uint32_t, r5_sroa_0_0_copyload4, r1349);
-    r27 = zone_table_offsets_offset_of_instant(r5_sroa_0_0_copyload4, r6_sroa_0_0_copyload, r6_sroa_3_0_copyload, r25_3);
+    LOAD(uint32_t, r5_sroa_0_0_copyload4, r1346);
+    r27 = zone_table_offsets_offset_of_instant(r5_sroa_0_0_copyload4, r6_sroa_0_0_copyload, r6_sroa_3_0_copyload, r25_2);
     {
     r0_sroa_0_0_2 = r27;
     goto at__zone_zone_Zone_offset_of_instant_exit;
@@ -60993,7 +61804,7 @@ static t_struct_i8_i64_end zoned_rules_zoned_recurrence_ZonedRecurrence_first_me
     at__else_4_2:;
     r30_not = r21_2 > UINT64_C(86399);
     if (r30_not) { goto at__then_1_i8; }
-    { r1_sroa_0_sroa_0_0 = 1; r1_sroa_4_0 = r25_2; goto at__zoned_rules_listed_instants_second_after_16a892625931f552_exit_i_i; }
+    { r1_sroa_0_sroa_0_0 = 1; r1_sroa_4_0 = r25; goto at__zoned_rules_listed_instants_second_after_16a892625931f552_exit_i_i; }
     at__then_1_i8:;
     r14_i_i_i_i_i_lhs_trunc = (uint32_t)(r21_2);
     r14_i_i_i_i_i55 = (uint32_t)(r14_i_i_i_i_i_lhs_trunc / 86400u);
@@ -61002,19 +61813,19 @@ static t_struct_i8_i64_end zoned_rules_zoned_recurrence_ZonedRecurrence_first_me
     goto at__zoned_rules_search_instants_has_dates_16a892625931f552_exit_i_i_i;
     }
     at__else_2_i7:;
-    v7 = (uint32_t)(r21_2);
-    r23_i_lhs_trunc = (uint32_t)(v7 ^ 4294967295u);
+    v6 = (uint32_t)(r21_2);
+    r23_i_lhs_trunc = (uint32_t)(v6 ^ 4294967295u);
     r22_i7 = (uint32_t)(r23_i_lhs_trunc / 86400u);
-    v8 = (uint32_t)(r22_i7 ^ 4294967295u);
+    v7 = (uint32_t)(r22_i7 ^ 4294967295u);
     {
-    r2_0_2 = v8;
+    r2_0_2 = v7;
     goto at__zoned_rules_search_instants_has_dates_16a892625931f552_exit_i_i_i;
     }
     at__zoned_rules_search_instants_has_dates_16a892625931f552_exit_i_i_i:;
     sadd_i_i_i54 = (uint32_t)(r45 + 4199941059u);
-    v9 = (uint32_t)(sadd_i_i_i54 + r2_0_2);
-    or_cond_4 = v9 > 4103475766u;
-    if (or_cond_4) { { r1_sroa_0_sroa_0_0 = 1; r1_sroa_4_0 = r25_2; goto at__zoned_rules_listed_instants_second_after_16a892625931f552_exit_i_i; } }
+    v8 = (uint32_t)(sadd_i_i_i54 + r2_0_2);
+    or_cond_4 = v8 > 4103475766u;
+    if (or_cond_4) { { r1_sroa_0_sroa_0_0 = 1; r1_sroa_4_0 = r25; goto at__zoned_rules_listed_instants_second_after_16a892625931f552_exit_i_i; } }
     goto at__join_4;
     at__join_4:;
     {
@@ -61023,15 +61834,15 @@ static t_struct_i8_i64_end zoned_rules_zoned_recurrence_ZonedRecurrence_first_me
     goto at__zoned_rules_listed_instants_second_after_16a892625931f552_exit_i_i;
     }
     at__zoned_rules_listed_instants_second_after_16a892625931f552_exit_i_i:;
-    trunc_i_i2 = (uint8_t)((r3_sroa_0_sroa_0_014) & 1);
+    trunc = (uint8_t)((r3_sroa_0_sroa_0_014) & 1);
     trunc5 = (uint8_t)((r1_sroa_0_sroa_0_0) & 1);
-    if (trunc_i_i2) { goto at__arm_3_i_i5; }
+    if (trunc) { goto at__arm_3_2; }
     goto at__arm_4;
-    at__arm_3_i_i5:;
+    at__arm_3_2:;
     if (trunc5) { goto at__arm_7; }
     { r12_sroa_0_sroa_0_0 = 1; r12_sroa_5_0 = r3_sroa_5_015; goto at__zoned_rules_search_instants_earlier_exit_i_i; }
     at__arm_7:;
-    a1_a0 = (int64_t)r1_sroa_4_0 < (int64_t)r3_sroa_5_015 ? r1_sroa_4_0 : r3_sroa_5_015;
+    a1_a0 = (uint64_t)LESSER64((int64_t)r1_sroa_4_0, (int64_t)r3_sroa_5_015);
     {
     r12_sroa_0_sroa_0_0 = 1;
     r12_sroa_5_0 = a1_a0;
@@ -61045,31 +61856,31 @@ static t_struct_i8_i64_end zoned_rules_zoned_recurrence_ZonedRecurrence_first_me
     goto at__zoned_rules_search_instants_earlier_exit_i_i;
     }
     at__zoned_rules_search_instants_earlier_exit_i_i:;
-    r18_4 = r33 == UINT64_C(0);
-    if (r18_4) { goto at__zoned_rules_listed_instants_first_listed_16a892625931f552_exit_i; }
-    { r4_sroa_4_017 = r33; r4_sroa_0_016 = r30; r3_sroa_5_015 = r12_sroa_5_0; r3_sroa_0_sroa_0_014 = r12_sroa_0_sroa_0_0; goto at__arm_3_2; }
+    r18_3 = r33 == UINT64_C(0);
+    if (r18_3) { goto at__zoned_rules_listed_instants_first_listed_16a892625931f552_exit_i; }
+    { r4_sroa_4_017 = r33; r4_sroa_0_016 = r30; r3_sroa_5_015 = r12_sroa_5_0; r3_sroa_0_sroa_0_014 = r12_sroa_0_sroa_0_0; goto at__arm_3; }
     at__zoned_rules_listed_instants_first_listed_16a892625931f552_exit_i:;
     trunc5_2 = (uint8_t)((r12_sroa_0_sroa_0_0) & 1);
-    if (r0_sroa_0_sroa_0_047) { goto at__arm_3_i6; }
+    if (r0_sroa_0_sroa_0_044) { goto at__arm_3_i3; }
     goto at__zoned_rules_zoned_recurrence_ZonedRecurrence_first_included_16a892625931f552_exit;
     at__zoned_rules_listed_instants_first_listed_16a892625931f552_exit_i_thread:;
-    if (r35) { { r12_sroa_5_0_i_i_ph = a1_2; goto at__zoned_rules_zoned_recurrence_ZonedRecurrence_first_included_16a892625931f552_exit_thread; } }
-    { r44_fca_1_insert20 = (t_struct_i8_i64_end){0}; r0_sroa_4_0 = UINT64_C(0); goto at__return_10; }
-    at__arm_3_i6:;
+    if (r35) { { r12_sroa_5_0_i_i_ph = r11_2; goto at__zoned_rules_zoned_recurrence_ZonedRecurrence_first_included_16a892625931f552_exit_thread; } }
+    { r44_fca_1_insert17 = (t_struct_i8_i64_end){0}; r0_sroa_4_0 = UINT64_C(0); goto at__return_10; }
+    at__arm_3_i3:;
     if (trunc5_2) { goto at__arm_7_2; }
-    { r12_sroa_5_0_i_i_ph = r0_sroa_5_045; goto at__zoned_rules_zoned_recurrence_ZonedRecurrence_first_included_16a892625931f552_exit_thread; }
+    { r12_sroa_5_0_i_i_ph = r0_sroa_5_042; goto at__zoned_rules_zoned_recurrence_ZonedRecurrence_first_included_16a892625931f552_exit_thread; }
     at__arm_7_2:;
-    a1_a0_2 = (int64_t)r12_sroa_5_0 < (int64_t)r0_sroa_5_045 ? r12_sroa_5_0 : r0_sroa_5_045;
+    a1_a0_2 = (uint64_t)LESSER64((int64_t)r12_sroa_5_0, (int64_t)r0_sroa_5_042);
     {
     r12_sroa_5_0_i_i_ph = a1_a0_2;
     goto at__zoned_rules_zoned_recurrence_ZonedRecurrence_first_included_16a892625931f552_exit_thread;
     }
     at__zoned_rules_zoned_recurrence_ZonedRecurrence_first_included_16a892625931f552_exit_thread:;
-    r44_fca_1_insert18 = (t_struct_i8_i64_end){1, UINT64_C(0)};
-    r44_fca_1_insert18.f1 = r12_sroa_5_0_i_i_ph;
+    r44_fca_1_insert15 = (t_struct_i8_i64_end){1, UINT64_C(0)};
+    r44_fca_1_insert15.f1 = r12_sroa_5_0_i_i_ph;
     {
-    r44_fca_1_insert21 = r44_fca_1_insert18;
-    r12_sroa_5_019 = r12_sroa_5_0_i_i_ph;
+    r44_fca_1_insert18 = r44_fca_1_insert15;
+    r12_sroa_5_016 = r12_sroa_5_0_i_i_ph;
     goto at__arm_3_3;
     }
     at__zoned_rules_zoned_recurrence_ZonedRecurrence_first_included_16a892625931f552_exit:;
@@ -61078,9 +61889,9 @@ static t_struct_i8_i64_end zoned_rules_zoned_recurrence_ZonedRecurrence_first_me
     r44_fca_0_insert.f0 = r12_sroa_0_sroa_0_0;
     r44_fca_1_insert = r44_fca_0_insert;
     r44_fca_1_insert.f1 = spec_select6_2;
-    v10 = r12_sroa_0_sroa_0_0 == 1;
-    if (v10) { { r44_fca_1_insert21 = r44_fca_1_insert; r12_sroa_5_019 = r12_sroa_5_0; goto at__arm_3_3; } }
-    { r44_fca_1_insert20 = r44_fca_1_insert; r0_sroa_4_0 = UINT64_C(0); goto at__return_10; }
+    v9 = r12_sroa_0_sroa_0_0 == 1;
+    if (v9) { { r44_fca_1_insert18 = r44_fca_1_insert; r12_sroa_5_016 = r12_sroa_5_0; goto at__arm_3_3; } }
+    { r44_fca_1_insert17 = r44_fca_1_insert; r0_sroa_4_0 = UINT64_C(0); goto at__return_10; }
     at__arm_3_3:;
     LOAD(bytes, r5_sroa_0_0_copyload_2, r16);
     LOAD(uint64_t, r5_sroa_3_0_copyload_2, r5_sroa_3_0_r16_sroa_idx);
@@ -61091,24 +61902,24 @@ static t_struct_i8_i64_end zoned_rules_zoned_recurrence_ZonedRecurrence_first_me
     }
     at__loop_2_2:;
     r7_i_i_not_not_not_i_not_not_not_i_not = r1_sroa_5_0_copyload == UINT64_C(0);
-    if (r7_i_i_not_not_not_i_not_not_not_i_not) { { r44_fca_1_insert20 = r44_fca_1_insert21; r0_sroa_4_0 = r12_sroa_5_019; goto at__return_10; } }
+    if (r7_i_i_not_not_not_i_not_not_not_i_not) { { r44_fca_1_insert17 = r44_fca_1_insert18; r0_sroa_4_0 = r12_sroa_5_016; goto at__return_10; } }
     goto at__arm_33;
     at__arm_33:;
     r20 = (r5_sroa_0_0 + 24);
-    r23_2 = (uint64_t)(r1_sroa_5_0_copyload + UINT64_C(18446744073709551615));
+    r23 = (uint64_t)(r1_sroa_5_0_copyload + UINT64_C(18446744073709551615));
     LOAD(uint32_t, r14_val, r5_sroa_0_0);
-    v11 = (r5_sroa_0_0 + 4);
-    LOAD(uint32_t, r14_val2, v11);
-    r14_5 = (uint32_t)(r14_val + 4294248133u);
-    r1_5 = (uint64_t)((uint64_t)(int32_t)r14_5);
-    r18_5 = (uint64_t)(r1_5 * UINT64_C(86400));
-    r1_i2_3 = (uint64_t)r14_val2;
-    r25_4 = (uint64_t)(r18_5 + r1_i2_3);
-    r10_3 = r25_4 == r12_sroa_5_019;
-    if (r10_3) { { r1_0 = r12_sroa_5_019; goto at__loop_2; } }
-    { r5_sroa_0_0 = r20; r1_sroa_5_0_copyload = r23_2; goto at__loop_2_2; }
+    v10 = (r5_sroa_0_0 + 4);
+    LOAD(uint32_t, r14_val2, v10);
+    r14_3 = (uint32_t)(r14_val + 4294248133u);
+    r1_4 = (uint64_t)((uint64_t)(int32_t)r14_3);
+    r18_4 = (uint64_t)(r1_4 * UINT64_C(86400));
+    r1_i2_2 = (uint64_t)r14_val2;
+    r25_3 = (uint64_t)(r18_4 + r1_i2_2);
+    r10_2 = r25_3 == r12_sroa_5_016;
+    if (r10_2) { { r1_0 = r12_sroa_5_016; goto at__loop_2; } }
+    { r5_sroa_0_0 = r20; r1_sroa_5_0_copyload = r23; goto at__loop_2_2; }
     at__return_10:;
-    r32_fca_1_insert = r44_fca_1_insert20;
+    r32_fca_1_insert = r44_fca_1_insert17;
     r32_fca_1_insert.f1 = r0_sroa_4_0;
     return r32_fca_1_insert;
 }
@@ -61162,7 +61973,7 @@ static t_struct_i8_i64_end zoned_rules_zoned_rule_ZonedRule_first_after_16a89262
     v0 = (uint32_t)(r13 ^ 4294967295u);
     v1 = (uint64_t)((uint64_t)(int32_t)v0);
     r6_3 = (uint64_t)(r25 + v1);
-    a1_a0 = (int64_t)a1 > (int64_t)r6_3 ? a1 : r6_3;
+    a1_a0 = (uint64_t)GREATER64((int64_t)a1, (int64_t)r6_3);
     r201 = (uint64_t)(a1_a0 + UINT64_C(18446744073709378816));
     LOAD(bytes, r19_val, r4);
     r8_2 = (r19_val + 24);
@@ -61902,7 +62713,7 @@ static t_struct_i8_i64_end zoned_rules_zoned_rule_ZonedRule_first_after_16a89262
     if (trunc5) { goto at__arm_7; }
     { r12_sroa_0_sroa_0_0 = 1; r12_sroa_5_0 = r2_sroa_7_0; goto at__zoned_rules_search_instants_earlier_exit_i_i; }
     at__arm_7:;
-    a1_a0_2 = (int64_t)r4_sroa_4_0 < (int64_t)r2_sroa_7_0 ? r4_sroa_4_0 : r2_sroa_7_0;
+    a1_a0_2 = (uint64_t)LESSER64((int64_t)r4_sroa_4_0, (int64_t)r2_sroa_7_0);
     {
     r12_sroa_0_sroa_0_0 = 1;
     r12_sroa_5_0 = a1_a0_2;
@@ -62390,7 +63201,7 @@ static t_struct_i8_i32_end zoned_rules_local_rule_LocalRule_first_time(bytes a0,
     r8_i6 = (uint32_t)(r2_0 / 3600u);
     r1_i_i_i7 = (uint64_t)r8_i6;
     r7_2 = (uint64_t)(r17 + r1_i_i_i7);
-    r4_04 = (int64_t)r7_2 < (int64_t)UINT64_C(24) ? r7_2 : UINT64_C(24);
+    r4_04 = (uint64_t)LESSER64((int64_t)r7_2, (int64_t)UINT64_C(24));
     r4_0 = (uint32_t)(r4_04);
     r12 = (uint32_t)(r4_0 * 3600u);
     {
@@ -62401,7 +63212,7 @@ static t_struct_i8_i32_end zoned_rules_local_rule_LocalRule_first_time(bytes a0,
     r13 = (uint32_t)(r2_0 / 60u);
     r1_i_i1 = (uint64_t)r13;
     r7_i2 = (uint64_t)(r17 + r1_i_i1);
-    r4_04_i3 = (int64_t)r7_i2 < (int64_t)UINT64_C(1440) ? r7_i2 : UINT64_C(1440);
+    r4_04_i3 = (uint64_t)LESSER64((int64_t)r7_i2, (int64_t)UINT64_C(1440));
     r4_0_i4 = (uint32_t)(r4_04_i3);
     r17_i5 = (uint32_t)(r4_0_i4 * 60u);
     {
@@ -62411,7 +63222,7 @@ static t_struct_i8_i32_end zoned_rules_local_rule_LocalRule_first_time(bytes a0,
     at__arm_4:;
     r1_i_i5 = (uint64_t)r2_0;
     r7_i6 = (uint64_t)(r17 + r1_i_i5);
-    r4_04_i7 = (int64_t)r7_i6 < (int64_t)UINT64_C(86400) ? r7_i6 : UINT64_C(86400);
+    r4_04_i7 = (uint64_t)LESSER64((int64_t)r7_i6, (int64_t)UINT64_C(86400));
     r4_0_i8 = (uint32_t)(r4_04_i7);
     {
     common_ret_op = r4_0_i8;
@@ -62540,7 +63351,7 @@ static uint8_t zoned_rules_local_rule_LocalRule_may_recur(bytes a0)
     LOAD(uint32_t, r15_val3, v1);
     r5 = r15_val3 > 1 ? r15_val3 : 1;
     v2 = (uint64_t)r3_sroa_0_0_copyload;
-    switch_gep = ((bytes)&switch_table_zoned_rules_local_rule_LocalRule_may_recur + (int64_t)v2 * 4);
+    switch_gep = ((bytes)&switch_table_zoned_rules_zoned_rule_ZonedRule_last_second_16a892625931f552 + (int64_t)v2 * 4);
     LOAD(uint32_t, switch_load, switch_gep);
     {
     r1_05 = r5;
@@ -62621,7 +63432,7 @@ static uint8_t zoned_rules_local_rule_LocalRule_may_recur(bytes a0)
     { common_ret_op = 1; goto at__zoned_rules_local_rule_LocalRule_may_have_weekday_exit; }
     at__switch_lookup:;
     v4 = (uint64_t)r3_sroa_0_0_copyload;
-    switch_gep16 = ((bytes)&switch_table_zoned_rules_local_rule_LocalRule_may_recur_302 + (int64_t)v4 * 4);
+    switch_gep16 = ((bytes)&switch_table_zoned_rules_local_rule_LocalRule_may_recur_301 + (int64_t)v4 * 4);
     LOAD(uint32_t, switch_load17, switch_gep16);
     {
     r1_059 = r5;
@@ -62788,6 +63599,461 @@ static t_struct_i64_i8_end zoned_rules_zoned_rule_ZonedRule_candidate_at_16a8926
     r15_fca_1_insert = r15_fca_0_insert;
     r15_fca_1_insert.f1 = common_ret_op;
     return r15_fca_1_insert;
+}
+
+static uint64_t zoned_rules_zoned_rule_ZonedRule_last_second_16a892625931f552(bytes a0)
+{
+    uint32_t r1_05, r2_04, r3_04, r0_sroa_4_0, r3_09_us, r3_09, r5_08, r4_07, r3_sroa_0_06, v17, v18, us_phi, us_phi9, r5_010, r4_sroa_0_09, r5_0_lcssa, r0_sroa_4_0_2, v23, r10, r8_val3, r5, switch_load, r21, r20_val, r10_2, r17, r19, r47_us, v6, r7_2, r6_sroa_0_0_copyload, r89, r45, r34_sroa_3_0_copyload, r34_sroa_0_0_copyload, r2_sroa_4_0_copyload, r14, r13, r6_i_i_i_i_i24, v10, r45_2, r6_2, r6_i_i_i_i_i34, v12, r66, r34_val, r34_val_i_fr, r66_2, r5_sroa_4_0, v13, r85_3, r89_2, r92, spec_select, spec_select6, r265, r24_3, a1, r34, r86, r14_2, r47, r4_sroa_0_0_copyload, r4_sroa_3_0_copyload, r14_4;
+    t_struct_i8_i32_end r85, r82, r8, r22_4;
+    uint64_t r2_010_us, r2_010, r7_sroa_3_0_copyload, r3_0_i_i_i_i105, r2_0, r2_0_2, v24, r3_0, v1, r24_us, r24_4, r85_2, r7_sroa_3_0_copyload_pre, r5_sroa_3_0_copyload, r23_2, r4_sroa_3_8_copyload, r90, r1, r99, v9, r31, r14_i8, r18, r23_i_i_i_i16, r26, r22_2, r24_2, r114, r1_2, r18_i_i_i_i21, r1_i2, r25_2, r1_3, r20_2, r139, a0_a1, r162, a0_a1_i23, r14_i8_2, r19_2, r22_3, r24_i_i_i_i4, r1_4, r1_5, r6_3, r1_i_i_i10, r18_2, reass_sub, r95, r1_6, r18_3, r1_i2_2, r25;
+    bytes r7_sroa_0_0_copyload, r8_i_i19, r6, r9, r8_2, v0, switch_gep, r20, r83, r34_sroa_3_0_r1_i18_sroa_idx, r1_i18, r2_sroa_4_0_r1_i_sroa_idx, r2_sroa_4_0_r8_sroa_idx, r2_sroa_5_0_r8_sroa_idx, r83_val, r8_3, r28_phi_trans_insert, r7_sroa_0_0_copyload_pre, r7_sroa_3_0_r28_sroa_idx_phi_trans_insert, r12, r5_sroa_3_0_r15_sroa_idx, r15, r5_sroa_0_0_copyload, v8, r28, r14_3, r4_sroa_3_0_r14_sroa_idx;
+    t_struct_i32_i64_end r24_pn, r24, r33;
+    uint8_t r7, r8_val2, r13_not, r16, r93, v2, r9_2, v3, r178_not, r47_2, or_cond, r23_us, v4, exitcond_not, r23, v5, r10_3, v7, r7_i_i_not, r12_i_not, or_cond_2, r12_2, r119_not, r128, r144, or_cond_3, or_cond_4, v11, r12_i_i_i_i3, or_cond_i_i_i_i_i35, not, or_cond_5, r71, r11, or_cond_6, v14, v15, or_cond_7, r94, r11_2, r188, r23_3, trunc, v19, v20, v21, exitcond_not_2, r76, r17_2;
+    t_struct_i8_i64_end r22_us, r22;
+    uint64_t room_r8_i_i19[2];
+    r8_i_i19 = (bytes)room_r8_i_i19;
+    r6 = (a0 + 432);
+    LOAD(uint8_t, r7, r6);
+    switch (r7) {
+    case 0: { r3_0 = UINT64_C(8210266876799); goto at__join_5; }
+    case 1: goto at__arm_2;
+    case 2: goto at__arm_3;
+    default: goto at__noarm_4;
+    }
+    at__arm_2:;
+    r9 = (a0 + 436);
+    LOAD(uint32_t, r10, r9);
+    r8_2 = (a0 + 412);
+    LOAD(uint8_t, r8_val2, r8_2);
+    v0 = (a0 + 416);
+    LOAD(uint32_t, r8_val3, v0);
+    r5 = r8_val3 > 1 ? r8_val3 : 1;
+    v1 = (uint64_t)r8_val2;
+    switch_gep = ((bytes)&switch_table_zoned_rules_zoned_rule_ZonedRule_last_second_16a892625931f552 + (int64_t)v1 * 4);
+    LOAD(uint32_t, switch_load, switch_gep);
+    {
+    r1_05 = r5;
+    r2_04 = switch_load;
+    goto at__ok_8;
+    }
+    at__ok_8:;
+    r21 = (uint32_t)(r1_05 % r2_04);
+    r13_not = r21 == 0;
+    if (r13_not) { goto at__zoned_rules_clock_steps_ClockSteps_common_interval_exit_i_i; }
+    { r1_05 = r2_04; r2_04 = r21; goto at__ok_8; }
+    at__zoned_rules_clock_steps_ClockSteps_common_interval_exit_i_i:;
+    r16 = r2_04 < r5;
+    if (r16) { { r0_sroa_4_0 = 0; goto at__zoned_rules_local_rule_LocalRule_times_of_each_day_exit_i; } }
+    goto at__join_3;
+    at__join_3:;
+    r20 = (a0 + 400);
+    LOAD(uint32_t, r20_val, r20);
+    r82 = zoned_rules_local_rule_LocalRule_first_time(a0, r20_val, 0);
+    r93 = r82.f0;
+    v2 = r93 == 1;
+    if (v2) { { r85 = r82; r3_04 = 0; goto at__arm_3_2; } }
+    { r0_sroa_4_0 = 0; goto at__zoned_rules_local_rule_LocalRule_times_of_each_day_exit_i; }
+    at__arm_3_2:;
+    r10_2 = r85.f1;
+    r17 = (uint32_t)(r10_2 + 1);
+    r19 = (uint32_t)(r3_04 + 1);
+    r8 = zoned_rules_local_rule_LocalRule_first_time(a0, r20_val, r17);
+    r9_2 = r8.f0;
+    v3 = r9_2 == 1;
+    if (v3) { { r85 = r8; r3_04 = r19; goto at__arm_3_2; } }
+    { r0_sroa_4_0 = r19; goto at__zoned_rules_local_rule_LocalRule_times_of_each_day_exit_i; }
+    at__zoned_rules_local_rule_LocalRule_times_of_each_day_exit_i:;
+    r178_not = r10 == 0;
+    if (r178_not) { { r3_0 = UINT64_C(18446735739108322815); goto at__join_5; } }
+    goto at__join_5_lr_ph;
+    at__join_5_lr_ph:;
+    r47_2 = r0_sroa_4_0 == 0;
+    or_cond = (uint8_t)(((uint32_t)r16 | (uint32_t)r47_2) & 1);
+    r83 = (a0 + 424);
+    r34_sroa_3_0_r1_i18_sroa_idx = (a0 + 404);
+    r1_i18 = (a0 + 400);
+    r2_sroa_4_0_r1_i_sroa_idx = (a0 + 408);
+    r2_sroa_4_0_r8_sroa_idx = (r8_i_i19 + 4);
+    r2_sroa_5_0_r8_sroa_idx = (r8_i_i19 + 8);
+    if (or_cond) { { r2_010_us = UINT64_C(18446735739108322815); r3_09_us = 0; goto at__join_5_us; } }
+    { r2_010 = UINT64_C(18446735739108322815); r3_09 = 0; goto at__join_5_2; }
+    at__join_5_us:;
+    r22_us = zoned_rules_zoned_rule_ZonedRule_first_after_16a892625931f552(a0, r2_010_us);
+    r23_us = r22_us.f0;
+    v4 = r23_us == 1;
+    if (v4) { goto at__arm_6_us; }
+    { r3_0 = UINT64_C(8210266876799); goto at__join_5; }
+    at__arm_6_us:;
+    r24_us = r22_us.f1;
+    r47_us = (uint32_t)(r3_09_us + 1);
+    exitcond_not = r47_us == r10;
+    if (exitcond_not) { { r3_0 = r24_us; goto at__join_5; } }
+    { r2_010_us = r24_us; r3_09_us = r47_us; goto at__join_5_us; }
+    at__join_5_2:;
+    r22 = zoned_rules_zoned_rule_ZonedRule_first_after_16a892625931f552(a0, r2_010);
+    r23 = r22.f0;
+    v5 = r23 == 1;
+    if (v5) { goto at__arm_6; }
+    { r3_0 = UINT64_C(8210266876799); goto at__join_5; }
+    at__arm_6:;
+    r24_4 = r22.f1;
+    v6 = (uint32_t)(r3_09 ^ 4294967295u);
+    r7_2 = (uint32_t)(r10 + v6);
+    r85_2 = (uint64_t)(r24_4 + UINT64_C(18446744073709292416));
+    LOAD(bytes, r83_val, r83);
+    r8_3 = (r83_val + 24);
+    LOAD(uint8_t, r10_3, r8_3);
+    v7 = r10_3 == 1;
+    if (v7) { goto at__arm_1; }
+    goto at__start_join_4_crit_edge;
+    at__start_join_4_crit_edge:;
+    r28_phi_trans_insert = (r83_val + 8);
+    LOAD(bytes, r7_sroa_0_0_copyload_pre, r28_phi_trans_insert);
+    r7_sroa_3_0_r28_sroa_idx_phi_trans_insert = (r83_val + 16);
+    LOAD(uint64_t, r7_sroa_3_0_copyload_pre, r7_sroa_3_0_r28_sroa_idx_phi_trans_insert);
+    {
+    r7_sroa_3_0_copyload = r7_sroa_3_0_copyload_pre;
+    r7_sroa_0_0_copyload = r7_sroa_0_0_copyload_pre;
+    goto at__join_4;
+    }
+    at__arm_1:;
+    r12 = (r83_val + 28);
+    r5_sroa_3_0_r15_sroa_idx = (r83_val + 16);
+    LOAD(uint64_t, r5_sroa_3_0_copyload, r5_sroa_3_0_r15_sroa_idx);
+    r7_i_i_not = r5_sroa_3_0_copyload == UINT64_C(0);
+    if (r7_i_i_not) { goto at__then_5; }
+    goto at__zone_zone_is_behind_exit_i_i_i_i_i_i;
+    at__zone_zone_is_behind_exit_i_i_i_i_i_i:;
+    r15 = (r83_val + 8);
+    LOAD(bytes, r5_sroa_0_0_copyload, r15);
+    r23_2 = (uint64_t)(r5_sroa_3_0_copyload << (UINT64_C(4) & 63u));
+    v8 = (r5_sroa_0_0_copyload + (int64_t)r23_2);
+    r28 = (v8 - 16);
+    LOAD(uint64_t, r4_sroa_3_8_copyload, r28);
+    r12_i_not = (int64_t)r4_sroa_3_8_copyload > (int64_t)r85_2;
+    if (r12_i_not) { { r7_sroa_3_0_copyload = r5_sroa_3_0_copyload; r7_sroa_0_0_copyload = r5_sroa_0_0_copyload; goto at__join_4; } }
+    goto at__then_5;
+    at__then_5:;
+    r24 = zone_rule_rule_ZoneRule_stretch_of_instant(r12, r85_2);
+    {
+    r24_pn = r24;
+    goto at__zone_time_zone_RefZoneTimeZone_stretch_from_exit_i_i_i_i;
+    }
+    at__join_4:;
+    LOAD(uint32_t, r6_sroa_0_0_copyload, r83_val);
+    r33 = zone_table_offsets_stretch_of_instant(r6_sroa_0_0_copyload, r7_sroa_0_0_copyload, r7_sroa_3_0_copyload, r85_2);
+    {
+    r24_pn = r33;
+    goto at__zone_time_zone_RefZoneTimeZone_stretch_from_exit_i_i_i_i;
+    }
+    at__zone_time_zone_RefZoneTimeZone_stretch_from_exit_i_i_i_i:;
+    r89 = r24_pn.f0;
+    r90 = r24_pn.f1;
+    r1 = (uint64_t)((uint64_t)(int32_t)r89);
+    r99 = (uint64_t)(r24_4 + r1);
+    v9 = (uint64_t)(r99 + UINT64_C(18446735863442674816));
+    or_cond_2 = v9 < UINT64_C(18446727528841446016);
+    if (or_cond_2) { { v23 = 1; v24 = r24_4; goto at__zoned_rules_zoned_rule_ZonedRule_count_on_16a892625931f552_exit_i; } }
+    goto at__after_1;
+    at__after_1:;
+    r12_2 = (int64_t)r99 < (int64_t)UINT64_C(0);
+    if (r12_2) { goto at__else_2_i6; }
+    goto at__then_1_i7;
+    at__then_1_i7:;
+    r31 = (uint64_t)(r99 % UINT64_C(86400));
+    r14_i8 = (uint64_t)(r99 / UINT64_C(86400));
+    {
+    r3_0_i_i_i_i105 = r31;
+    r2_0 = r14_i8;
+    goto at__arm_1_2;
+    }
+    at__else_2_i6:;
+    r18 = (uint64_t)(r99 ^ UINT64_C(18446744073709551615));
+    r23_i_i_i_i16 = (uint64_t)(r18 % UINT64_C(86400));
+    r26 = (uint64_t)(UINT64_C(86399) - r23_i_i_i_i16);
+    r22_2 = (uint64_t)(r18 / UINT64_C(86400));
+    r24_2 = (uint64_t)(r22_2 ^ UINT64_C(18446744073709551615));
+    {
+    r3_0_i_i_i_i105 = r26;
+    r2_0 = r24_2;
+    goto at__arm_1_2;
+    }
+    at__arm_1_2:;
+    r45 = (uint32_t)(r2_0);
+    r114 = (uint64_t)(r24_4 - r3_0_i_i_i_i105);
+    r119_not = (int64_t)r114 > (int64_t)r2_010;
+    if (r119_not) { goto at__else_8; }
+    { v23 = 1; v24 = r24_4; goto at__zoned_rules_zoned_rule_ZonedRule_count_on_16a892625931f552_exit_i; }
+    at__else_8:;
+    LOAD(uint32_t, r34_sroa_3_0_copyload, r34_sroa_3_0_r1_i18_sroa_idx);
+    LOAD(uint32_t, r34_sroa_0_0_copyload, r1_i18);
+    LOAD(uint32_t, r2_sroa_4_0_copyload, r2_sroa_4_0_r1_i_sroa_idx);
+    r14 = (uint32_t)(r34_sroa_0_0_copyload + 4294248133u);
+    r1_2 = (uint64_t)((uint64_t)(int32_t)r14);
+    r18_i_i_i_i21 = (uint64_t)(r1_2 * UINT64_C(86400));
+    r1_i2 = (uint64_t)r34_sroa_3_0_copyload;
+    r25_2 = (uint64_t)(r18_i_i_i_i21 + r1_i2);
+    STORE(uint32_t, r8_i_i19, r34_sroa_0_0_copyload);
+    STORE(uint32_t, r2_sroa_4_0_r8_sroa_idx, r34_sroa_3_0_copyload);
+    STORE(uint32_t, r2_sroa_5_0_r8_sroa_idx, r2_sroa_4_0_copyload);
+    r13 = zoned_rules_local_instant_offset_of_16a892625931f552(r83_val, r8_i_i19);
+    r1_3 = (uint64_t)((uint64_t)(int32_t)r13);
+    r20_2 = (uint64_t)(r25_2 - r1_3);
+    r128 = (int64_t)r114 < (int64_t)r20_2;
+    r139 = (uint64_t)(r114 + r1);
+    r144 = (int64_t)r139 < (int64_t)r25_2;
+    or_cond_3 = (uint8_t)(((uint32_t)r144 | (uint32_t)r128) & 1);
+    if (or_cond_3) { { v23 = 1; v24 = r24_4; goto at__zoned_rules_zoned_rule_ZonedRule_count_on_16a892625931f552_exit_i; } }
+    goto at__after_5;
+    at__after_5:;
+    r6_i_i_i_i_i24 = (uint32_t)(r45 + 719162u);
+    v10 = (uint32_t)(r45 + 96465291u);
+    or_cond_4 = v10 < 191491529u;
+    if (or_cond_4) { goto at__arm_18; }
+    { v23 = 1; v24 = r24_4; goto at__zoned_rules_zoned_rule_ZonedRule_count_on_16a892625931f552_exit_i; }
+    at__arm_18:;
+    a0_a1 = (uint64_t)LESSER64((int64_t)r90, (int64_t)UINT64_C(8210266876799));
+    r162 = (uint64_t)(a0_a1 + r1);
+    a0_a1_i23 = (uint64_t)LESSER64((int64_t)r162, (int64_t)UINT64_C(8210266876799));
+    v11 = (int64_t)r162 < (int64_t)UINT64_C(18446735739108322816);
+    if (v11) { { v23 = 1; v24 = r24_4; goto at__zoned_rules_zoned_rule_ZonedRule_count_on_16a892625931f552_exit_i; } }
+    goto at__after_1_2;
+    at__after_1_2:;
+    r12_i_i_i_i3 = (int64_t)r162 < (int64_t)UINT64_C(0);
+    if (r12_i_i_i_i3) { goto at__else_2_i6_2; }
+    goto at__then_1_i7_2;
+    at__then_1_i7_2:;
+    r14_i8_2 = (uint64_t)(a0_a1_i23 / UINT64_C(86400));
+    {
+    r2_0_2 = r14_i8_2;
+    goto at__arm_21;
+    }
+    at__else_2_i6_2:;
+    r19_2 = (uint64_t)(a0_a1_i23 ^ UINT64_C(18446744073709551615));
+    r22_3 = (uint64_t)(r19_2 / UINT64_C(86400));
+    r24_i_i_i_i4 = (uint64_t)(r22_3 ^ UINT64_C(18446744073709551615));
+    {
+    r2_0_2 = r24_i_i_i_i4;
+    goto at__arm_21;
+    }
+    at__arm_21:;
+    r45_2 = (uint32_t)(r2_0_2);
+    r6_2 = (uint32_t)(r45_2 + 719163u);
+    r6_i_i_i_i_i34 = (uint32_t)(r45_2 + 719162u);
+    v12 = (uint32_t)(r45_2 + 96465291u);
+    or_cond_i_i_i_i_i35 = v12 < 191491529u;
+    not = (int32_t)r6_2 > (int32_t)r6_i_i_i_i_i24;
+    or_cond_5 = or_cond_i_i_i_i_i35 ? not : 0;
+    if (or_cond_5) { goto at__arm_8; }
+    { v23 = 1; v24 = r24_4; goto at__zoned_rules_zoned_rule_ZonedRule_count_on_16a892625931f552_exit_i; }
+    at__arm_8:;
+    r66 = (uint32_t)(r7_2 / r0_sroa_4_0);
+    LOAD(uint32_t, r34_val, r1_i18);
+    r34_val_i_fr = r34_val;
+    r66_2 = (uint32_t)(r45 + 719163u);
+    r71 = (int32_t)r66_2 < (int32_t)r34_val_i_fr;
+    if (r71) { { us_phi = r6_i_i_i_i_i24; us_phi9 = 0; goto at__zoned_rules_local_rule_LocalRule_pass_days_exit_i_i_i_i; } }
+    { r5_08 = 134217728u; r4_07 = 0; r3_sroa_0_06 = r6_i_i_i_i_i24; goto at__join_5_3; }
+    at__join_5_3:;
+    r1_4 = (uint64_t)r5_08;
+    r1_5 = (uint64_t)((uint64_t)(int32_t)r3_sroa_0_06);
+    r6_3 = (uint64_t)(r1_5 + r1_4);
+    r11 = (int64_t)r6_3 > (int64_t)UINT64_C(2147483647);
+    r5_sroa_4_0 = (uint32_t)(r6_3);
+    v13 = (uint32_t)(r5_sroa_4_0 + 4199221896u);
+    or_cond_6 = v13 < 4103475767u;
+    v14 = (int32_t)r6_2 <= (int32_t)r5_sroa_4_0;
+    v15 = (uint8_t)(((uint32_t)v14 | (uint32_t)or_cond_6) & 1);
+    or_cond_7 = (uint8_t)(((uint32_t)r11 | (uint32_t)v15) & 1);
+    if (or_cond_7) { { v17 = r3_sroa_0_06; v18 = r4_07; goto at__16; } }
+    goto at__after_5_2;
+    at__after_5_2:;
+    r85_3 = chrono_rules_rule_Rule_count_to(a0, r34_val_i_fr, r5_sroa_4_0);
+    r89_2 = chrono_rules_rule_Rule_count_to(a0, r34_val_i_fr, r6_i_i_i_i_i24);
+    r92 = (uint32_t)(r85_3 - r89_2);
+    r94 = r66 < r92;
+    spec_select = r94 ? r3_sroa_0_06 : r5_sroa_4_0;
+    spec_select6 = r94 ? r4_07 : r92;
+    {
+    v17 = spec_select;
+    v18 = spec_select6;
+    goto at__16;
+    }
+    at__16:;
+    r265 = (uint32_t)(r5_08 >> 1);
+    r11_2 = r5_08 > 2001u;
+    if (r11_2) { { r5_08 = r265; r4_07 = v18; r3_sroa_0_06 = v17; goto at__join_5_3; } }
+    { us_phi = v17; us_phi9 = v18; goto at__zoned_rules_local_rule_LocalRule_pass_days_exit_i_i_i_i; }
+    at__zoned_rules_local_rule_LocalRule_pass_days_exit_i_i_i_i:;
+    r188 = us_phi9 < r66;
+    if (r188) { { r5_010 = us_phi9; r4_sroa_0_09 = us_phi; goto at__join_5_4; } }
+    { r5_0_lcssa = us_phi9; r0_sroa_4_0_2 = us_phi; goto at__zoned_rules_local_rule_LocalRule_count_days_exit_i_i_i; }
+    at__join_5_4:;
+    r22_4 = chrono_rules_rule_Rule_next_after(a0, r34_val_i_fr, r4_sroa_0_09);
+    r23_3 = r22_4.f0;
+    r24_3 = r22_4.f1;
+    trunc = (uint8_t)((r23_3) & 1);
+    a1 = trunc ? r24_3 : 0;
+    v19 = r23_3 == 1;
+    v20 = (int32_t)r6_2 > (int32_t)a1;
+    v21 = v19 ? v20 : 0;
+    if (v21) { goto at__arm_6_2; }
+    { r5_0_lcssa = r5_010; r0_sroa_4_0_2 = r6_i_i_i_i_i34; goto at__zoned_rules_local_rule_LocalRule_count_days_exit_i_i_i; }
+    at__arm_6_2:;
+    r34 = (uint32_t)(r5_010 + 1);
+    exitcond_not_2 = r34 == r66;
+    if (exitcond_not_2) { { r5_0_lcssa = r66; r0_sroa_4_0_2 = r24_3; goto at__zoned_rules_local_rule_LocalRule_count_days_exit_i_i_i; } }
+    { r5_010 = r34; r4_sroa_0_09 = r24_3; goto at__join_5_4; }
+    at__zoned_rules_local_rule_LocalRule_count_days_exit_i_i_i:;
+    r76 = r5_0_lcssa == 0;
+    if (r76) { { v23 = 1; v24 = r24_4; goto at__zoned_rules_zoned_rule_ZonedRule_count_on_16a892625931f552_exit_i; } }
+    goto at__22;
+    at__22:;
+    r86 = (uint32_t)(r5_0_lcssa * r0_sroa_4_0);
+    r14_2 = (uint32_t)(r0_sroa_4_0_2 + 4294248133u);
+    r1_i_i_i10 = (uint64_t)((uint64_t)(int32_t)r14_2);
+    r18_2 = (uint64_t)(r1_i_i_i10 * UINT64_C(86400));
+    reass_sub = (uint64_t)(r18_2 - r1);
+    r95 = (uint64_t)(reass_sub + UINT64_C(86399));
+    {
+    v23 = r86;
+    v24 = r95;
+    goto at__zoned_rules_zoned_rule_ZonedRule_count_on_16a892625931f552_exit_i;
+    }
+    at__zoned_rules_zoned_rule_ZonedRule_count_on_16a892625931f552_exit_i:;
+    r47 = (uint32_t)(v23 + r3_09);
+    r17_2 = r47 < r10;
+    if (r17_2) { { r2_010 = v24; r3_09 = r47; goto at__join_5_2; } }
+    { r3_0 = v24; goto at__join_5; }
+    at__arm_3:;
+    r14_3 = (a0 + 436);
+    LOAD(uint32_t, r4_sroa_0_0_copyload, r14_3);
+    r4_sroa_3_0_r14_sroa_idx = (a0 + 440);
+    LOAD(uint32_t, r4_sroa_3_0_copyload, r4_sroa_3_0_r14_sroa_idx);
+    r14_4 = (uint32_t)(r4_sroa_0_0_copyload + 4294248133u);
+    r1_6 = (uint64_t)((uint64_t)(int32_t)r14_4);
+    r18_3 = (uint64_t)(r1_6 * UINT64_C(86400));
+    r1_i2_2 = (uint64_t)r4_sroa_3_0_copyload;
+    r25 = (uint64_t)(r18_3 + r1_i2_2);
+    {
+    r3_0 = r25;
+    goto at__join_5;
+    }
+    at__join_5:;
+    return r3_0;
+    at__noarm_4:;
+    UNREACHABLE();
+}
+
+static uint32_t chrono_rules_rule_Rule_count_to(bytes a0, uint32_t a1, uint32_t a2)
+{
+    uint32_t common_ret_op, common_ret_op7, common_ret_op33, common_ret_op_i_i33_sink, r4_0, r28, r2829, r5_sroa_0_0_copyload25, r15, r2855, r1147, spec_select48;
+    bytes r5, r1324, r14;
+    uint8_t r6, r19_not, r10, not, or_cond, r31, r37, r19_not5, r108, not9, or_cond10, not1326, r3115, r3718, r19_not31, r1034, not35, or_cond36, r3141, r3744, r4346;
+    t_struct_i32_i32_end r26, r2628, r2654;
+    r5 = (a0 + 8);
+    LOAD(uint8_t, r6, r5);
+    switch (r6) {
+    case 0: goto at__arm_1;
+    case 2: goto at__arm_2;
+    case 1: goto at__arm_3;
+    default: goto at__noarm_4;
+    }
+    at__arm_1:;
+    r19_not = (int32_t)a2 > (int32_t)a1;
+    if (r19_not) { goto at__join_3; }
+    { common_ret_op = 0; goto at__chrono_rules_rule_Rule_count_members_exit_i; }
+    at__join_3:;
+    r26 = chrono_rules_rule_Rule_first_members(a0, a1, a2, 4294967295u);
+    r28 = r26.f1;
+    {
+    common_ret_op = r28;
+    goto at__chrono_rules_rule_Rule_count_members_exit_i;
+    }
+    at__chrono_rules_rule_Rule_count_members_exit_i:;
+    r10 = common_ret_op == 4294967295u;
+    not = (int32_t)a1 > (int32_t)a2;
+    or_cond = (uint8_t)(((uint32_t)not | (uint32_t)r10) & 1);
+    if (or_cond) { { r4_0 = common_ret_op; goto at__join_5; } }
+    goto at__then_4;
+    at__then_4:;
+    r31 = chrono_rules_rule_Rule_in_interval(a0, a1, a2);
+    if (r31) { goto at__then_7; }
+    { r4_0 = common_ret_op; goto at__join_5; }
+    at__then_7:;
+    r37 = chrono_rules_rule_Rule_passes(a0, a1, a2);
+    if (r37) { { common_ret_op_i_i33_sink = common_ret_op; goto at__join_5_sink_split; } }
+    { r4_0 = common_ret_op; goto at__join_5; }
+    at__arm_2:;
+    r19_not5 = (int32_t)a2 > (int32_t)a1;
+    if (r19_not5) { goto at__join_327; }
+    { common_ret_op7 = 0; goto at__chrono_rules_rule_Rule_count_members_exit_i6; }
+    at__join_327:;
+    r2628 = chrono_rules_rule_Rule_first_members(a0, a1, a2, 4294967295u);
+    r2829 = r2628.f1;
+    {
+    common_ret_op7 = r2829;
+    goto at__chrono_rules_rule_Rule_count_members_exit_i6;
+    }
+    at__chrono_rules_rule_Rule_count_members_exit_i6:;
+    r108 = common_ret_op7 == 4294967295u;
+    not9 = (int32_t)a1 > (int32_t)a2;
+    or_cond10 = (uint8_t)(((uint32_t)not9 | (uint32_t)r108) & 1);
+    if (or_cond10) { { r4_0 = common_ret_op7; goto at__join_5; } }
+    goto at__chrono_rules_rule_Rule_not_after_exit_i_i_i23;
+    at__chrono_rules_rule_Rule_not_after_exit_i_i_i23:;
+    r1324 = (a0 + 12);
+    LOAD(uint32_t, r5_sroa_0_0_copyload25, r1324);
+    not1326 = (int32_t)a2 > (int32_t)r5_sroa_0_0_copyload25;
+    if (not1326) { { r4_0 = common_ret_op7; goto at__join_5; } }
+    goto at__then_414;
+    at__then_414:;
+    r3115 = chrono_rules_rule_Rule_in_interval(a0, a1, a2);
+    if (r3115) { goto at__then_717; }
+    { r4_0 = common_ret_op7; goto at__join_5; }
+    at__then_717:;
+    r3718 = chrono_rules_rule_Rule_passes(a0, a1, a2);
+    if (r3718) { { common_ret_op_i_i33_sink = common_ret_op7; goto at__join_5_sink_split; } }
+    { r4_0 = common_ret_op7; goto at__join_5; }
+    at__arm_3:;
+    r14 = (a0 + 12);
+    LOAD(uint32_t, r15, r14);
+    r19_not31 = (int32_t)a2 > (int32_t)a1;
+    if (r19_not31) { goto at__join_353; }
+    { common_ret_op33 = 0; goto at__chrono_rules_rule_Rule_count_members_exit_i32; }
+    at__join_353:;
+    r2654 = chrono_rules_rule_Rule_first_members(a0, a1, a2, r15);
+    r2855 = r2654.f1;
+    {
+    common_ret_op33 = r2855;
+    goto at__chrono_rules_rule_Rule_count_members_exit_i32;
+    }
+    at__chrono_rules_rule_Rule_count_members_exit_i32:;
+    r1034 = common_ret_op33 >= r15;
+    not35 = (int32_t)a1 > (int32_t)a2;
+    or_cond36 = (uint8_t)(((uint32_t)not35 | (uint32_t)r1034) & 1);
+    if (or_cond36) { { r4_0 = common_ret_op33; goto at__join_5; } }
+    goto at__then_440;
+    at__then_440:;
+    r3141 = chrono_rules_rule_Rule_in_interval(a0, a1, a2);
+    if (r3141) { goto at__then_743; }
+    { r4_0 = common_ret_op33; goto at__join_5; }
+    at__then_743:;
+    r3744 = chrono_rules_rule_Rule_passes(a0, a1, a2);
+    if (r3744) { { common_ret_op_i_i33_sink = common_ret_op33; goto at__join_5_sink_split; } }
+    { r4_0 = common_ret_op33; goto at__join_5; }
+    at__join_5_sink_split:;
+    r4346 = chrono_rules_rule_Rule_in_positions(a0, a1, a2);
+    r1147 = (uint32_t)r4346;
+    spec_select48 = (uint32_t)(common_ret_op_i_i33_sink + r1147);
+    {
+    r4_0 = spec_select48;
+    goto at__join_5;
+    }
+    at__join_5:;
+    return r4_0;
+    at__noarm_4:;
+    UNREACHABLE();
 }
 
 static uint8_t in_calendar_text_is_instance(bytes a0, uint64_t a1, bytes a2, uint64_t a3, uint64_t a4, uint32_t a5)
@@ -63396,17 +64662,17 @@ static t_struct_i64_i32_end in_calendar_text_next(bytes a0, uint64_t a1, bytes a
 
 static t_struct_i64_i32_end in_calendar_text_prev(bytes a0, uint64_t a1, bytes a2, uint64_t a3, uint64_t a4, uint32_t a5)
 {
-    uint64_t r7_sroa_3_0_copyload, r5_sroa_3_0_copyload_i_i_i_i28, r2_0, r2_0_i17, r1_0, r1_06, r3_0, r7_sroa_3_0_copyload_2, r3_0_i_i_i_i6, r2_0_3, r3_0_i_i_i_i35, r2_0_i_i_i_i_i_i22, r204770, r2046, r7_sroa_3_0_copyload_i_i18, r3_0_2, r3_0_i_i_i_i6_i_i_i40, r2_0_i_i_i_i_i_i_i41, r3_i_i_i_i_i_i_sroa_7_5, r3_i_i_i_i_i_i_sroa_9_5, r3_0_i_i_i_i6_2, r2_0_5, r15_sroa_5_sroa_5_0_i_i61, r15_sroa_5_sroa_0_0_i_i60, r7_sroa_3_0_copyload_3, r3_0_i_i_i_i6_i_i_i33, r2_0_i_i_i_i_i_i_i34, r2_sroa_7_0, r25_i_i_i_i16_pre_phi, r3_0_i_i_i_i35_2, r2_0_i_i_i_i_i_i_i_i61, r4_sroa_4_0, r12_sroa_5_0, r0_sroa_5_0_i_pn, r4_sroa_4_017, r3_sroa_5_015, r3_0_i_i_i_i35_3, r2_0_7, r3_0_i_i_i7, r6_sroa_3_0_copyload, r1_sroa_4_0, r12_sroa_5_0_2, r12_sroa_5_0_i_i_ph, r12_sroa_5_0_i_i122, r1_sroa_5_0_copyload, r0_sroa_4_0, r3_0_i_i_i_i35_4, r2_0_i_i_i_i_i_i11, r7_sroa_0_07, v1, r30_2, r36, r45, r7_sroa_3_0_copyload_pre, r5_sroa_3_0_copyload, r23_2, r4_sroa_3_8_copyload, r5, r23_i_i_i_i_i_i33, r4_sroa_3_8_copyload_i_i_i_i_i35, r5_i23, r14_2, sext, r1_2, r18, r25_5, r1_i12, r21, r20_3, r9_0, r14_i_i_i_i_i_i17, r1_4, r18_2, r1_i2, r25, r12_3, a0_a1, r19, r7_sroa_3_0_copyload_pre_2, r5_sroa_3_0_copyload_2, r23_3, r4_sroa_3_8_copyload_2, r24_5, r1_i_i_i3, r38_2, r31, r14_i8, r18_3, r23_5, r26, r22, r24_2, r1_5, r18_4, r1_i2_2, r25_6, r1_i_i_i5, r18_i_i6, r1_i2_i_i7, r25_i_i8, r25_i_i_i_i7, r54, r55, v14, r31_i_i_i_i_i_i19, r14_i8_i_i_i_i_i20, r18_i_i_i_i_i_i25, r23_i_i_i_i_i_i26, r26_i_i_i_i_i_i27, r22_i_i_i_i_i_i28, r24_i_i_i_i_i_i29, r18_i_i_i_i1, r25_7, r1_i12_2, r21_2, r5_sroa_3_0_copyload_i_i_i14, r204774, r23_i_i_i_i_i19, r4_sroa_3_8_copyload_i_i_i_i21, r7_sroa_3_0_copyload_pre_i_i_i6, r20_i_i4, r2047, r28_4, r36_2, r1_i_i_i30, r1_i_i_i_i2, r11_i_i31, r31_i_i_i_i_i_i_i37, r14_i8_i_i_i_i_i_i38, r18_i_i_i_i_i_i_i78, r23_i_i_i_i_i_i_i79, r26_i_i_i_i_i_i_i80, r22_i_i_i_i_i_i_i81, r24_i_i_i_i_i_i_i82, r1_i_i_i_i_i_i58, r18_i_i_i_i_i59, r1_i2_i_i_i_i_i60, r25_i_i_i_i_i61, r1_i_i_i5_i_i_i63, r18_i_i6_i_i_i64, r1_i2_i_i7_i_i_i65, r25_i_i8_i_i_i66, r29_i72, r3_i_i_i_i_i_i_sroa_9_16_insert_ext, r11_i_i12, r31_2, r14_i8_2, r18_i_i_i_i_i_i_i23, r23_i_i_i_i_i_i_i24, r26_i_i_i_i_i_i_i25, r22_2, r24_i_i_i_i_i_i_i26, r1_i_i_i_i_i_i19, r18_i_i_i_i_i20, r1_i2_i_i_i_i_i21, r25_i_i_i_i_i22, r1_i_i_i5_2, r18_i_i6_2, r1_i2_i_i7_2, r25_i_i8_2, r29, r4_i_i_i_i_i_i_sroa_9_16_insert_ext, r19_sroa_4_sroa_0_0, r19_sroa_4_sroa_4_0, r7_sroa_3_0_copyload_pre_3, r5_sroa_3_0_copyload_3, r23_7, r4_sroa_3_8_copyload_3, r15_i26, v27, r31_i_i_i_i_i_i_i30, r14_i8_i_i_i_i_i_i31, r18_i_i_i_i_i_i_i63, r23_i_i_i_i_i_i_i64, r26_i_i_i_i_i_i_i65, r22_i_i_i_i_i_i_i66, r24_i_i_i_i_i_i_i67, r1_i_i_i_i_i_i49, r18_i_i_i_i_i50, r1_i2_i_i_i_i_i51, r25_i_i_i_i_i52, r1_i_i_i5_i_i_i54, r18_i_i6_i_i_i55, r1_i2_i_i7_i_i_i56, r25_i_i8_i_i_i57, pre90, pre91, pre92, pre93, r17, r1_6, r18_5, r1_i2_3, r25_2, r1_i_i_i_i_i6, r20, v29, r31_3, r14_i8_3, r18_7, r23_8, r26_2, r22_4, r24_3, r18_i_i_i_i1_2, r25_8, r1_i12_3, r21_3, a0_a1_2, spec_select6, r1_i_i_i_i_i25, r18_i_i_i_i26, r1_i2_i_i_i_i27, r25_i_i_i_i28, r1_i_i_i5_i_i30, r18_i_i6_i_i31, r1_i2_i_i7_i_i32, r25_i_i8_i_i33, r1_7, r18_8, r1_i2_4, r25_9, r1_i_i_i_i2_2, r20_4, a1_2, r5_sroa_3_0_copyload_i_i_i_i41, r33_2, r1_i_i_i_i2_3, r18_9, r1_i2_5, r25_3, v36, r31_4, r14_i8_4, r18_i_i_i_i_i_i_i_i8, r23_i_i_i_i_i_i_i_i9, r26_3, r22_5, r24_4, r18_i_i_i_i1_3, r25_i_i_i_i_i_i_i_i3, r6_sroa_3_0_copyload_pre, r4_sroa_3_0_copyload, r23_i_i_i6, r4_sroa_3_8_copyload_i_i_i_i_i51, r18_i_i_i10, r23_i_i2, r26_4, r31_5, r31_i44, r1_i_i_i_i_i_i16, r1_i50, r1_i51, r28_i24, r31_i25, r21_i13, r24_i14, r3_i_sroa_0_0, r3_i_sroa_8_0, r1_i57, r1_i58, r1_i59, r28_i35, r31_i36, r21_4, r24_6, r4_i_sroa_0_0, r4_i_sroa_7_0, a1_a0, reass_sub, r1_i12_4, r21_5, a0_a1_3, spec_select6_2, a0_a1_i_i11, spec_select6_3, r5_sroa_3_0_copyload_4, r23_i_i_i_i_i15, r1_8, r18_i_i_i_i_i_i4, r1_i2_6, r25_10, v46, r31_6, r14_i8_5, r18_i_i_i_i_i9, r23_i_i_i_i_i10, r26_5, r22_6, r24_i_i_i_i_i11, r18_i_i_i_i1_4, r25_i_i_i_i_i6, r1_i12_5, r21_i_i_i_i_i7, r3921, r4222;
-    bytes r7_sroa_0_0_copyload, r7_sroa_0_0_copyload_i_i_i_i11, r7_sroa_0_0_copyload_2, r7_sroa_0_0_copyload_i_i19, r13_i_i5, r7_sroa_0_0_copyload_3, r4_sroa_0_016, r0_sroa_0_0_in, r6_sroa_0_0_copyload_i_i_i_i45, r5_sroa_0_0, r4_i_i_i28, r3_i29, r4_i_i_i11, r3, r1, r7, r8_i_i_i24, r4_i_i_i25, r4, r8, r11_2, r16, r0_i1, r0, r4_2, r52, r6, r7_2, r7_3, r8_2, r11_3, r28, r8_3, r28_phi_trans_insert, r7_sroa_0_0_copyload_pre, r7_sroa_3_0_r28_sroa_idx_phi_trans_insert, r12, r5_sroa_3_0_r15_sroa_idx, r15, r5_sroa_0_0_copyload, v3, r28_2, r4_3, r1_sroa_3_0_r4_sroa_idx, r1_sroa_4_0_r4_sroa_idx, r1_sroa_5_0_r4_sroa_idx, r1_sroa_6_0_r4_sroa_idx, r28_phi_trans_insert_i_i_i_i5, r7_sroa_0_0_copyload_pre_i_i_i_i6, r12_i_i_i_i26, r15_i_i_i_i31, r5_sroa_0_0_copyload_i_i_i_i32, v4, r28_i_i_i_i_i_i34, r4_i18, r1_sroa_3_0_r4_sroa_idx_i19, r1_sroa_4_0_r4_sroa_idx_i20, r1_sroa_5_0_r4_sroa_idx_i21, r1_sroa_6_0_r4_sroa_idx_i22, r58, r6_3, r14_i_i_i_i_i8, r4_sroa_3_0_r14_sroa_idx, r4_4, r1_3, r2_sroa_3_0_r1_i_sroa_idx, r2_sroa_4_0_r1_i_sroa_idx, r2_sroa_4_0_r8_sroa_idx, r2_sroa_5_0_r8_sroa_idx, r26_6, r5_sroa_3_sroa_3_0_r26_i_sroa_idx, r26_i_i_i47, r5_sroa_3_sroa_3_0_r26_i_sroa_idx_i_i49, r5_sroa_3_sroa_4_0_r26_i_sroa_idx_i_i51, r5_sroa_6_4_r3_sroa_idx_i69, r5_sroa_7_4_r3_sroa_idx_i70, r26_i_i_i16, r5_sroa_3_sroa_3_0_r26_i_sroa_idx_2, r5_sroa_3_sroa_4_0_r26_i_sroa_idx, r5_sroa_6_4_r3_sroa_idx, r5_sroa_7_4_r3_sroa_idx, r26_i_i_i40, r5_sroa_3_sroa_3_0_r26_i_sroa_idx_i_i42, r5_sroa_3_sroa_4_0_r26_i_sroa_idx_2, r2_sroa_4_0_r8_sroa_idx_2, r2_sroa_5_0_r8_sroa_idx_2, r5_i_i_i59, r7_sroa_4_i_sroa_5_3_r5_i_sroa_idx, r7_sroa_4_i_sroa_6_3_r5_i_sroa_idx, r5_sroa_3_0_r14_sroa_idx, r14_3, r12_i_i_i_i8, r16_i21, r12_i27, r16_i30, r16_2, r5_sroa_3_0_r16_sroa_idx, r5_2, r18_val, r8_4, r28_phi_trans_insert_2, r7_sroa_0_0_copyload_pre_2, r7_sroa_3_0_r28_sroa_idx_phi_trans_insert_2, r12_4, r5_sroa_3_0_r15_sroa_idx_2, r15_2, r5_sroa_0_0_copyload_2, v11, r28_3, r63, r14_val9, r8_i_i_i1, r12_i_i_i12, r5_sroa_3_0_r15_sroa_idx_i_i_i13, r15_i_i_i17, r5_sroa_0_0_copyload_i_i_i18, v19, r28_i_i_i_i_i20, r28_phi_trans_insert_i_i_i3, r7_sroa_0_0_copyload_pre_i_i_i4, r7_sroa_3_0_r28_sroa_idx_phi_trans_insert_i_i_i5, r13_i_pre, r8_i_i_i_i_phi_trans_insert, r28_phi_trans_insert_3, r7_sroa_0_0_copyload_pre_3, r7_sroa_3_0_r28_sroa_idx_phi_trans_insert_3, r12_6, r5_sroa_3_0_r15_sroa_idx_3, r15_3, r5_sroa_0_0_copyload_3, v26, r28_6, r9, r18_6, r13_5, r5_sroa_0_0_copyload_i_i_i_i42, r7_i_i_i9, r22_phi_trans_insert, r6_sroa_3_0_r22_sroa_idx_phi_trans_insert, r11, r8_5, r11_4, r30, v35, r6_sroa_0_0_copyload_pre, r4_sroa_0_0_copyload, v38, r28_i_i_i_i_i_i50, r1_a0, r5_sroa_0_0_copyload_4, r20_2, v44;
-    uint32_t r2_0_2, r2_05, r2_0_4, r194568, r6_sroa_0_0_copyload_i_i20, r1944, r1943, r1_sroa_0_0, r1_sroa_6_0, r1_sroa_11_0, r2_0_6, r0_sroa_0_0_2, r2_0_8, r2_0_9, r7_sroa_4_08, r38, r47, r29_2, r6_sroa_0_0_copyload, r7_4, r6_sroa_0_0_copyload_i_i_i_i12, r7_i_i_i_i_i15, r7_5, r42, r29_3, r14_i_i_i_i_i_i_i_i_lhs_trunc, r1470, v5, r23_i_lhs_trunc, r22_i7, v6, sadd58, v7, r10_3, r23, r4_sroa_0_0_copyload_2, r4_sroa_3_0_copyload_2, r14_4, r2_sroa_0_0_copyload, r2_sroa_3_0_copyload, r2_sroa_4_0_copyload, r13_2, r6_sroa_0_0_copyload_2, r23_4, r45_2, r6_4, r1_sroa_3_4_extract_trunc, r5_sroa_3_sroa_0_0_copyload, r5_sroa_3_sroa_3_0_copyload, a1_val, a1_val1, r14_5, r14_i_i4, r45_i_i_i_i_i23, r7_7, r14_i_i_i_i_i_lhs_trunc, r14_i_i_i_i_i55, v15, r23_i_lhs_trunc_2, r22_i7_2, v16, sadd_i_i_i54, v17, r194573, r6_sroa_0_0_copyload_i_i51, r6_sroa_0_0_copyload_i_i_i7, r19_i9, r1945, r6_sroa_0_0_copyload_i_i20_pre, r27_3, r45_i_i_i_i_i_i42, r6_i_i_i_i_i_i_i_i43, r1_sroa_3_4_extract_trunc_i_i_i44, r5_sroa_3_sroa_0_0_copyload_i_i48, r5_sroa_3_sroa_3_0_copyload_i_i50, r5_sroa_3_sroa_4_0_copyload_i_i52, a1_val_i_i55, a1_val1_i_i56, r14_i_i_i_i_i57, r14_i_i4_i_i_i62, r45_3, r6_5, r1_sroa_3_4_extract_trunc_2, r5_sroa_3_sroa_0_0_copyload_2, r5_sroa_3_sroa_3_0_copyload_2, r5_sroa_3_sroa_4_0_copyload_2, a1_val_2, a1_val1_2, r14_i_i_i_i_i18, r14_i_i4_2, r6_sroa_0_0_copyload_3, r45_i_i_i_i_i_i35, r6_i_i_i_i_i_i_i_i36, r1_sroa_3_4_extract_trunc_i_i_i37, r5_sroa_3_sroa_0_0_copyload_i_i41, r5_sroa_3_sroa_3_0_copyload_i_i43, r5_sroa_3_sroa_4_0_copyload, a1_val_i_i46, a1_val1_i_i47, r14_i_i_i_i_i48, r14_i_i4_i_i_i53, pre, r14_6, r13_3, r45_4, r7_8, r14_i_i_i_i_i_lhs_trunc_2, r14_i_i_i_i_i55_2, v30, r23_i_lhs_trunc_3, r22_i7_3, v31, sadd_i_i_i54_2, v32, r7_sroa_4_i_sroa_3_3_copyload, r7_sroa_4_i_sroa_5_3_copyload, a1_val_i23, a1_val2, r14_i_i_i_i24, r14_i_i4_i_i29, r7_sroa_4_i_sroa_6_3_copyload, r14_7, r15_val, r15_val4, r14_i_i_i1, r45_5, r5_sroa_0_0_copyload_5, r13_i20, r17_2, r8_sroa_0_0_copyload, r13_i28, r17_i31, r0_sroa_0_0, r5_sroa_0_0_copyload_i5, r27, r14_i_i_i_i_i_lhs_trunc_3, r14_i_i_i_i_i55_3, v40, r23_i_lhs_trunc_4, r22_i7_4, v41, sadd_i_i_i54_3, v42, r14_val, r14_val2, r14_8, r45_7, r7_i_i_i_i_i46, r14_i_i_i_i_i_lhs_trunc_4, r14_i_i_i_i_i55_4, v47, r23_i_lhs_trunc_5, r22_i7_5, v48, sadd_i_i_i54_4, v49;
+    uint64_t r7_sroa_3_0_copyload, r5_sroa_3_0_copyload_i_i_i_i28, r2_0, r2_0_i17, r1_0, r7_sroa_3_0_copyload_2, r3_0_i_i_i_i6, r2_0_3, r3_0_i_i_i_i35, r2_0_i_i_i_i_i_i22, r204770, r2046, r7_sroa_3_0_copyload_i_i18, r3_0, r3_0_i_i_i_i6_i_i_i32, r2_0_i_i_i_i_i_i_i33, r3_i_i_i_i_i_i_sroa_7_5, r3_i_i_i_i_i_i_sroa_9_5, r3_0_i_i_i_i6_2, r2_0_5, r15_sroa_5_sroa_5_0_i_i61, r15_sroa_5_sroa_0_0_i_i60, r7_sroa_3_0_copyload_3, r3_0_i_i_i_i6_i_i_i33, r2_0_i_i_i_i_i_i_i34, r2_sroa_7_0, r25_i_i_i_i16_pre_phi, r3_0_i_i_i_i35_2, r2_0_i_i_i_i_i_i_i_i61, r4_sroa_4_0, r12_sroa_5_0, r0_sroa_5_0_i_pn, r4_sroa_4_017, r3_sroa_5_015, r3_0_i_i_i_i35_3, r2_0_7, r3_0_2, r6_sroa_3_0_copyload, r1_sroa_4_0, r12_sroa_5_0_2, r12_sroa_5_0_i_i_ph, r12_sroa_5_0_i_i114, r1_sroa_5_0_copyload, r0_sroa_4_0, r3_0_i_i_i_i35_4, r2_0_i_i_i_i_i_i11, r7_sroa_0_07, v1, r30_2, r36, r45, r7_sroa_3_0_copyload_pre, r5_sroa_3_0_copyload, r23, r4_sroa_3_8_copyload, r5, r23_i_i_i_i_i_i33, r4_sroa_3_8_copyload_i_i_i_i_i35, r5_i23, r14_2, sext, r1_2, r18, r25_4, r1_i12, r21, r20_3, r9_0, r10_3, r12_3, a0_a1, r19, r7_sroa_3_0_copyload_pre_2, r5_sroa_3_0_copyload_2, r23_2, r4_sroa_3_8_copyload_2, r24_5, r1_i_i_i3, r38_2, r31, r14_i8, r18_2, r23_4, r26, r22, r24_2, r1_4, r18_3, r1_i2, r25_5, r1_i_i_i5, r18_i_i6, r1_i2_i_i7, r25_i_i8, r25_i_i_i_i7, r54, r55, v13, r31_i_i_i_i_i_i19, r14_i8_i_i_i_i_i20, r18_i_i_i_i_i_i25, r23_i_i_i_i_i_i26, r26_i_i_i_i_i_i27, r22_i_i_i_i_i_i28, r24_i_i_i_i_i_i29, r18_i_i_i_i1, r25_6, r1_i12_2, r21_2, r5_sroa_3_0_copyload_i_i_i14, r204774, r23_i_i_i_i_i19, r4_sroa_3_8_copyload_i_i_i_i21, r7_sroa_3_0_copyload_pre_i_i_i6, r20_i_i4, r2047, r28_4, r36_2, r1_i_i_i22, r1_i_i_i_i2, r11_i_i23, r31_i_i_i_i_i_i_i29, r14_i8_i_i_i_i_i_i30, r18_i_i_i_i_i_i_i70, r23_i_i_i_i_i_i_i71, r26_i_i_i_i_i_i_i72, r22_i_i_i_i_i_i_i73, r24_i_i_i_i_i_i_i74, r1_i_i_i_i_i_i50, r18_i_i_i_i_i51, r1_i2_i_i_i_i_i52, r25_i_i_i_i_i53, r1_i_i_i5_i_i_i55, r18_i_i6_i_i_i56, r1_i2_i_i7_i_i_i57, r25_i_i8_i_i_i58, r29_i64, r3_i_i_i_i_i_i_sroa_9_16_insert_ext, r11_i_i9, r31_2, r14_i8_2, r18_i_i_i_i_i_i_i16, r23_i_i_i_i_i_i_i17, r26_i_i_i_i_i_i_i18, r22_2, r24_i_i_i_i_i_i_i19, r1_i_i_i_i_i_i15, r18_4, r1_i2_2, r25_7, r1_i_i_i5_2, r18_i_i6_2, r1_i2_i_i7_2, r25_i_i8_2, r29, r4_i_i_i_i_i_i_sroa_9_16_insert_ext, r19_sroa_4_sroa_0_0, r19_sroa_4_sroa_4_0, r7_sroa_3_0_copyload_pre_3, r5_sroa_3_0_copyload_3, r23_6, r4_sroa_3_8_copyload_3, r15_i26, v26, r31_i_i_i_i_i_i_i30, r14_i8_i_i_i_i_i_i31, r18_i_i_i_i_i_i_i63, r23_i_i_i_i_i_i_i64, r26_i_i_i_i_i_i_i65, r22_i_i_i_i_i_i_i66, r24_i_i_i_i_i_i_i67, r1_i_i_i_i_i_i49, r18_i_i_i_i_i50, r1_i2_i_i_i_i_i51, r25_i_i_i_i_i52, r1_i_i_i5_i_i_i54, r18_i_i6_i_i_i55, r1_i2_i_i7_i_i_i56, r25_i_i8_i_i_i57, pre90, pre91, pre92, pre93, r17, r1_5, r18_5, r1_i2_3, r25, r1_i_i_i_i_i6, r20, v28, r31_3, r14_i8_3, r18_7, r23_7, r26_2, r22_4, r24_3, r18_i_i_i_i1_2, r25_8, r1_i12_3, r21_3, a0_a1_2, spec_select6, r1_i_i_i_i_i25, r18_i_i_i_i26, r1_i2_i_i_i_i27, r25_i_i_i_i28, r1_i_i_i5_i_i30, r18_i_i6_i_i31, r1_i2_i_i7_i_i32, r25_i_i8_i_i33, r1_6, r18_8, r1_i2_4, r25_9, r1_7, r20_4, a1_2, r5_sroa_3_0_copyload_i_i_i_i41, r33_2, r1_i_i_i_i1, r18_9, r1_i2_5, r25_2, v35, r31_4, r14_i8_4, r18_i_i_i_i_i_i_i_i6, r23_i_i_i_i_i_i_i_i7, r26_3, r22_5, r24_4, r18_i_i_i_i1_3, r25_i_i_i_i_i_i_i_i2, r6_sroa_3_0_copyload_pre, r4_sroa_3_0_copyload, r23_i_i_i6, r4_sroa_3_8_copyload_i_i_i_i_i51, r18_i_i_i7, r23_i_i2, r26_4, r31_5, r31_i44, r1_i_i_i_i_i_i16, r1_i50, r1_i51, r28_i24, r31_i25, r21_i13, r24_i14, r3_i_sroa_0_0, r3_i_sroa_8_0, r1_i57, r1_i58, r1_i59, r28_i35, r31_i36, r21_4, r24_6, r4_i_sroa_0_0, r4_i_sroa_7_0, a1_a0, reass_sub, r1_i12_4, r21_5, a0_a1_3, spec_select6_2, a0_a1_i_i9, spec_select6_3, r5_sroa_3_0_copyload_4, r23_i_i_i_i_i15, r1_8, r18_i_i_i_i_i_i4, r1_i2_6, r25_10, v45, r31_6, r14_i8_5, r18_i_i_i_i_i9, r23_9, r26_5, r22_6, r24_i_i_i_i_i10, r18_i_i_i_i1_4, r25_i_i_i_i_i6, r1_i12_5, r21_i_i_i_i_i7, r3921, r4222;
+    bytes r7_sroa_0_0_copyload, r7_sroa_0_0_copyload_i_i_i_i11, r7_sroa_0_0_copyload_2, r7_sroa_0_0_copyload_i_i19, r13_i_i5, r7_sroa_0_0_copyload_3, r4_sroa_0_016, r0_sroa_0_0_in, r6_sroa_0_0_copyload_i_i_i_i45, r5_sroa_0_0, r4_i_i_i20, r3_i21, r4_i_i_i8, r3, r1, r7, r8_i_i_i24, r4_i_i_i25, r4, r8, r11_2, r16, r0_i1, r0, r4_2, r52, r6, r7_2, r7_3, r8_2, r11_3, r28, r8_3, r28_phi_trans_insert, r7_sroa_0_0_copyload_pre, r7_sroa_3_0_r28_sroa_idx_phi_trans_insert, r12, r5_sroa_3_0_r15_sroa_idx, r15, r5_sroa_0_0_copyload, v3, r28_2, r4_3, r1_sroa_3_0_r4_sroa_idx, r1_sroa_4_0_r4_sroa_idx, r1_sroa_5_0_r4_sroa_idx, r1_sroa_6_0_r4_sroa_idx, r28_phi_trans_insert_i_i_i_i5, r7_sroa_0_0_copyload_pre_i_i_i_i6, r12_i_i_i_i26, r15_i_i_i_i31, r5_sroa_0_0_copyload_i_i_i_i32, v4, r28_i_i_i_i_i_i34, r4_i18, r1_sroa_3_0_r4_sroa_idx_i19, r1_sroa_4_0_r4_sroa_idx_i20, r1_sroa_5_0_r4_sroa_idx_i21, r1_sroa_6_0_r4_sroa_idx_i22, r58, r4_4, r1_3, r2_sroa_3_0_r1_i_sroa_idx, r2_sroa_4_0_r1_i_sroa_idx, r2_sroa_4_0_r8_sroa_idx, r2_sroa_5_0_r8_sroa_idx, r26_6, r5_sroa_3_sroa_3_0_r26_i_sroa_idx, r26_i_i_i39, r5_sroa_3_sroa_3_0_r26_i_sroa_idx_i_i41, r5_sroa_3_sroa_4_0_r26_i_sroa_idx_i_i43, r5_sroa_6_4_r3_sroa_idx_i61, r5_sroa_7_4_r3_sroa_idx_i62, r26_i_i_i13, r5_sroa_3_sroa_3_0_r26_i_sroa_idx_2, r5_sroa_3_sroa_4_0_r26_i_sroa_idx, r5_sroa_6_4_r3_sroa_idx, r5_sroa_7_4_r3_sroa_idx, r26_i_i_i40, r5_sroa_3_sroa_3_0_r26_i_sroa_idx_i_i42, r5_sroa_3_sroa_4_0_r26_i_sroa_idx_2, r2_sroa_4_0_r8_sroa_idx_2, r2_sroa_5_0_r8_sroa_idx_2, r5_i_i_i59, r7_sroa_4_i_sroa_5_3_r5_i_sroa_idx, r7_sroa_4_i_sroa_6_3_r5_i_sroa_idx, r5_sroa_3_0_r14_sroa_idx, r14_3, r12_2, r16_i21, r12_i27, r16_i30, r16_2, r5_sroa_3_0_r16_sroa_idx, r5_2, r18_val, r8_4, r28_phi_trans_insert_2, r7_sroa_0_0_copyload_pre_2, r7_sroa_3_0_r28_sroa_idx_phi_trans_insert_2, r12_4, r5_sroa_3_0_r15_sroa_idx_2, r15_2, r5_sroa_0_0_copyload_2, v10, r28_3, r63, r14_val9, r8_i_i_i1, r12_i_i_i12, r5_sroa_3_0_r15_sroa_idx_i_i_i13, r15_i_i_i17, r5_sroa_0_0_copyload_i_i_i18, v18, r28_i_i_i_i_i20, r28_phi_trans_insert_i_i_i3, r7_sroa_0_0_copyload_pre_i_i_i4, r7_sroa_3_0_r28_sroa_idx_phi_trans_insert_i_i_i5, r13_i_pre, r8_i_i_i_i_phi_trans_insert, r28_phi_trans_insert_3, r7_sroa_0_0_copyload_pre_3, r7_sroa_3_0_r28_sroa_idx_phi_trans_insert_3, r12_6, r5_sroa_3_0_r15_sroa_idx_3, r15_3, r5_sroa_0_0_copyload_3, v25, r28_6, r9, r18_6, r13_4, r5_sroa_0_0_copyload_i_i_i_i42, r7_i_i_i8, r22_phi_trans_insert, r6_sroa_3_0_r22_sroa_idx_phi_trans_insert, r11, r8_5, r11_4, r30, v34, r6_sroa_0_0_copyload_pre, r4_sroa_0_0_copyload, v37, r28_i_i_i_i_i_i50, r1_a0, r5_sroa_0_0_copyload_4, r20_2, v43;
+    uint32_t r2_0_2, r2_0_4, r194568, r6_sroa_0_0_copyload_i_i20, r1944, r1943, r1_sroa_0_0, r1_sroa_6_0, r1_sroa_11_0, r2_0_6, r0_sroa_0_0_2, r2_0_8, r2_0_9, r7_sroa_4_08, r38, r47, r29_2, r6_sroa_0_0_copyload, r7_4, r6_sroa_0_0_copyload_i_i_i_i12, r7_i_i_i_i_i15, r7_5, r42, r29_3, r14_i_i_i_i_i_i_i_i_lhs_trunc, r1470, v5, r23_i_lhs_trunc, r22_i7, v6, sadd58, v7, r2_sroa_0_0_copyload, r2_sroa_3_0_copyload, r2_sroa_4_0_copyload, r13, r6_sroa_0_0_copyload_2, r23_3, r45_2, r6_3, r1_sroa_3_4_extract_trunc, r5_sroa_3_sroa_0_0_copyload, r5_sroa_3_sroa_3_0_copyload, a1_val, a1_val1, r14_4, r14_i_i4, r45_i_i_i_i_i23, r7_6, r14_i_i_i_i_i_lhs_trunc, r14_i_i_i_i_i55, v14, r23_i_lhs_trunc_2, r22_i7_2, v15, sadd_i_i_i54, v16, r194573, r6_sroa_0_0_copyload_i_i51, r6_sroa_0_0_copyload_i_i_i7, r19_i9, r1945, r6_sroa_0_0_copyload_i_i20_pre, r27_3, r45_i_i_i_i_i_i34, r6_i_i_i_i_i_i_i_i35, r1_sroa_3_4_extract_trunc_i_i_i36, r5_sroa_3_sroa_0_0_copyload_i_i40, r5_sroa_3_sroa_3_0_copyload_i_i42, r5_sroa_3_sroa_4_0_copyload_i_i44, a1_val_i_i47, a1_val1_i_i48, r14_i_i_i_i_i49, r14_i_i4_i_i_i54, r45_3, r6_4, r1_sroa_3_4_extract_trunc_2, r5_sroa_3_sroa_0_0_copyload_2, r5_sroa_3_sroa_3_0_copyload_2, r5_sroa_3_sroa_4_0_copyload_2, a1_val_2, a1_val1_2, r14_5, r14_i_i4_2, r6_sroa_0_0_copyload_3, r45_i_i_i_i_i_i35, r6_i_i_i_i_i_i_i_i36, r1_sroa_3_4_extract_trunc_i_i_i37, r5_sroa_3_sroa_0_0_copyload_i_i41, r5_sroa_3_sroa_3_0_copyload_i_i43, r5_sroa_3_sroa_4_0_copyload, a1_val_i_i46, a1_val1_i_i47, r14_i_i_i_i_i48, r14_i_i4_i_i_i53, pre, r14_6, r13_2, r45_4, r7_7, r14_i_i_i_i_i_lhs_trunc_2, r14_i_i_i_i_i55_2, v29, r23_i_lhs_trunc_3, r22_i7_3, v30, sadd_i_i_i54_2, v31, r7_sroa_4_i_sroa_3_3_copyload, r7_sroa_4_i_sroa_5_3_copyload, a1_val_i23, a1_val2, r14_i_i_i_i24, r14_i_i4_i_i29, r7_sroa_4_i_sroa_6_3_copyload, r14_7, r15_val, r15_val4, r14_i_i_i_i_i_i9, r45_5, r5_sroa_0_0_copyload_5, r13_i20, r17_2, r8_sroa_0_0_copyload, r13_i28, r17_i31, r0_sroa_0_0, r5_sroa_0_0_copyload_i5, r27, r14_i_i_i_i_i_lhs_trunc_3, r14_i_i_i_i_i55_3, v39, r23_i_lhs_trunc_4, r22_i7_4, v40, sadd_i_i_i54_3, v41, r14_val, r14_val2, r14_8, r45_7, r7_i_i_i_i_i46, r14_i_i_i_i_i_lhs_trunc_4, r14_i_i_i_i_i55_4, v46, r23_i_lhs_trunc_5, r22_i7_5, v47, sadd_i_i_i54_4, v48;
     t_struct_i32_i64_end r24_pn, r24_i_i_sink75, r24_pn_i_i22, r24, r33, r24_i_i72, r33_i_i52, r33_i_i_i8, r24_i_i_i23, r24_i_i36, r33_i_i21;
-    uint8_t v22, r10, r2_sroa_0_sroa_0_0, r4_sroa_0_sroa_0_0, r12_sroa_0_sroa_0_0, r0_sroa_0_sroa_0_0, r3_sroa_0_sroa_0_014, common_ret_op, r1_sroa_0_sroa_0_0, r12_sroa_0_sroa_0_0_2, r27_2, v0, or_cond, r14, r25_4, r31_not, or_cond11_i_not, r10_2, v2, r7_i_i_not, r12_i_not, r6_2, r7_i_i_not_i_i_i_i_i29, r12_i_not_i_i_i_i36, r6_i24, r23_i_i_i_i_i_i40, r30_not, r31_not_2, or_cond11_i_not_2, or_cond_2, r57, v8, r15_not, r7_6, r74_not, r13, v9, exitcond_not, r10_4, v10, r7_i_i_not_2, r12_i_not_2, r33_3, r40, v12, r12_5, r23_6, v13, r16_i3, r58_not, or_cond_i_i_i_i_i15, r12_i_i_i_i_i_i17, r23_i_i_i_i2, r30_not_2, or_cond_3, r10_i_i_i2, v18, r7_i_i_not_i_i_i_i15, r12_i_not_i_i_i22, r12_i_not_i_i34, r32, r39, r11_i32, v20, r12_i_i_i_i_i_i_i35, r23_i_i_i46, v21, r16_i3_i_i67, r30_i73, r11_i13, v23, r12_i_i_i_i_i_i_i14, r23_i_i_i15, v24, r16_i3_2, r30_3, r34, r40_2, r46, spec_select, r17_0_in, r51, r57_2, r10_i_i_i_i_pre, v25, r7_i_i_not_3, r12_i_not_3, or_cond_4, r12_i_i_i_i_i_i_i28, r23_i_i_i39, v28, r16_i3_i_i58, trunc, r22_3, r13_4, or_cond_5, r12_7, r23_i_i_i_i2_2, r30_not_3, or_cond_6, trunc5, r2_i_i_i60, v33, r16_i3_i34, trunc_2, v34, r35, not4_not, r18_i13, r4_5, or_cond_7, or_cond_8, r12_8, r9_2, v37, r7_i_i_not_i_i_i_i_i48, r12_i_not_i_i_i_i52, r9_3, v39, r12_9, r16_i7, r16_3, r38_3, r45_6, r53, or_cond_9, r67, r74_not_i_i_i_i9, or_cond18, r18_i3, r23_i_i_i_i2_3, r30_not_4, or_cond_10, trunc_3, trunc5_2, r18_i_i_i_i_i10, trunc5_3, v43, r7_i_i_not_not_not_i_not_not_not_i_not, r10_5, r23_9, v45, or_cond_i_i_i_i3, or_cond_11, r12_i_i_i_i_i4, r23_i_i_i_i2_4, r30_not_5, or_cond_12;
-    t_struct_i8_i64_end r44_fca_1_insert_i_i124, r44_fca_1_insert_i_i123, r12_2, r44_fca_1_insert_i_i121, r44_fca_0_insert, r44_fca_1_insert;
+    uint8_t v21, r10, r2_sroa_0_sroa_0_0, r4_sroa_0_sroa_0_0, r12_sroa_0_sroa_0_0, r0_sroa_0_sroa_0_0, r3_sroa_0_sroa_0_014, common_ret_op, r1_sroa_0_sroa_0_0, r12_sroa_0_sroa_0_0_2, r27_2, v0, or_cond, r14, r25_3, r31_not, or_cond11_i_not, r10_2, v2, r7_i_i_not, r12_i_not, r6_2, r7_i_i_not_i_i_i_i_i29, r12_i_not_i_i_i_i36, r6_i24, r23_i_i_i_i_i_i40, r30_not, r31_not_2, or_cond11_i_not_2, or_cond_2, r57, v8, r15_not, r10_4, v9, r7_i_i_not_2, r12_i_not_2, r33_3, r40, v11, r12_5, r23_5, v12, r16_i3, r58_not, or_cond_i_i_i_i_i15, r12_i_i_i_i_i_i17, r23_i_i_i_i2, r30_not_2, or_cond_3, r10_i_i_i2, v17, r7_i_i_not_i_i_i_i15, r12_i_not_i_i_i22, r12_i_not_i_i34, r32, r39, r11_i24, v19, r12_i_i_i_i_i_i_i27, r23_i_i_i38, v20, r16_i3_i_i59, r30_i65, r11_i10, v22, r12_i_i_i_i_i_i_i11, r23_i_i_i12, v23, r16_i3_2, r30_3, r34, r40_2, r46, spec_select, r17_0_in, r51, r57_2, r10_i_i_i_i_pre, v24, r7_i_i_not_3, r12_i_not_3, or_cond_4, r12_i_i_i_i_i_i_i28, r23_i_i_i39, v27, r16_i3_i_i58, trunc, r22_3, r13_3, or_cond_5, r12_7, r23_i_i_i_i2_2, r30_not_3, or_cond_6, trunc5, r2_i_i_i60, v32, r16_i3_i34, trunc_2, v33, r35, not3_not, r18_i13, r4_5, or_cond_7, or_cond_8, r12_8, r9_2, v36, r7_i_i_not_i_i_i_i_i48, r12_i_not_i_i_i_i52, r9_3, v38, r12_9, r16_i7, r16_3, r38_3, r45_6, r53, or_cond_9, r67, r74_not, or_cond18, r18_i3, r23_i_i_i_i2_3, r30_not_4, or_cond_10, trunc_3, trunc5_2, r18_i_i_i_i_i10, trunc5_3, v42, r7_i_i_not_not_not_i_not_not_not_i_not, r10_5, r23_8, v44, or_cond_i_i_i_i3, or_cond_11, r12_i_i_i_i_i4, r23_i_i_i_i2_4, r30_not_5, or_cond_12;
+    t_struct_i8_i64_end r44_fca_1_insert_i_i116, r44_fca_1_insert_i_i115, r44_fca_1_insert_i_i113, r44_fca_0_insert, r44_fca_1_insert;
     t_struct_i64_i32_end r46_pn, r15_fca_0_insert9, r15_fca_1_insert10;
-    t_struct_i64_i8_end r28_i71, r28_5;
-    uint64_t room_r4_i_i_i28[2];
-    uint64_t room_r3_i29[2];
-    uint64_t room_r4_i_i_i11[2];
+    t_struct_i64_i8_end r28_i63, r28_5;
+    uint64_t room_r4_i_i_i20[2];
+    uint64_t room_r3_i21[2];
+    uint64_t room_r4_i_i_i8[2];
     uint64_t room_r3[2];
     uint64_t room_r1[7];
     uint64_t room_r7[2];
@@ -63425,9 +64691,9 @@ static t_struct_i64_i32_end in_calendar_text_prev(bytes a0, uint64_t a1, bytes a
     uint64_t room_r7_3[1024];
     uint64_t room_r8_2[11];
     uint64_t room_r11_3[12];
-    r4_i_i_i28 = (bytes)room_r4_i_i_i28;
-    r3_i29 = (bytes)room_r3_i29;
-    r4_i_i_i11 = (bytes)room_r4_i_i_i11;
+    r4_i_i_i20 = (bytes)room_r4_i_i_i20;
+    r3_i21 = (bytes)room_r3_i21;
+    r4_i_i_i8 = (bytes)room_r4_i_i_i8;
     r3 = (bytes)room_r3;
     r1 = (bytes)room_r1;
     r7 = (bytes)room_r7;
@@ -63470,10 +64736,10 @@ static t_struct_i64_i32_end in_calendar_text_prev(bytes a0, uint64_t a1, bytes a
     goto at__after_1_2;
     at__after_1_2:;
     r47 = (uint32_t)(r45);
-    r25_4 = a5 > 999999999u;
+    r25_3 = a5 > 999999999u;
     r29_2 = (uint32_t)(r47 % 60u);
     r31_not = r29_2 != 59u;
-    or_cond11_i_not = (uint8_t)(((uint32_t)r25_4 & (uint32_t)r31_not) & 1);
+    or_cond11_i_not = (uint8_t)(((uint32_t)r25_3 & (uint32_t)r31_not) & 1);
     if (or_cond11_i_not) { { r46_pn = (t_struct_i64_i32_end){UINT64_C(0), 4294967295u}; goto at__return_5; } }
     goto at__arm_6;
     at__arm_6:;
@@ -63506,8 +64772,8 @@ static t_struct_i64_i32_end in_calendar_text_prev(bytes a0, uint64_t a1, bytes a
     at__zone_zone_is_behind_exit_i_i_i_i_i:;
     r15 = (r8_2 + 8);
     LOAD(bytes, r5_sroa_0_0_copyload, r15);
-    r23_2 = (uint64_t)(r5_sroa_3_0_copyload << (UINT64_C(4) & 63u));
-    v3 = (r5_sroa_0_0_copyload + (int64_t)r23_2);
+    r23 = (uint64_t)(r5_sroa_3_0_copyload << (UINT64_C(4) & 63u));
+    v3 = (r5_sroa_0_0_copyload + (int64_t)r23);
     r28_2 = (v3 - 16);
     LOAD(uint64_t, r4_sroa_3_8_copyload, r28_2);
     r12_i_not = (int64_t)r4_sroa_3_8_copyload > (int64_t)UINT64_C(0);
@@ -63611,8 +64877,8 @@ static t_struct_i64_i32_end in_calendar_text_prev(bytes a0, uint64_t a1, bytes a
     sext = (uint64_t)(r14_2 + UINT64_C(18032428799370461184));
     r1_2 = (uint64_t)((int64_t)sext >> (UINT64_C(32) & 63u));
     r18 = (uint64_t)(r1_2 * UINT64_C(86400));
-    r25_5 = (uint64_t)(r18 + r45);
-    r7_5 = zone_zone_Zone_offset_of_instant(r28, r25_5);
+    r25_4 = (uint64_t)(r18 + r45);
+    r7_5 = zone_zone_Zone_offset_of_instant(r28, r25_4);
     r1_i12 = (uint64_t)((uint64_t)(int32_t)r7_5);
     r21 = (uint64_t)(r45 + r1_i12);
     r23_i_i_i_i_i_i40 = (int64_t)r21 < (int64_t)UINT64_C(0);
@@ -63626,7 +64892,7 @@ static t_struct_i64_i32_end in_calendar_text_prev(bytes a0, uint64_t a1, bytes a
     r42 = (uint32_t)(r21);
     r29_3 = (uint32_t)(r42 % 60u);
     r31_not_2 = r29_3 != 59u;
-    or_cond11_i_not_2 = (uint8_t)(((uint32_t)r25_4 & (uint32_t)r31_not_2) & 1);
+    or_cond11_i_not_2 = (uint8_t)(((uint32_t)r25_3 & (uint32_t)r31_not_2) & 1);
     if (or_cond11_i_not_2) { goto at__then_1_i8; }
     goto at__arm_1_3;
     at__then_1_i8:;
@@ -63662,10 +64928,7 @@ static t_struct_i64_i32_end in_calendar_text_prev(bytes a0, uint64_t a1, bytes a
     memcpy(r11_2, r58, UINT64_C(480));
     r15_not = a5 != 0;
     r20_3 = (uint64_t)r15_not;
-    r9_0 = (uint64_t)(r25_5 + r20_3);
-    r6_3 = (r11_2 + 432);
-    r14_i_i_i_i_i8 = (r11_2 + 436);
-    r4_sroa_3_0_r14_sroa_idx = (r11_2 + 440);
+    r9_0 = (uint64_t)(r25_4 + r20_3);
     r4_4 = (r11_2 + 424);
     r1_3 = (r11_2 + 400);
     r2_sroa_3_0_r1_i_sroa_idx = (r11_2 + 404);
@@ -63674,14 +64937,14 @@ static t_struct_i64_i32_end in_calendar_text_prev(bytes a0, uint64_t a1, bytes a
     r2_sroa_5_0_r8_sroa_idx = (r8 + 8);
     r26_6 = (r4 + 4);
     r5_sroa_3_sroa_3_0_r26_i_sroa_idx = (r4 + 8);
-    r26_i_i_i47 = (r4_i_i_i28 + 4);
-    r5_sroa_3_sroa_3_0_r26_i_sroa_idx_i_i49 = (r4_i_i_i28 + 8);
-    r5_sroa_3_sroa_4_0_r26_i_sroa_idx_i_i51 = (r4_i_i_i28 + 12);
-    r5_sroa_6_4_r3_sroa_idx_i69 = (r3_i29 + 4);
-    r5_sroa_7_4_r3_sroa_idx_i70 = (r3_i29 + 8);
-    r26_i_i_i16 = (r4_i_i_i11 + 4);
-    r5_sroa_3_sroa_3_0_r26_i_sroa_idx_2 = (r4_i_i_i11 + 8);
-    r5_sroa_3_sroa_4_0_r26_i_sroa_idx = (r4_i_i_i11 + 12);
+    r26_i_i_i39 = (r4_i_i_i20 + 4);
+    r5_sroa_3_sroa_3_0_r26_i_sroa_idx_i_i41 = (r4_i_i_i20 + 8);
+    r5_sroa_3_sroa_4_0_r26_i_sroa_idx_i_i43 = (r4_i_i_i20 + 12);
+    r5_sroa_6_4_r3_sroa_idx_i61 = (r3_i21 + 4);
+    r5_sroa_7_4_r3_sroa_idx_i62 = (r3_i21 + 8);
+    r26_i_i_i13 = (r4_i_i_i8 + 4);
+    r5_sroa_3_sroa_3_0_r26_i_sroa_idx_2 = (r4_i_i_i8 + 8);
+    r5_sroa_3_sroa_4_0_r26_i_sroa_idx = (r4_i_i_i8 + 12);
     r5_sroa_6_4_r3_sroa_idx = (r3 + 4);
     r5_sroa_7_4_r3_sroa_idx = (r3 + 8);
     r26_i_i_i40 = (r4_i_i_i25 + 4);
@@ -63694,7 +64957,7 @@ static t_struct_i64_i32_end in_calendar_text_prev(bytes a0, uint64_t a1, bytes a
     r7_sroa_4_i_sroa_6_3_r5_i_sroa_idx = (r7 + 12);
     r5_sroa_3_0_r14_sroa_idx = (r11_2 + 456);
     r14_3 = (r11_2 + 448);
-    r12_i_i_i_i8 = (r1 + 20);
+    r12_2 = (r1 + 20);
     r16_i21 = (r1 + 24);
     r12_i27 = (r1 + 44);
     r16_i30 = (r1 + 48);
@@ -63705,47 +64968,9 @@ static t_struct_i64_i32_end in_calendar_text_prev(bytes a0, uint64_t a1, bytes a
     goto at__loop_2;
     }
     at__loop_2:;
-    LOAD(uint8_t, r7_6, r6_3);
-    switch (r7_6) {
-    case 0: { r3_0 = UINT64_C(8210266876799); goto at__zoned_rules_zoned_rule_ZonedRule_last_second_16a892625931f552_exit_i_i_i_i_i_i; }
-    case 1: goto at__arm_2;
-    case 2: goto at__arm_3;
-    default: goto at__noarm_4;
-    }
-    at__arm_2:;
-    LOAD(uint32_t, r10_3, r14_i_i_i_i_i8);
-    r74_not = r10_3 == 0;
-    if (r74_not) { { r3_0 = UINT64_C(18446735739108322815); goto at__zoned_rules_zoned_rule_ZonedRule_last_second_16a892625931f552_exit_i_i_i_i_i_i; } }
-    { r1_06 = UINT64_C(18446735739108322815); r2_05 = 0; goto at__join_5; }
-    at__join_5:;
-    r12_2 = zoned_rules_zoned_rule_ZonedRule_first_after_16a892625931f552(r11_2, r1_06);
-    r13 = r12_2.f0;
-    v9 = r13 == 1;
-    if (v9) { goto at__arm_6_2; }
-    { r3_0 = UINT64_C(8210266876799); goto at__zoned_rules_zoned_rule_ZonedRule_last_second_16a892625931f552_exit_i_i_i_i_i_i; }
-    at__arm_6_2:;
-    r14_i_i_i_i_i_i17 = r12_2.f1;
-    r23 = (uint32_t)(r2_05 + 1);
-    exitcond_not = r23 == r10_3;
-    if (exitcond_not) { { r3_0 = r14_i_i_i_i_i_i17; goto at__zoned_rules_zoned_rule_ZonedRule_last_second_16a892625931f552_exit_i_i_i_i_i_i; } }
-    { r1_06 = r14_i_i_i_i_i_i17; r2_05 = r23; goto at__join_5; }
-    at__arm_3:;
-    LOAD(uint32_t, r4_sroa_0_0_copyload_2, r14_i_i_i_i_i8);
-    LOAD(uint32_t, r4_sroa_3_0_copyload_2, r4_sroa_3_0_r14_sroa_idx);
-    r14_4 = (uint32_t)(r4_sroa_0_0_copyload_2 + 4294248133u);
-    r1_4 = (uint64_t)((uint64_t)(int32_t)r14_4);
-    r18_2 = (uint64_t)(r1_4 * UINT64_C(86400));
-    r1_i2 = (uint64_t)r4_sroa_3_0_copyload_2;
-    r25 = (uint64_t)(r18_2 + r1_i2);
-    {
-    r3_0 = r25;
-    goto at__zoned_rules_zoned_rule_ZonedRule_last_second_16a892625931f552_exit_i_i_i_i_i_i;
-    }
-    at__noarm_4:;
-    UNREACHABLE();
-    at__zoned_rules_zoned_rule_ZonedRule_last_second_16a892625931f552_exit_i_i_i_i_i_i:;
-    r12_3 = (uint64_t)(r3_0 + UINT64_C(1));
-    a0_a1 = (int64_t)r1_0 < (int64_t)r12_3 ? r1_0 : r12_3;
+    r10_3 = zoned_rules_zoned_rule_ZonedRule_last_second_16a892625931f552(r11_2);
+    r12_3 = (uint64_t)(r10_3 + UINT64_C(1));
+    a0_a1 = (uint64_t)LESSER64((int64_t)r1_0, (int64_t)r12_3);
     LOAD(bytes, r5_2, r4_4);
     LOAD(uint32_t, r2_sroa_0_0_copyload, r1_3);
     LOAD(uint32_t, r2_sroa_3_0_copyload, r2_sroa_3_0_r1_i_sroa_idx);
@@ -63753,13 +64978,13 @@ static t_struct_i64_i32_end in_calendar_text_prev(bytes a0, uint64_t a1, bytes a
     STORE(uint32_t, r8, r2_sroa_0_0_copyload);
     STORE(uint32_t, r2_sroa_4_0_r8_sroa_idx, r2_sroa_3_0_copyload);
     STORE(uint32_t, r2_sroa_5_0_r8_sroa_idx, r2_sroa_4_0_copyload);
-    r13_2 = zoned_rules_local_instant_offset_of_16a892625931f552(r5_2, r8);
+    r13 = zoned_rules_local_instant_offset_of_16a892625931f552(r5_2, r8);
     r19 = (uint64_t)(a0_a1 + UINT64_C(18446744073709206016));
     LOAD(bytes, r18_val, r4_4);
     r8_4 = (r18_val + 24);
     LOAD(uint8_t, r10_4, r8_4);
-    v10 = r10_4 == 1;
-    if (v10) { goto at__arm_1_4; }
+    v9 = r10_4 == 1;
+    if (v9) { goto at__arm_1_4; }
     goto at__start_join_4_crit_edge_2;
     at__start_join_4_crit_edge_2:;
     r28_phi_trans_insert_2 = (r18_val + 8);
@@ -63781,9 +65006,9 @@ static t_struct_i64_i32_end in_calendar_text_prev(bytes a0, uint64_t a1, bytes a
     at__zone_zone_is_behind_exit_i_i_i_i_i_i_i_i_i_i_i:;
     r15_2 = (r18_val + 8);
     LOAD(bytes, r5_sroa_0_0_copyload_2, r15_2);
-    r23_3 = (uint64_t)(r5_sroa_3_0_copyload_2 << (UINT64_C(4) & 63u));
-    v11 = (r5_sroa_0_0_copyload_2 + (int64_t)r23_3);
-    r28_3 = (v11 - 16);
+    r23_2 = (uint64_t)(r5_sroa_3_0_copyload_2 << (UINT64_C(4) & 63u));
+    v10 = (r5_sroa_0_0_copyload_2 + (int64_t)r23_2);
+    r28_3 = (v10 - 16);
     LOAD(uint64_t, r4_sroa_3_8_copyload_2, r28_3);
     r12_i_not_2 = (int64_t)r4_sroa_3_8_copyload_2 > (int64_t)r19;
     if (r12_i_not_2) { { r7_sroa_3_0_copyload_2 = r5_sroa_3_0_copyload_2; r7_sroa_0_0_copyload_2 = r5_sroa_0_0_copyload_2; goto at__join_4_2; } }
@@ -63802,9 +65027,9 @@ static t_struct_i64_i32_end in_calendar_text_prev(bytes a0, uint64_t a1, bytes a
     goto at__zone_time_zone_RefZoneTimeZone_stretch_from_exit_i_i_i_i_i_i_i_i_i;
     }
     at__zone_time_zone_RefZoneTimeZone_stretch_from_exit_i_i_i_i_i_i_i_i_i:;
-    r23_4 = r24_pn.f0;
+    r23_3 = r24_pn.f0;
     r24_5 = r24_pn.f1;
-    r1_i_i_i3 = (uint64_t)((uint64_t)(int32_t)r23_4);
+    r1_i_i_i3 = (uint64_t)((uint64_t)(int32_t)r23_3);
     r33_3 = (int64_t)r24_5 < (int64_t)a0_a1;
     if (r33_3) { goto at__join_4_3; }
     goto at__join_3;
@@ -63815,8 +65040,8 @@ static t_struct_i64_i32_end in_calendar_text_prev(bytes a0, uint64_t a1, bytes a
     goto at__join_7;
     at__join_7:;
     memset(r4, 0, UINT64_C(16));
-    v12 = (int64_t)r38_2 > (int64_t)UINT64_C(8210266876799);
-    if (v12) { goto at__arm_2_2; }
+    v11 = (int64_t)r38_2 > (int64_t)UINT64_C(8210266876799);
+    if (v11) { goto at__arm_2; }
     goto at__after_1_3;
     at__after_1_3:;
     r12_5 = (int64_t)r38_2 < (int64_t)UINT64_C(0);
@@ -63831,10 +65056,10 @@ static t_struct_i64_i32_end in_calendar_text_prev(bytes a0, uint64_t a1, bytes a
     goto at__arm_1_i_i14;
     }
     at__else_2_i6:;
-    r18_3 = (uint64_t)(r38_2 ^ UINT64_C(18446744073709551615));
-    r23_5 = (uint64_t)(r18_3 % UINT64_C(86400));
-    r26 = (uint64_t)(UINT64_C(86399) - r23_5);
-    r22 = (uint64_t)(r18_3 / UINT64_C(86400));
+    r18_2 = (uint64_t)(r38_2 ^ UINT64_C(18446744073709551615));
+    r23_4 = (uint64_t)(r18_2 % UINT64_C(86400));
+    r26 = (uint64_t)(UINT64_C(86399) - r23_4);
+    r22 = (uint64_t)(r18_2 / UINT64_C(86400));
     r24_2 = (uint64_t)(r22 ^ UINT64_C(18446744073709551615));
     {
     r3_0_i_i_i_i6 = r26;
@@ -63843,47 +65068,47 @@ static t_struct_i64_i32_end in_calendar_text_prev(bytes a0, uint64_t a1, bytes a
     }
     at__arm_1_i_i14:;
     r45_2 = (uint32_t)(r2_0_3);
-    r6_4 = (uint32_t)(r45_2 + 719163u);
+    r6_3 = (uint32_t)(r45_2 + 719163u);
     r1_sroa_3_4_extract_trunc = (uint32_t)(r3_0_i_i_i_i6);
-    zoned_rules_local_rule_LocalRule_last_before(r4, r11_2, r6_4, r1_sroa_3_4_extract_trunc);
+    zoned_rules_local_rule_LocalRule_last_before(r4, r11_2, r6_3, r1_sroa_3_4_extract_trunc);
     goto at__zoned_rules_local_rule_LocalRule_last_listed_exit_i_i_i_i_i_i_i_i_i_i;
-    at__arm_2_2:;
+    at__arm_2:;
     zoned_rules_local_rule_LocalRule_last_before(r4, r11_2, 95745399u, 86400u);
     goto at__zoned_rules_local_rule_LocalRule_last_listed_exit_i_i_i_i_i_i_i_i_i_i;
     at__zoned_rules_local_rule_LocalRule_last_listed_exit_i_i_i_i_i_i_i_i_i_i:;
-    LOAD(uint8_t, r23_6, r4);
+    LOAD(uint8_t, r23_5, r4);
     LOAD(uint32_t, r5_sroa_3_sroa_0_0_copyload, r26_6);
     LOAD(uint32_t, r5_sroa_3_sroa_3_0_copyload, r5_sroa_3_sroa_3_0_r26_i_sroa_idx);
-    v13 = r23_6 == 1;
-    if (v13) { goto at__arm_1_5; }
+    v12 = r23_5 == 1;
+    if (v12) { goto at__arm_1_5; }
     goto at__join_4_3;
     at__arm_1_5:;
     LOAD(uint32_t, a1_val, r1_3);
     LOAD(uint32_t, a1_val1, r2_sroa_3_0_r1_i_sroa_idx);
-    r14_5 = (uint32_t)(r5_sroa_3_sroa_0_0_copyload + 4294248133u);
-    r1_5 = (uint64_t)((uint64_t)(int32_t)r14_5);
-    r18_4 = (uint64_t)(r1_5 * UINT64_C(86400));
-    r1_i2_2 = (uint64_t)r5_sroa_3_sroa_3_0_copyload;
-    r25_6 = (uint64_t)(r18_4 + r1_i2_2);
+    r14_4 = (uint32_t)(r5_sroa_3_sroa_0_0_copyload + 4294248133u);
+    r1_4 = (uint64_t)((uint64_t)(int32_t)r14_4);
+    r18_3 = (uint64_t)(r1_4 * UINT64_C(86400));
+    r1_i2 = (uint64_t)r5_sroa_3_sroa_3_0_copyload;
+    r25_5 = (uint64_t)(r18_3 + r1_i2);
     r14_i_i4 = (uint32_t)(a1_val + 4294248133u);
     r1_i_i_i5 = (uint64_t)((uint64_t)(int32_t)r14_i_i4);
     r18_i_i6 = (uint64_t)(r1_i_i_i5 * UINT64_C(86400));
     r1_i2_i_i7 = (uint64_t)a1_val1;
     r25_i_i8 = (uint64_t)(r18_i_i6 + r1_i2_i_i7);
-    r16_i3 = (int64_t)r25_6 < (int64_t)r25_i_i8;
+    r16_i3 = (int64_t)r25_5 < (int64_t)r25_i_i8;
     if (r16_i3) { goto at__join_4_3; }
     goto at__arm_8;
     at__arm_8:;
-    r25_i_i_i_i7 = (uint64_t)(r1_i2_2 - r1_i_i_i3);
-    r54 = (uint64_t)(r25_i_i_i_i7 + r18_4);
+    r25_i_i_i_i7 = (uint64_t)(r1_i2 - r1_i_i_i3);
+    r54 = (uint64_t)(r25_i_i_i_i7 + r18_3);
     r55 = (uint64_t)(a0_a1 + UINT64_C(18446744073709378816));
     r58_not = (int64_t)r55 > (int64_t)r54;
     if (r58_not) { goto at__join_4_3; }
     goto at__then_13;
     at__then_13:;
     LOAD(bytes, r63, r4_4);
-    v14 = (uint64_t)(r54 + UINT64_C(18446735863442674816));
-    or_cond_i_i_i_i_i15 = v14 < UINT64_C(18446727528841446016);
+    v13 = (uint64_t)(r54 + UINT64_C(18446735863442674816));
+    or_cond_i_i_i_i_i15 = v13 < UINT64_C(18446727528841446016);
     if (or_cond_i_i_i_i_i15) { goto at__join_4_3; }
     goto at__after_1_i_i_i_i_i16;
     at__after_1_i_i_i_i_i16:;
@@ -63912,9 +65137,9 @@ static t_struct_i64_i32_end in_calendar_text_prev(bytes a0, uint64_t a1, bytes a
     at__arm_1_i_i21:;
     r45_i_i_i_i_i23 = (uint32_t)(r2_0_i_i_i_i_i_i22);
     r18_i_i_i_i1 = (uint64_t)(r2_0_i_i_i_i_i_i22 * UINT64_C(86400));
-    r25_7 = (uint64_t)(r18_i_i_i_i1 + r3_0_i_i_i_i35);
-    r7_7 = zone_zone_Zone_offset_of_instant(r63, r25_7);
-    r1_i12_2 = (uint64_t)((uint64_t)(int32_t)r7_7);
+    r25_6 = (uint64_t)(r18_i_i_i_i1 + r3_0_i_i_i_i35);
+    r7_6 = zone_zone_Zone_offset_of_instant(r63, r25_6);
+    r1_i12_2 = (uint64_t)((uint64_t)(int32_t)r7_6);
     r21_2 = (uint64_t)(r3_0_i_i_i_i35 + r1_i12_2);
     r23_i_i_i_i2 = (int64_t)r21_2 < (int64_t)UINT64_C(0);
     if (r23_i_i_i_i2) { goto at__else_2_i7_2; }
@@ -63931,26 +65156,26 @@ static t_struct_i64_i32_end in_calendar_text_prev(bytes a0, uint64_t a1, bytes a
     goto at__zoned_rules_search_instants_has_dates_16a892625931f552_exit_i_i_i_i_i_i_i_i_i;
     }
     at__else_2_i7_2:;
-    v15 = (uint32_t)(r21_2);
-    r23_i_lhs_trunc_2 = (uint32_t)(v15 ^ 4294967295u);
+    v14 = (uint32_t)(r21_2);
+    r23_i_lhs_trunc_2 = (uint32_t)(v14 ^ 4294967295u);
     r22_i7_2 = (uint32_t)(r23_i_lhs_trunc_2 / 86400u);
-    v16 = (uint32_t)(r22_i7_2 ^ 4294967295u);
+    v15 = (uint32_t)(r22_i7_2 ^ 4294967295u);
     {
-    r2_0_4 = v16;
+    r2_0_4 = v15;
     goto at__zoned_rules_search_instants_has_dates_16a892625931f552_exit_i_i_i_i_i_i_i_i_i;
     }
     at__zoned_rules_search_instants_has_dates_16a892625931f552_exit_i_i_i_i_i_i_i_i_i:;
     sadd_i_i_i54 = (uint32_t)(r45_i_i_i_i_i23 + 4199941059u);
-    v17 = (uint32_t)(sadd_i_i_i54 + r2_0_4);
-    or_cond_3 = v17 > 4103475766u;
+    v16 = (uint32_t)(sadd_i_i_i54 + r2_0_4);
+    or_cond_3 = v16 > 4103475766u;
     if (or_cond_3) { { r0_sroa_5_0_i_pn = r54; r0_sroa_0_sroa_0_0 = 1; goto at__zoned_rules_zoned_rule_ZonedRule_previous_second_16a892625931f552_exit_i_i_i_i_i; } }
     goto at__join_4_3;
     at__join_4_3:;
     LOAD(bytes, r14_val9, r4_4);
     r8_i_i_i1 = (r14_val9 + 24);
     LOAD(uint8_t, r10_i_i_i2, r8_i_i_i1);
-    v18 = r10_i_i_i2 == 1;
-    if (v18) { goto at__arm_1_i_i_i11; }
+    v17 = r10_i_i_i2 == 1;
+    if (v17) { goto at__arm_1_i_i_i11; }
     goto at__start_join_4_crit_edge_i_i12;
     at__arm_1_i_i_i11:;
     r12_i_i_i12 = (r14_val9 + 28);
@@ -63972,8 +65197,8 @@ static t_struct_i64_i32_end in_calendar_text_prev(bytes a0, uint64_t a1, bytes a
     r15_i_i_i17 = (r14_val9 + 8);
     LOAD(bytes, r5_sroa_0_0_copyload_i_i_i18, r15_i_i_i17);
     r23_i_i_i_i_i19 = (uint64_t)(r5_sroa_3_0_copyload_i_i_i14 << (UINT64_C(4) & 63u));
-    v19 = (r5_sroa_0_0_copyload_i_i_i18 + (int64_t)r23_i_i_i_i_i19);
-    r28_i_i_i_i_i20 = (v19 - 16);
+    v18 = (r5_sroa_0_0_copyload_i_i_i18 + (int64_t)r23_i_i_i_i_i19);
+    r28_i_i_i_i_i20 = (v18 - 16);
     LOAD(uint64_t, r4_sroa_3_8_copyload_i_i_i_i21, r28_i_i_i_i_i20);
     r12_i_not_i_i_i22 = (int64_t)r4_sroa_3_8_copyload_i_i_i_i21 > (int64_t)r19;
     if (r12_i_not_i_i_i22) { goto at__arm_1_i_i23_thread; }
@@ -64046,164 +65271,164 @@ static t_struct_i64_i32_end in_calendar_text_prev(bytes a0, uint64_t a1, bytes a
     goto at__loop_6_preheader;
     at__loop_6_preheader:;
     r36_2 = (uint64_t)(a0_a1 + UINT64_C(18446744073709378816));
-    r1_i_i_i30 = (uint64_t)((uint64_t)(int32_t)r1943);
+    r1_i_i_i22 = (uint64_t)((uint64_t)(int32_t)r1943);
     r1_i_i_i_i2 = (uint64_t)((uint64_t)(int32_t)r27_3);
     {
-    r3_0_2 = a0_a1;
+    r3_0 = a0_a1;
     goto at__loop_6;
     }
     at__loop_6:;
-    r39 = (int64_t)r36_2 < (int64_t)r3_0_2;
+    r39 = (int64_t)r36_2 < (int64_t)r3_0;
     if (r39) { goto at__join_9; }
     goto at__join_8_loopexit;
     at__join_9:;
-    r11_i_i31 = (uint64_t)(r3_0_2 + r1_i_i_i30);
-    r11_i32 = (int64_t)r11_i_i31 < (int64_t)UINT64_C(18446735739108322816);
-    if (r11_i32) { { v22 = 0; r3_i_i_i_i_i_i_sroa_7_5 = UINT64_C(0); r3_i_i_i_i_i_i_sroa_9_5 = UINT64_C(0); goto at__zoned_rules_zoned_rule_ZonedRule_candidate_before_16a892625931f552_exit85_i_i_i_i; } }
-    goto at__join_3_i33;
-    at__join_3_i33:;
-    memset(r4_i_i_i28, 0, UINT64_C(16));
-    v20 = (int64_t)r11_i_i31 > (int64_t)UINT64_C(8210266876799);
-    if (v20) { goto at__arm_2_i_i_i83; }
-    goto at__after_1_i_i_i_i_i_i34;
-    at__after_1_i_i_i_i_i_i34:;
-    r12_i_i_i_i_i_i_i35 = (int64_t)r11_i_i31 < (int64_t)UINT64_C(0);
-    if (r12_i_i_i_i_i_i_i35) { goto at__else_2_i6_i_i_i_i_i_i77; }
-    goto at__then_1_i7_i_i_i_i_i_i36;
-    at__then_1_i7_i_i_i_i_i_i36:;
-    r31_i_i_i_i_i_i_i37 = (uint64_t)(r11_i_i31 % UINT64_C(86400));
-    r14_i8_i_i_i_i_i_i38 = (uint64_t)(r11_i_i31 / UINT64_C(86400));
+    r11_i_i23 = (uint64_t)(r3_0 + r1_i_i_i22);
+    r11_i24 = (int64_t)r11_i_i23 < (int64_t)UINT64_C(18446735739108322816);
+    if (r11_i24) { { v21 = 0; r3_i_i_i_i_i_i_sroa_7_5 = UINT64_C(0); r3_i_i_i_i_i_i_sroa_9_5 = UINT64_C(0); goto at__zoned_rules_zoned_rule_ZonedRule_candidate_before_16a892625931f552_exit77_i_i_i_i; } }
+    goto at__join_3_i25;
+    at__join_3_i25:;
+    memset(r4_i_i_i20, 0, UINT64_C(16));
+    v19 = (int64_t)r11_i_i23 > (int64_t)UINT64_C(8210266876799);
+    if (v19) { goto at__arm_2_i_i_i75; }
+    goto at__after_1_i_i_i_i_i_i26;
+    at__after_1_i_i_i_i_i_i26:;
+    r12_i_i_i_i_i_i_i27 = (int64_t)r11_i_i23 < (int64_t)UINT64_C(0);
+    if (r12_i_i_i_i_i_i_i27) { goto at__else_2_i6_i_i_i_i_i_i69; }
+    goto at__then_1_i7_i_i_i_i_i_i28;
+    at__then_1_i7_i_i_i_i_i_i28:;
+    r31_i_i_i_i_i_i_i29 = (uint64_t)(r11_i_i23 % UINT64_C(86400));
+    r14_i8_i_i_i_i_i_i30 = (uint64_t)(r11_i_i23 / UINT64_C(86400));
     {
-    r3_0_i_i_i_i6_i_i_i40 = r31_i_i_i_i_i_i_i37;
-    r2_0_i_i_i_i_i_i_i41 = r14_i8_i_i_i_i_i_i38;
-    goto at__arm_1_i_i_i39;
+    r3_0_i_i_i_i6_i_i_i32 = r31_i_i_i_i_i_i_i29;
+    r2_0_i_i_i_i_i_i_i33 = r14_i8_i_i_i_i_i_i30;
+    goto at__arm_1_i_i_i31;
     }
-    at__else_2_i6_i_i_i_i_i_i77:;
-    r18_i_i_i_i_i_i_i78 = (uint64_t)(r11_i_i31 ^ UINT64_C(18446744073709551615));
-    r23_i_i_i_i_i_i_i79 = (uint64_t)(r18_i_i_i_i_i_i_i78 % UINT64_C(86400));
-    r26_i_i_i_i_i_i_i80 = (uint64_t)(UINT64_C(86399) - r23_i_i_i_i_i_i_i79);
-    r22_i_i_i_i_i_i_i81 = (uint64_t)(r18_i_i_i_i_i_i_i78 / UINT64_C(86400));
-    r24_i_i_i_i_i_i_i82 = (uint64_t)(r22_i_i_i_i_i_i_i81 ^ UINT64_C(18446744073709551615));
+    at__else_2_i6_i_i_i_i_i_i69:;
+    r18_i_i_i_i_i_i_i70 = (uint64_t)(r11_i_i23 ^ UINT64_C(18446744073709551615));
+    r23_i_i_i_i_i_i_i71 = (uint64_t)(r18_i_i_i_i_i_i_i70 % UINT64_C(86400));
+    r26_i_i_i_i_i_i_i72 = (uint64_t)(UINT64_C(86399) - r23_i_i_i_i_i_i_i71);
+    r22_i_i_i_i_i_i_i73 = (uint64_t)(r18_i_i_i_i_i_i_i70 / UINT64_C(86400));
+    r24_i_i_i_i_i_i_i74 = (uint64_t)(r22_i_i_i_i_i_i_i73 ^ UINT64_C(18446744073709551615));
     {
-    r3_0_i_i_i_i6_i_i_i40 = r26_i_i_i_i_i_i_i80;
-    r2_0_i_i_i_i_i_i_i41 = r24_i_i_i_i_i_i_i82;
-    goto at__arm_1_i_i_i39;
+    r3_0_i_i_i_i6_i_i_i32 = r26_i_i_i_i_i_i_i72;
+    r2_0_i_i_i_i_i_i_i33 = r24_i_i_i_i_i_i_i74;
+    goto at__arm_1_i_i_i31;
     }
-    at__arm_1_i_i_i39:;
-    r45_i_i_i_i_i_i42 = (uint32_t)(r2_0_i_i_i_i_i_i_i41);
-    r6_i_i_i_i_i_i_i_i43 = (uint32_t)(r45_i_i_i_i_i_i42 + 719163u);
-    r1_sroa_3_4_extract_trunc_i_i_i44 = (uint32_t)(r3_0_i_i_i_i6_i_i_i40);
-    zoned_rules_local_rule_LocalRule_last_before(r4_i_i_i28, r11_2, r6_i_i_i_i_i_i_i_i43, r1_sroa_3_4_extract_trunc_i_i_i44);
-    goto at__zoned_rules_local_rule_LocalRule_last_listed_exit_i_i45_i_i_i_i;
-    at__arm_2_i_i_i83:;
-    zoned_rules_local_rule_LocalRule_last_before(r4_i_i_i28, r11_2, 95745399u, 86400u);
-    goto at__zoned_rules_local_rule_LocalRule_last_listed_exit_i_i45_i_i_i_i;
-    at__zoned_rules_local_rule_LocalRule_last_listed_exit_i_i45_i_i_i_i:;
-    LOAD(uint8_t, r23_i_i_i46, r4_i_i_i28);
-    LOAD(uint32_t, r5_sroa_3_sroa_0_0_copyload_i_i48, r26_i_i_i47);
-    LOAD(uint32_t, r5_sroa_3_sroa_3_0_copyload_i_i50, r5_sroa_3_sroa_3_0_r26_i_sroa_idx_i_i49);
-    LOAD(uint32_t, r5_sroa_3_sroa_4_0_copyload_i_i52, r5_sroa_3_sroa_4_0_r26_i_sroa_idx_i_i51);
-    v21 = r23_i_i_i46 == 1;
-    if (v21) { goto at__arm_1_i_i54; }
-    { v22 = 0; r3_i_i_i_i_i_i_sroa_7_5 = UINT64_C(0); r3_i_i_i_i_i_i_sroa_9_5 = UINT64_C(0); goto at__zoned_rules_zoned_rule_ZonedRule_candidate_before_16a892625931f552_exit85_i_i_i_i; }
-    at__arm_1_i_i54:;
-    LOAD(uint32_t, a1_val_i_i55, r1_3);
-    LOAD(uint32_t, a1_val1_i_i56, r2_sroa_3_0_r1_i_sroa_idx);
-    r14_i_i_i_i_i57 = (uint32_t)(r5_sroa_3_sroa_0_0_copyload_i_i48 + 4294248133u);
-    r1_i_i_i_i_i_i58 = (uint64_t)((uint64_t)(int32_t)r14_i_i_i_i_i57);
-    r18_i_i_i_i_i59 = (uint64_t)(r1_i_i_i_i_i_i58 * UINT64_C(86400));
-    r1_i2_i_i_i_i_i60 = (uint64_t)r5_sroa_3_sroa_3_0_copyload_i_i50;
-    r25_i_i_i_i_i61 = (uint64_t)(r18_i_i_i_i_i59 + r1_i2_i_i_i_i_i60);
-    r14_i_i4_i_i_i62 = (uint32_t)(a1_val_i_i55 + 4294248133u);
-    r1_i_i_i5_i_i_i63 = (uint64_t)((uint64_t)(int32_t)r14_i_i4_i_i_i62);
-    r18_i_i6_i_i_i64 = (uint64_t)(r1_i_i_i5_i_i_i63 * UINT64_C(86400));
-    r1_i2_i_i7_i_i_i65 = (uint64_t)a1_val1_i_i56;
-    r25_i_i8_i_i_i66 = (uint64_t)(r18_i_i6_i_i_i64 + r1_i2_i_i7_i_i_i65);
-    r16_i3_i_i67 = (int64_t)r25_i_i_i_i_i61 < (int64_t)r25_i_i8_i_i_i66;
-    if (r16_i3_i_i67) { { v22 = 0; r3_i_i_i_i_i_i_sroa_7_5 = UINT64_C(0); r3_i_i_i_i_i_i_sroa_9_5 = UINT64_C(0); goto at__zoned_rules_zoned_rule_ZonedRule_candidate_before_16a892625931f552_exit85_i_i_i_i; } }
-    goto at__arm_4_i68;
-    at__arm_4_i68:;
-    STORE(uint32_t, r3_i29, r5_sroa_3_sroa_0_0_copyload_i_i48);
-    STORE(uint32_t, r5_sroa_6_4_r3_sroa_idx_i69, r5_sroa_3_sroa_3_0_copyload_i_i50);
-    STORE(uint32_t, r5_sroa_7_4_r3_sroa_idx_i70, r5_sroa_3_sroa_4_0_copyload_i_i52);
-    r28_i71 = zoned_rules_zoned_rule_ZonedRule_candidate_at_16a892625931f552(r11_2, r3_i29, r1943);
-    r29_i72 = r28_i71.f0;
-    r30_i73 = r28_i71.f1;
-    r3_i_i_i_i_i_i_sroa_9_16_insert_ext = (uint64_t)r30_i73;
+    at__arm_1_i_i_i31:;
+    r45_i_i_i_i_i_i34 = (uint32_t)(r2_0_i_i_i_i_i_i_i33);
+    r6_i_i_i_i_i_i_i_i35 = (uint32_t)(r45_i_i_i_i_i_i34 + 719163u);
+    r1_sroa_3_4_extract_trunc_i_i_i36 = (uint32_t)(r3_0_i_i_i_i6_i_i_i32);
+    zoned_rules_local_rule_LocalRule_last_before(r4_i_i_i20, r11_2, r6_i_i_i_i_i_i_i_i35, r1_sroa_3_4_extract_trunc_i_i_i36);
+    goto at__zoned_rules_local_rule_LocalRule_last_listed_exit_i_i37_i_i_i_i;
+    at__arm_2_i_i_i75:;
+    zoned_rules_local_rule_LocalRule_last_before(r4_i_i_i20, r11_2, 95745399u, 86400u);
+    goto at__zoned_rules_local_rule_LocalRule_last_listed_exit_i_i37_i_i_i_i;
+    at__zoned_rules_local_rule_LocalRule_last_listed_exit_i_i37_i_i_i_i:;
+    LOAD(uint8_t, r23_i_i_i38, r4_i_i_i20);
+    LOAD(uint32_t, r5_sroa_3_sroa_0_0_copyload_i_i40, r26_i_i_i39);
+    LOAD(uint32_t, r5_sroa_3_sroa_3_0_copyload_i_i42, r5_sroa_3_sroa_3_0_r26_i_sroa_idx_i_i41);
+    LOAD(uint32_t, r5_sroa_3_sroa_4_0_copyload_i_i44, r5_sroa_3_sroa_4_0_r26_i_sroa_idx_i_i43);
+    v20 = r23_i_i_i38 == 1;
+    if (v20) { goto at__arm_1_i_i46; }
+    { v21 = 0; r3_i_i_i_i_i_i_sroa_7_5 = UINT64_C(0); r3_i_i_i_i_i_i_sroa_9_5 = UINT64_C(0); goto at__zoned_rules_zoned_rule_ZonedRule_candidate_before_16a892625931f552_exit77_i_i_i_i; }
+    at__arm_1_i_i46:;
+    LOAD(uint32_t, a1_val_i_i47, r1_3);
+    LOAD(uint32_t, a1_val1_i_i48, r2_sroa_3_0_r1_i_sroa_idx);
+    r14_i_i_i_i_i49 = (uint32_t)(r5_sroa_3_sroa_0_0_copyload_i_i40 + 4294248133u);
+    r1_i_i_i_i_i_i50 = (uint64_t)((uint64_t)(int32_t)r14_i_i_i_i_i49);
+    r18_i_i_i_i_i51 = (uint64_t)(r1_i_i_i_i_i_i50 * UINT64_C(86400));
+    r1_i2_i_i_i_i_i52 = (uint64_t)r5_sroa_3_sroa_3_0_copyload_i_i42;
+    r25_i_i_i_i_i53 = (uint64_t)(r18_i_i_i_i_i51 + r1_i2_i_i_i_i_i52);
+    r14_i_i4_i_i_i54 = (uint32_t)(a1_val_i_i47 + 4294248133u);
+    r1_i_i_i5_i_i_i55 = (uint64_t)((uint64_t)(int32_t)r14_i_i4_i_i_i54);
+    r18_i_i6_i_i_i56 = (uint64_t)(r1_i_i_i5_i_i_i55 * UINT64_C(86400));
+    r1_i2_i_i7_i_i_i57 = (uint64_t)a1_val1_i_i48;
+    r25_i_i8_i_i_i58 = (uint64_t)(r18_i_i6_i_i_i56 + r1_i2_i_i7_i_i_i57);
+    r16_i3_i_i59 = (int64_t)r25_i_i_i_i_i53 < (int64_t)r25_i_i8_i_i_i58;
+    if (r16_i3_i_i59) { { v21 = 0; r3_i_i_i_i_i_i_sroa_7_5 = UINT64_C(0); r3_i_i_i_i_i_i_sroa_9_5 = UINT64_C(0); goto at__zoned_rules_zoned_rule_ZonedRule_candidate_before_16a892625931f552_exit77_i_i_i_i; } }
+    goto at__arm_4_i60;
+    at__arm_4_i60:;
+    STORE(uint32_t, r3_i21, r5_sroa_3_sroa_0_0_copyload_i_i40);
+    STORE(uint32_t, r5_sroa_6_4_r3_sroa_idx_i61, r5_sroa_3_sroa_3_0_copyload_i_i42);
+    STORE(uint32_t, r5_sroa_7_4_r3_sroa_idx_i62, r5_sroa_3_sroa_4_0_copyload_i_i44);
+    r28_i63 = zoned_rules_zoned_rule_ZonedRule_candidate_at_16a892625931f552(r11_2, r3_i21, r1943);
+    r29_i64 = r28_i63.f0;
+    r30_i65 = r28_i63.f1;
+    r3_i_i_i_i_i_i_sroa_9_16_insert_ext = (uint64_t)r30_i65;
     {
-    v22 = 1;
-    r3_i_i_i_i_i_i_sroa_7_5 = r29_i72;
+    v21 = 1;
+    r3_i_i_i_i_i_i_sroa_7_5 = r29_i64;
     r3_i_i_i_i_i_i_sroa_9_5 = r3_i_i_i_i_i_i_sroa_9_16_insert_ext;
-    goto at__zoned_rules_zoned_rule_ZonedRule_candidate_before_16a892625931f552_exit85_i_i_i_i;
+    goto at__zoned_rules_zoned_rule_ZonedRule_candidate_before_16a892625931f552_exit77_i_i_i_i;
     }
-    at__zoned_rules_zoned_rule_ZonedRule_candidate_before_16a892625931f552_exit85_i_i_i_i:;
-    r11_i_i12 = (uint64_t)(r3_0_2 + r1_i_i_i_i2);
-    r11_i13 = (int64_t)r11_i_i12 < (int64_t)UINT64_C(18446735739108322816);
-    if (r11_i13) { goto at__zoned_rules_zoned_rule_ZonedRule_candidate_before_16a892625931f552_exit_i_i_i_i; }
+    at__zoned_rules_zoned_rule_ZonedRule_candidate_before_16a892625931f552_exit77_i_i_i_i:;
+    r11_i_i9 = (uint64_t)(r3_0 + r1_i_i_i_i2);
+    r11_i10 = (int64_t)r11_i_i9 < (int64_t)UINT64_C(18446735739108322816);
+    if (r11_i10) { goto at__zoned_rules_zoned_rule_ZonedRule_candidate_before_16a892625931f552_exit_i_i_i_i; }
     goto at__join_3_2;
     at__join_3_2:;
-    memset(r4_i_i_i11, 0, UINT64_C(16));
-    v23 = (int64_t)r11_i_i12 > (int64_t)UINT64_C(8210266876799);
-    if (v23) { goto at__arm_2_i_i_i27; }
+    memset(r4_i_i_i8, 0, UINT64_C(16));
+    v22 = (int64_t)r11_i_i9 > (int64_t)UINT64_C(8210266876799);
+    if (v22) { goto at__arm_2_2; }
     goto at__after_1_4;
     at__after_1_4:;
-    r12_i_i_i_i_i_i_i14 = (int64_t)r11_i_i12 < (int64_t)UINT64_C(0);
-    if (r12_i_i_i_i_i_i_i14) { goto at__else_2_i6_2; }
+    r12_i_i_i_i_i_i_i11 = (int64_t)r11_i_i9 < (int64_t)UINT64_C(0);
+    if (r12_i_i_i_i_i_i_i11) { goto at__else_2_i6_2; }
     goto at__then_1_i7_2;
     at__then_1_i7_2:;
-    r31_2 = (uint64_t)(r11_i_i12 % UINT64_C(86400));
-    r14_i8_2 = (uint64_t)(r11_i_i12 / UINT64_C(86400));
+    r31_2 = (uint64_t)(r11_i_i9 % UINT64_C(86400));
+    r14_i8_2 = (uint64_t)(r11_i_i9 / UINT64_C(86400));
     {
     r3_0_i_i_i_i6_2 = r31_2;
     r2_0_5 = r14_i8_2;
     goto at__arm_1_6;
     }
     at__else_2_i6_2:;
-    r18_i_i_i_i_i_i_i23 = (uint64_t)(r11_i_i12 ^ UINT64_C(18446744073709551615));
-    r23_i_i_i_i_i_i_i24 = (uint64_t)(r18_i_i_i_i_i_i_i23 % UINT64_C(86400));
-    r26_i_i_i_i_i_i_i25 = (uint64_t)(UINT64_C(86399) - r23_i_i_i_i_i_i_i24);
-    r22_2 = (uint64_t)(r18_i_i_i_i_i_i_i23 / UINT64_C(86400));
-    r24_i_i_i_i_i_i_i26 = (uint64_t)(r22_2 ^ UINT64_C(18446744073709551615));
+    r18_i_i_i_i_i_i_i16 = (uint64_t)(r11_i_i9 ^ UINT64_C(18446744073709551615));
+    r23_i_i_i_i_i_i_i17 = (uint64_t)(r18_i_i_i_i_i_i_i16 % UINT64_C(86400));
+    r26_i_i_i_i_i_i_i18 = (uint64_t)(UINT64_C(86399) - r23_i_i_i_i_i_i_i17);
+    r22_2 = (uint64_t)(r18_i_i_i_i_i_i_i16 / UINT64_C(86400));
+    r24_i_i_i_i_i_i_i19 = (uint64_t)(r22_2 ^ UINT64_C(18446744073709551615));
     {
-    r3_0_i_i_i_i6_2 = r26_i_i_i_i_i_i_i25;
-    r2_0_5 = r24_i_i_i_i_i_i_i26;
+    r3_0_i_i_i_i6_2 = r26_i_i_i_i_i_i_i18;
+    r2_0_5 = r24_i_i_i_i_i_i_i19;
     goto at__arm_1_6;
     }
     at__arm_1_6:;
     r45_3 = (uint32_t)(r2_0_5);
-    r6_5 = (uint32_t)(r45_3 + 719163u);
+    r6_4 = (uint32_t)(r45_3 + 719163u);
     r1_sroa_3_4_extract_trunc_2 = (uint32_t)(r3_0_i_i_i_i6_2);
-    zoned_rules_local_rule_LocalRule_last_before(r4_i_i_i11, r11_2, r6_5, r1_sroa_3_4_extract_trunc_2);
+    zoned_rules_local_rule_LocalRule_last_before(r4_i_i_i8, r11_2, r6_4, r1_sroa_3_4_extract_trunc_2);
     goto at__zoned_rules_local_rule_LocalRule_last_listed_exit_i_i_i_i_i_i;
-    at__arm_2_i_i_i27:;
-    zoned_rules_local_rule_LocalRule_last_before(r4_i_i_i11, r11_2, 95745399u, 86400u);
+    at__arm_2_2:;
+    zoned_rules_local_rule_LocalRule_last_before(r4_i_i_i8, r11_2, 95745399u, 86400u);
     goto at__zoned_rules_local_rule_LocalRule_last_listed_exit_i_i_i_i_i_i;
     at__zoned_rules_local_rule_LocalRule_last_listed_exit_i_i_i_i_i_i:;
-    LOAD(uint8_t, r23_i_i_i15, r4_i_i_i11);
-    LOAD(uint32_t, r5_sroa_3_sroa_0_0_copyload_2, r26_i_i_i16);
+    LOAD(uint8_t, r23_i_i_i12, r4_i_i_i8);
+    LOAD(uint32_t, r5_sroa_3_sroa_0_0_copyload_2, r26_i_i_i13);
     LOAD(uint32_t, r5_sroa_3_sroa_3_0_copyload_2, r5_sroa_3_sroa_3_0_r26_i_sroa_idx_2);
     LOAD(uint32_t, r5_sroa_3_sroa_4_0_copyload_2, r5_sroa_3_sroa_4_0_r26_i_sroa_idx);
-    v24 = r23_i_i_i15 == 1;
-    if (v24) { goto at__arm_1_i_i17; }
+    v23 = r23_i_i_i12 == 1;
+    if (v23) { goto at__arm_1_i_i14_2; }
     goto at__zoned_rules_zoned_rule_ZonedRule_candidate_before_16a892625931f552_exit_i_i_i_i;
-    at__arm_1_i_i17:;
+    at__arm_1_i_i14_2:;
     LOAD(uint32_t, a1_val_2, r1_3);
     LOAD(uint32_t, a1_val1_2, r2_sroa_3_0_r1_i_sroa_idx);
-    r14_i_i_i_i_i18 = (uint32_t)(r5_sroa_3_sroa_0_0_copyload_2 + 4294248133u);
-    r1_i_i_i_i_i_i19 = (uint64_t)((uint64_t)(int32_t)r14_i_i_i_i_i18);
-    r18_i_i_i_i_i20 = (uint64_t)(r1_i_i_i_i_i_i19 * UINT64_C(86400));
-    r1_i2_i_i_i_i_i21 = (uint64_t)r5_sroa_3_sroa_3_0_copyload_2;
-    r25_i_i_i_i_i22 = (uint64_t)(r18_i_i_i_i_i20 + r1_i2_i_i_i_i_i21);
+    r14_5 = (uint32_t)(r5_sroa_3_sroa_0_0_copyload_2 + 4294248133u);
+    r1_i_i_i_i_i_i15 = (uint64_t)((uint64_t)(int32_t)r14_5);
+    r18_4 = (uint64_t)(r1_i_i_i_i_i_i15 * UINT64_C(86400));
+    r1_i2_2 = (uint64_t)r5_sroa_3_sroa_3_0_copyload_2;
+    r25_7 = (uint64_t)(r18_4 + r1_i2_2);
     r14_i_i4_2 = (uint32_t)(a1_val_2 + 4294248133u);
     r1_i_i_i5_2 = (uint64_t)((uint64_t)(int32_t)r14_i_i4_2);
     r18_i_i6_2 = (uint64_t)(r1_i_i_i5_2 * UINT64_C(86400));
     r1_i2_i_i7_2 = (uint64_t)a1_val1_2;
     r25_i_i8_2 = (uint64_t)(r18_i_i6_2 + r1_i2_i_i7_2);
-    r16_i3_2 = (int64_t)r25_i_i_i_i_i22 < (int64_t)r25_i_i8_2;
+    r16_i3_2 = (int64_t)r25_7 < (int64_t)r25_i_i8_2;
     if (r16_i3_2) { goto at__zoned_rules_zoned_rule_ZonedRule_candidate_before_16a892625931f552_exit_i_i_i_i; }
     goto at__zoned_rules_zoned_rule_ZonedRule_candidate_before_16a892625931f552_exit_thread_i_i_i_i;
     at__zoned_rules_zoned_rule_ZonedRule_candidate_before_16a892625931f552_exit_i_i_i_i:;
-    if (v22) { { r15_sroa_5_sroa_5_0_i_i61 = r3_i_i_i_i_i_i_sroa_9_5; r15_sroa_5_sroa_0_0_i_i60 = r3_i_i_i_i_i_i_sroa_7_5; goto at__arm_10; } }
+    if (v21) { { r15_sroa_5_sroa_5_0_i_i61 = r3_i_i_i_i_i_i_sroa_9_5; r15_sroa_5_sroa_0_0_i_i60 = r3_i_i_i_i_i_i_sroa_7_5; goto at__arm_10; } }
     goto at__join_8_loopexit;
     at__zoned_rules_zoned_rule_ZonedRule_candidate_before_16a892625931f552_exit_thread_i_i_i_i:;
     STORE(uint32_t, r3, r5_sroa_3_sroa_0_0_copyload_2);
@@ -64213,7 +65438,7 @@ static t_struct_i64_i32_end in_calendar_text_prev(bytes a0, uint64_t a1, bytes a
     r29 = r28_5.f0;
     r30_3 = r28_5.f1;
     r4_i_i_i_i_i_i_sroa_9_16_insert_ext = (uint64_t)r30_3;
-    if (v22) { goto at__arm_5; }
+    if (v21) { goto at__arm_5; }
     { r15_sroa_5_sroa_5_0_i_i61 = r4_i_i_i_i_i_i_sroa_9_16_insert_ext; r15_sroa_5_sroa_0_0_i_i60 = r29; goto at__arm_10; }
     at__arm_5:;
     r34 = (int64_t)r29 < (int64_t)r3_i_i_i_i_i_i_sroa_7_5;
@@ -64235,7 +65460,7 @@ static t_struct_i64_i32_end in_calendar_text_prev(bytes a0, uint64_t a1, bytes a
     at__join_16:;
     r57_2 = (uint8_t)((r15_sroa_5_sroa_5_0_i_i61) & 1);
     if (r57_2) { { r0_sroa_5_0_i_pn = r15_sroa_5_sroa_0_0_i_i60; r0_sroa_0_sroa_0_0 = 1; goto at__zoned_rules_zoned_rule_ZonedRule_previous_second_16a892625931f552_exit_i_i_i_i_i; } }
-    { r3_0_2 = r15_sroa_5_sroa_0_0_i_i60; goto at__loop_6; }
+    { r3_0 = r15_sroa_5_sroa_0_0_i_i60; goto at__loop_6; }
     at__join_8_loopexit:;
     LOAD(bytes, r13_i_pre, r4_4);
     r8_i_i_i_i_phi_trans_insert = (r13_i_pre + 24);
@@ -64246,8 +65471,8 @@ static t_struct_i64_i32_end in_calendar_text_prev(bytes a0, uint64_t a1, bytes a
     goto at__join_8;
     }
     at__join_8:;
-    v25 = r10 == 1;
-    if (v25) { goto at__arm_1_7; }
+    v24 = r10 == 1;
+    if (v24) { goto at__arm_1_7; }
     goto at__start_join_4_crit_edge_3;
     at__start_join_4_crit_edge_3:;
     r28_phi_trans_insert_3 = (r13_i_i5 + 8);
@@ -64269,9 +65494,9 @@ static t_struct_i64_i32_end in_calendar_text_prev(bytes a0, uint64_t a1, bytes a
     at__zone_zone_is_behind_exit_i_i_i_i_i_i_i_i_i_i_i_i:;
     r15_3 = (r13_i_i5 + 8);
     LOAD(bytes, r5_sroa_0_0_copyload_3, r15_3);
-    r23_7 = (uint64_t)(r5_sroa_3_0_copyload_3 << (UINT64_C(4) & 63u));
-    v26 = (r5_sroa_0_0_copyload_3 + (int64_t)r23_7);
-    r28_6 = (v26 - 16);
+    r23_6 = (uint64_t)(r5_sroa_3_0_copyload_3 << (UINT64_C(4) & 63u));
+    v25 = (r5_sroa_0_0_copyload_3 + (int64_t)r23_6);
+    r28_6 = (v25 - 16);
     LOAD(uint64_t, r4_sroa_3_8_copyload_3, r28_6);
     r12_i_not_3 = (int64_t)r4_sroa_3_8_copyload_3 > (int64_t)UINT64_C(0);
     if (r12_i_not_3) { { r7_sroa_3_0_copyload_3 = r5_sroa_3_0_copyload_3; r7_sroa_0_0_copyload_3 = r5_sroa_0_0_copyload_3; goto at__join_4_4; } }
@@ -64286,8 +65511,8 @@ static t_struct_i64_i32_end in_calendar_text_prev(bytes a0, uint64_t a1, bytes a
     at__zoned_rules_local_instant_offsets_are_small_16a892625931f552_exit_i_i_i_i_i_i_i_i_i:;
     r15_i26 = (uint64_t)(a0_a1 + UINT64_C(86400));
     memset(r4_i_i_i25, 0, UINT64_C(16));
-    v27 = (uint64_t)(a0_a1 + UINT64_C(18446735863442761216));
-    or_cond_4 = v27 < UINT64_C(18446727528841446016);
+    v26 = (uint64_t)(a0_a1 + UINT64_C(18446735863442761216));
+    or_cond_4 = v26 < UINT64_C(18446727528841446016);
     if (or_cond_4) { goto at__arm_2_i_i_i68; }
     goto at__after_1_i_i_i_i_i_i27;
     at__after_1_i_i_i_i_i_i27:;
@@ -64327,8 +65552,8 @@ static t_struct_i64_i32_end in_calendar_text_prev(bytes a0, uint64_t a1, bytes a
     LOAD(uint32_t, r5_sroa_3_sroa_0_0_copyload_i_i41, r26_i_i_i40);
     LOAD(uint32_t, r5_sroa_3_sroa_3_0_copyload_i_i43, r5_sroa_3_sroa_3_0_r26_i_sroa_idx_i_i42);
     LOAD(uint32_t, r5_sroa_3_sroa_4_0_copyload, r5_sroa_3_sroa_4_0_r26_i_sroa_idx_2);
-    v28 = r23_i_i_i39 == 1;
-    if (v28) { goto at__arm_1_i_i45; }
+    v27 = r23_i_i_i39 == 1;
+    if (v27) { goto at__arm_1_i_i45; }
     { r0_sroa_5_0_i_pn = UINT64_C(0); r0_sroa_0_sroa_0_0 = 0; goto at__zoned_rules_zoned_rule_ZonedRule_previous_second_16a892625931f552_exit_i_i_i_i_i; }
     at__arm_1_i_i45:;
     LOAD(uint32_t, a1_val_i_i46, r1_3);
@@ -64363,28 +65588,28 @@ static t_struct_i64_i32_end in_calendar_text_prev(bytes a0, uint64_t a1, bytes a
     at__zoned_rules_search_instants_may_follow_exit_i_i_i_i_i_i_i_i_i:;
     r17 = (uint64_t)(r2_sroa_7_0 + UINT64_C(18446744073709465216));
     r14_6 = (uint32_t)(r1_sroa_0_0 + 4294248133u);
-    r1_6 = (uint64_t)((uint64_t)(int32_t)r14_6);
-    r18_5 = (uint64_t)(r1_6 * UINT64_C(86400));
+    r1_5 = (uint64_t)((uint64_t)(int32_t)r14_6);
+    r18_5 = (uint64_t)(r1_5 * UINT64_C(86400));
     r1_i2_3 = (uint64_t)r1_sroa_6_0;
-    r25_2 = (uint64_t)(r18_5 + r1_i2_3);
-    r22_3 = (int64_t)r17 < (int64_t)r25_2;
-    if (r22_3) { { r25_i_i_i_i16_pre_phi = r25_2; goto at__join_10; } }
+    r25 = (uint64_t)(r18_5 + r1_i2_3);
+    r22_3 = (int64_t)r17 < (int64_t)r25;
+    if (r22_3) { { r25_i_i_i_i16_pre_phi = r25; goto at__join_10; } }
     { r0_sroa_5_0_i_pn = r2_sroa_7_0; r0_sroa_0_sroa_0_0 = 1; goto at__zoned_rules_zoned_rule_ZonedRule_previous_second_16a892625931f552_exit_i_i_i_i_i; }
     at__join_10:;
     LOAD(bytes, r9, r4_4);
     STORE(uint32_t, r8_i_i_i24, r1_sroa_0_0);
     STORE(uint32_t, r2_sroa_4_0_r8_sroa_idx_2, r1_sroa_6_0);
     STORE(uint32_t, r2_sroa_5_0_r8_sroa_idx_2, r1_sroa_11_0);
-    r13_3 = zoned_rules_local_instant_offset_of_16a892625931f552(r9, r8_i_i_i24);
-    r1_i_i_i_i_i6 = (uint64_t)((uint64_t)(int32_t)r13_3);
+    r13_2 = zoned_rules_local_instant_offset_of_16a892625931f552(r9, r8_i_i_i24);
+    r1_i_i_i_i_i6 = (uint64_t)((uint64_t)(int32_t)r13_2);
     r20 = (uint64_t)(r25_i_i_i_i16_pre_phi - r1_i_i_i_i_i6);
-    r13_4 = (int64_t)r20 < (int64_t)a0_a1;
-    if (r13_4) { goto at__then_2; }
+    r13_3 = (int64_t)r20 < (int64_t)a0_a1;
+    if (r13_3) { goto at__then_2; }
     goto at__join_4_5;
     at__then_2:;
     LOAD(bytes, r18_6, r4_4);
-    v29 = (uint64_t)(r20 + UINT64_C(18446735863442674816));
-    or_cond_5 = v29 < UINT64_C(18446727528841446016);
+    v28 = (uint64_t)(r20 + UINT64_C(18446735863442674816));
+    or_cond_5 = v28 < UINT64_C(18446727528841446016);
     if (or_cond_5) { goto at__join_4_5; }
     goto at__after_1_5;
     at__after_1_5:;
@@ -64401,8 +65626,8 @@ static t_struct_i64_i32_end in_calendar_text_prev(bytes a0, uint64_t a1, bytes a
     }
     at__else_2_i6_3:;
     r18_7 = (uint64_t)(r20 ^ UINT64_C(18446744073709551615));
-    r23_8 = (uint64_t)(r18_7 % UINT64_C(86400));
-    r26_2 = (uint64_t)(UINT64_C(86399) - r23_8);
+    r23_7 = (uint64_t)(r18_7 % UINT64_C(86400));
+    r26_2 = (uint64_t)(UINT64_C(86399) - r23_7);
     r22_4 = (uint64_t)(r18_7 / UINT64_C(86400));
     r24_3 = (uint64_t)(r22_4 ^ UINT64_C(18446744073709551615));
     {
@@ -64414,8 +65639,8 @@ static t_struct_i64_i32_end in_calendar_text_prev(bytes a0, uint64_t a1, bytes a
     r45_4 = (uint32_t)(r2_0_i_i_i_i_i_i_i_i61);
     r18_i_i_i_i1_2 = (uint64_t)(r2_0_i_i_i_i_i_i_i_i61 * UINT64_C(86400));
     r25_8 = (uint64_t)(r18_i_i_i_i1_2 + r3_0_i_i_i_i35_2);
-    r7_8 = zone_zone_Zone_offset_of_instant(r18_6, r25_8);
-    r1_i12_3 = (uint64_t)((uint64_t)(int32_t)r7_8);
+    r7_7 = zone_zone_Zone_offset_of_instant(r18_6, r25_8);
+    r1_i12_3 = (uint64_t)((uint64_t)(int32_t)r7_7);
     r21_3 = (uint64_t)(r3_0_i_i_i_i35_2 + r1_i12_3);
     r23_i_i_i_i2_2 = (int64_t)r21_3 < (int64_t)UINT64_C(0);
     if (r23_i_i_i_i2_2) { goto at__else_2_i7_3; }
@@ -64432,18 +65657,18 @@ static t_struct_i64_i32_end in_calendar_text_prev(bytes a0, uint64_t a1, bytes a
     goto at__zoned_rules_search_instants_has_dates_16a892625931f552_exit_i_i_i_i_i_i_i_i_i_i;
     }
     at__else_2_i7_3:;
-    v30 = (uint32_t)(r21_3);
-    r23_i_lhs_trunc_3 = (uint32_t)(v30 ^ 4294967295u);
+    v29 = (uint32_t)(r21_3);
+    r23_i_lhs_trunc_3 = (uint32_t)(v29 ^ 4294967295u);
     r22_i7_3 = (uint32_t)(r23_i_lhs_trunc_3 / 86400u);
-    v31 = (uint32_t)(r22_i7_3 ^ 4294967295u);
+    v30 = (uint32_t)(r22_i7_3 ^ 4294967295u);
     {
-    r2_0_6 = v31;
+    r2_0_6 = v30;
     goto at__zoned_rules_search_instants_has_dates_16a892625931f552_exit_i_i_i_i_i_i_i_i_i_i;
     }
     at__zoned_rules_search_instants_has_dates_16a892625931f552_exit_i_i_i_i_i_i_i_i_i_i:;
     sadd_i_i_i54_2 = (uint32_t)(r45_4 + 4199941059u);
-    v32 = (uint32_t)(sadd_i_i_i54_2 + r2_0_6);
-    or_cond_6 = v32 > 4103475766u;
+    v31 = (uint32_t)(sadd_i_i_i54_2 + r2_0_6);
+    or_cond_6 = v31 > 4103475766u;
     if (or_cond_6) { { r4_sroa_0_sroa_0_0 = 1; r4_sroa_4_0 = r20; goto at__zoned_rules_zoned_rule_ZonedRule_instant_before_16a892625931f552_exit_i_i_i_i_i_i_i_i_i; } }
     goto at__join_4_5;
     at__join_4_5:;
@@ -64454,13 +65679,13 @@ static t_struct_i64_i32_end in_calendar_text_prev(bytes a0, uint64_t a1, bytes a
     }
     at__zoned_rules_zoned_rule_ZonedRule_instant_before_16a892625931f552_exit_i_i_i_i_i_i_i_i_i:;
     trunc5 = (uint8_t)((r4_sroa_0_sroa_0_0) & 1);
-    if (trunc) { goto at__arm_3_2; }
+    if (trunc) { goto at__arm_3; }
     goto at__arm_4;
-    at__arm_3_2:;
+    at__arm_3:;
     if (trunc5) { goto at__arm_7; }
     { r12_sroa_0_sroa_0_0 = 1; r12_sroa_5_0 = r2_sroa_7_0; goto at__zoned_rules_search_instants_later_exit_i_i_i_i_i_i_i_i_i; }
     at__arm_7:;
-    a0_a1_2 = (int64_t)r4_sroa_4_0 > (int64_t)r2_sroa_7_0 ? r4_sroa_4_0 : r2_sroa_7_0;
+    a0_a1_2 = (uint64_t)GREATER64((int64_t)r4_sroa_4_0, (int64_t)r2_sroa_7_0);
     {
     r12_sroa_0_sroa_0_0 = 1;
     r12_sroa_5_0 = a0_a1_2;
@@ -64477,8 +65702,8 @@ static t_struct_i64_i32_end in_calendar_text_prev(bytes a0, uint64_t a1, bytes a
     memset(r7, 0, UINT64_C(16));
     zoned_rules_local_rule_LocalRule_last_before(r7, r11_2, r1_sroa_0_0, r1_sroa_6_0);
     LOAD(uint8_t, r2_i_i_i60, r7);
-    v33 = r2_i_i_i60 == 1;
-    if (v33) { goto at__arm_1_i22; }
+    v32 = r2_i_i_i60 == 1;
+    if (v32) { goto at__arm_1_i22; }
     goto at__return_5_sink_split;
     at__arm_1_i22:;
     LOAD(uint32_t, r7_sroa_4_i_sroa_3_3_copyload, r5_i_i_i59);
@@ -64516,71 +65741,71 @@ static t_struct_i64_i32_end in_calendar_text_prev(bytes a0, uint64_t a1, bytes a
     }
     at__zoned_rules_zoned_rule_ZonedRule_previous_second_16a892625931f552_exit_i_i_i_i_i:;
     r14_7 = (uint32_t)(r2_sroa_0_0_copyload + 4294248133u);
-    r1_7 = (uint64_t)((uint64_t)(int32_t)r14_7);
-    r18_8 = (uint64_t)(r1_7 * UINT64_C(86400));
+    r1_6 = (uint64_t)((uint64_t)(int32_t)r14_7);
+    r18_8 = (uint64_t)(r1_6 * UINT64_C(86400));
     r1_i2_4 = (uint64_t)r2_sroa_3_0_copyload;
     r25_9 = (uint64_t)(r18_8 + r1_i2_4);
-    r1_i_i_i_i2_2 = (uint64_t)((uint64_t)(int32_t)r13_2);
-    r20_4 = (uint64_t)(r25_9 - r1_i_i_i_i2_2);
+    r1_7 = (uint64_t)((uint64_t)(int32_t)r13);
+    r20_4 = (uint64_t)(r25_9 - r1_7);
     trunc_2 = (uint8_t)((r0_sroa_0_sroa_0_0) & 1);
     a1_2 = trunc_2 ? r0_sroa_5_0_i_pn : UINT64_C(0);
-    v34 = r0_sroa_0_sroa_0_0 == 1;
+    v33 = r0_sroa_0_sroa_0_0 == 1;
     r35 = (int64_t)a1_2 >= (int64_t)r20_4;
-    not4_not = v34 ? r35 : 0;
-    LOAD(bytes, r13_5, r4_4);
+    not3_not = v33 ? r35 : 0;
+    LOAD(bytes, r13_4, r4_4);
     LOAD(uint64_t, r5_sroa_3_0_copyload_i_i_i_i41, r5_sroa_3_0_r14_sroa_idx);
     r18_i13 = r5_sroa_3_0_copyload_i_i_i_i41 == UINT64_C(0);
     if (r18_i13) { goto at__zoned_rules_listed_instants_last_listed_16a892625931f552_exit_i_thread_i_i_i_i; }
     goto at__arm_3_i_preheader;
     at__arm_3_i_preheader:;
     LOAD(bytes, r5_sroa_0_0_copyload_i_i_i_i42, r14_3);
-    r7_i_i_i9 = (r13_5 + 24);
-    r22_phi_trans_insert = (r13_5 + 8);
-    r6_sroa_3_0_r22_sroa_idx_phi_trans_insert = (r13_5 + 16);
-    r11 = (r13_5 + 28);
-    r8_5 = (r13_5 + 32);
-    r11_4 = (r13_5 + 36);
+    r7_i_i_i8 = (r13_4 + 24);
+    r22_phi_trans_insert = (r13_4 + 8);
+    r6_sroa_3_0_r22_sroa_idx_phi_trans_insert = (r13_4 + 16);
+    r11 = (r13_4 + 28);
+    r8_5 = (r13_4 + 32);
+    r11_4 = (r13_4 + 36);
     {
     r4_sroa_4_017 = r5_sroa_3_0_copyload_i_i_i_i41;
     r4_sroa_0_016 = r5_sroa_0_0_copyload_i_i_i_i42;
     r3_sroa_5_015 = UINT64_C(0);
     r3_sroa_0_sroa_0_014 = 0;
-    goto at__arm_3_3;
+    goto at__arm_3_2;
     }
-    at__arm_3_3:;
+    at__arm_3_2:;
     r30 = (r4_sroa_0_016 + 24);
     r33_2 = (uint64_t)(r4_sroa_4_017 + UINT64_C(18446744073709551615));
     LOAD(uint32_t, r15_val, r4_sroa_0_016);
-    v35 = (r4_sroa_0_016 + 4);
-    LOAD(uint32_t, r15_val4, v35);
-    r14_i_i_i1 = (uint32_t)(r15_val + 4294248133u);
-    r1_i_i_i_i2_3 = (uint64_t)((uint64_t)(int32_t)r14_i_i_i1);
-    r18_9 = (uint64_t)(r1_i_i_i_i2_3 * UINT64_C(86400));
+    v34 = (r4_sroa_0_016 + 4);
+    LOAD(uint32_t, r15_val4, v34);
+    r14_i_i_i_i_i_i9 = (uint32_t)(r15_val + 4294248133u);
+    r1_i_i_i_i1 = (uint64_t)((uint64_t)(int32_t)r14_i_i_i_i_i_i9);
+    r18_9 = (uint64_t)(r1_i_i_i_i1 * UINT64_C(86400));
     r1_i2_5 = (uint64_t)r15_val4;
-    r25_3 = (uint64_t)(r18_9 + r1_i2_5);
-    r4_5 = (int64_t)r25_3 >= (int64_t)r1_0;
-    v36 = (uint64_t)(r25_3 + UINT64_C(18446735863442674816));
-    or_cond_7 = v36 < UINT64_C(18446727528841446016);
+    r25_2 = (uint64_t)(r18_9 + r1_i2_5);
+    r4_5 = (int64_t)r25_2 >= (int64_t)r1_0;
+    v35 = (uint64_t)(r25_2 + UINT64_C(18446735863442674816));
+    or_cond_7 = v35 < UINT64_C(18446727528841446016);
     or_cond_8 = r4_5 ? 1 : or_cond_7;
     if (or_cond_8) { goto at__join_4_6; }
     goto at__after_1_6;
     at__after_1_6:;
-    r12_8 = (int64_t)r25_3 < (int64_t)UINT64_C(0);
+    r12_8 = (int64_t)r25_2 < (int64_t)UINT64_C(0);
     if (r12_8) { goto at__else_2_i6_4; }
     goto at__then_1_i7_4;
     at__then_1_i7_4:;
-    r31_4 = (uint64_t)(r25_3 % UINT64_C(86400));
-    r14_i8_4 = (uint64_t)(r25_3 / UINT64_C(86400));
+    r31_4 = (uint64_t)(r25_2 % UINT64_C(86400));
+    r14_i8_4 = (uint64_t)(r25_2 / UINT64_C(86400));
     {
     r3_0_i_i_i_i35_3 = r31_4;
     r2_0_7 = r14_i8_4;
     goto at__arm_1_8;
     }
     at__else_2_i6_4:;
-    r18_i_i_i_i_i_i_i_i8 = (uint64_t)(r25_3 ^ UINT64_C(18446744073709551615));
-    r23_i_i_i_i_i_i_i_i9 = (uint64_t)(r18_i_i_i_i_i_i_i_i8 % UINT64_C(86400));
-    r26_3 = (uint64_t)(UINT64_C(86399) - r23_i_i_i_i_i_i_i_i9);
-    r22_5 = (uint64_t)(r18_i_i_i_i_i_i_i_i8 / UINT64_C(86400));
+    r18_i_i_i_i_i_i_i_i6 = (uint64_t)(r25_2 ^ UINT64_C(18446744073709551615));
+    r23_i_i_i_i_i_i_i_i7 = (uint64_t)(r18_i_i_i_i_i_i_i_i6 % UINT64_C(86400));
+    r26_3 = (uint64_t)(UINT64_C(86399) - r23_i_i_i_i_i_i_i_i7);
+    r22_5 = (uint64_t)(r18_i_i_i_i_i_i_i_i6 / UINT64_C(86400));
     r24_4 = (uint64_t)(r22_5 ^ UINT64_C(18446744073709551615));
     {
     r3_0_i_i_i_i35_3 = r26_3;
@@ -64590,10 +65815,10 @@ static t_struct_i64_i32_end in_calendar_text_prev(bytes a0, uint64_t a1, bytes a
     at__arm_1_8:;
     r45_5 = (uint32_t)(r2_0_7);
     r18_i_i_i_i1_3 = (uint64_t)(r2_0_7 * UINT64_C(86400));
-    r25_i_i_i_i_i_i_i_i3 = (uint64_t)(r18_i_i_i_i1_3 + r3_0_i_i_i_i35_3);
-    LOAD(uint8_t, r9_2, r7_i_i_i9);
-    v37 = r9_2 == 1;
-    if (v37) { goto at__arm_1_i_i_i_i47; }
+    r25_i_i_i_i_i_i_i_i2 = (uint64_t)(r18_i_i_i_i1_3 + r3_0_i_i_i_i35_3);
+    LOAD(uint8_t, r9_2, r7_i_i_i8);
+    v36 = r9_2 == 1;
+    if (v36) { goto at__arm_1_i_i_i_i47; }
     goto at__start_join_4_crit_edge_i_i_i_i43;
     at__start_join_4_crit_edge_i_i_i_i43:;
     LOAD(bytes, r6_sroa_0_0_copyload_pre, r22_phi_trans_insert);
@@ -64611,41 +65836,41 @@ static t_struct_i64_i32_end in_calendar_text_prev(bytes a0, uint64_t a1, bytes a
     at__zone_zone_is_behind_exit_i_i_i_i49_i:;
     LOAD(bytes, r4_sroa_0_0_copyload, r22_phi_trans_insert);
     r23_i_i_i6 = (uint64_t)(r4_sroa_3_0_copyload << (UINT64_C(4) & 63u));
-    v38 = (r4_sroa_0_0_copyload + (int64_t)r23_i_i_i6);
-    r28_i_i_i_i_i_i50 = (v38 - 16);
+    v37 = (r4_sroa_0_0_copyload + (int64_t)r23_i_i_i6);
+    r28_i_i_i_i_i_i50 = (v37 - 16);
     LOAD(uint64_t, r4_sroa_3_8_copyload_i_i_i_i_i51, r28_i_i_i_i_i_i50);
-    r12_i_not_i_i_i_i52 = (int64_t)r4_sroa_3_8_copyload_i_i_i_i_i51 > (int64_t)r25_i_i_i_i_i_i_i_i3;
+    r12_i_not_i_i_i_i52 = (int64_t)r4_sroa_3_8_copyload_i_i_i_i_i51 > (int64_t)r25_i_i_i_i_i_i_i_i2;
     if (r12_i_not_i_i_i_i52) { { r6_sroa_3_0_copyload = r4_sroa_3_0_copyload; r6_sroa_0_0_copyload_i_i_i_i45 = r4_sroa_0_0_copyload; goto at__join_4_i_i_i_i44; } }
     goto at__then_5_i_i_i_i53;
     at__then_5_i_i_i_i53:;
     memset(r1, 0, UINT64_C(52));
     LOAD(uint8_t, r9_3, r8_5);
-    v39 = r9_3 == 1;
-    if (v39) { goto at__arm_1_9; }
+    v38 = r9_3 == 1;
+    if (v38) { goto at__arm_1_9; }
     { r0_sroa_0_0_in = r11; goto at__zone_rule_rule_ZoneRule_offset_of_instant_exit_i_i_i_i_i; }
     at__arm_1_9:;
     memcpy(r1, r11_4, UINT64_C(52));
     LOAD(uint32_t, r5_sroa_0_0_copyload_5, r11);
-    r12_9 = (int64_t)r25_i_i_i_i_i_i_i_i3 < (int64_t)UINT64_C(0);
+    r12_9 = (int64_t)r25_i_i_i_i_i_i_i_i2 < (int64_t)UINT64_C(0);
     if (r12_9) { goto at__then_1; }
     goto at__else_2;
     at__then_1:;
-    r18_i_i_i10 = (uint64_t)(r25_i_i_i_i_i_i_i_i3 ^ UINT64_C(18446744073709551615));
-    r23_i_i2 = (uint64_t)(r18_i_i_i10 % UINT64_C(12622780800));
+    r18_i_i_i7 = (uint64_t)(r25_i_i_i_i_i_i_i_i2 ^ UINT64_C(18446744073709551615));
+    r23_i_i2 = (uint64_t)(r18_i_i_i7 % UINT64_C(12622780800));
     r26_4 = (uint64_t)(UINT64_C(12622780799) - r23_i_i2);
     {
-    r3_0_i_i_i7 = r26_4;
+    r3_0_2 = r26_4;
     goto at__core_int_i64_div_euclid_exit_i_i_i_i_i_i_i;
     }
     at__else_2:;
-    r31_5 = (uint64_t)(r25_i_i_i_i_i_i_i_i3 % UINT64_C(12622780800));
+    r31_5 = (uint64_t)(r25_i_i_i_i_i_i_i_i2 % UINT64_C(12622780800));
     {
-    r3_0_i_i_i7 = r31_5;
+    r3_0_2 = r31_5;
     goto at__core_int_i64_div_euclid_exit_i_i_i_i_i_i_i;
     }
     at__core_int_i64_div_euclid_exit_i_i_i_i_i_i_i:;
-    r31_i44 = (uint64_t)(r3_0_i_i_i7 % UINT64_C(31556952));
-    LOAD(uint32_t, r13_i20, r12_i_i_i_i8);
+    r31_i44 = (uint64_t)(r3_0_2 % UINT64_C(31556952));
+    LOAD(uint32_t, r13_i20, r12_2);
     r1_i_i_i_i_i_i16 = (uint64_t)((uint64_t)(int32_t)r13_i20);
     LOAD(uint32_t, r17_2, r16_i21);
     r1_i50 = (uint64_t)((uint64_t)(int32_t)r17_2);
@@ -64674,7 +65899,7 @@ static t_struct_i64_i32_end in_calendar_text_prev(bytes a0, uint64_t a1, bytes a
     if (r38_3) { goto at__join_3_i_i1; }
     goto at__else_4_4;
     at__else_4_4:;
-    a1_a0 = (int64_t)r4_i_sroa_0_0 < (int64_t)r3_i_sroa_0_0 ? r4_i_sroa_0_0 : r3_i_sroa_0_0;
+    a1_a0 = (uint64_t)LESSER64((int64_t)r4_i_sroa_0_0, (int64_t)r3_i_sroa_0_0);
     reass_sub = (uint64_t)(a1_a0 - r31_i44);
     r45_6 = (int64_t)r31_i44 < (int64_t)r4_i_sroa_7_0;
     r53 = (int64_t)reass_sub < (int64_t)UINT64_C(18446744073678340264);
@@ -64683,12 +65908,12 @@ static t_struct_i64_i32_end in_calendar_text_prev(bytes a0, uint64_t a1, bytes a
     goto at__after_1_7;
     at__after_1_7:;
     r67 = (int64_t)r3_i_sroa_0_0 >= (int64_t)r4_i_sroa_7_0;
-    r74_not_i_i_i_i9 = (int64_t)r4_i_sroa_0_0 > (int64_t)r3_i_sroa_8_0;
-    or_cond18 = r67 ? 1 : r74_not_i_i_i_i9;
+    r74_not = (int64_t)r4_i_sroa_0_0 > (int64_t)r3_i_sroa_8_0;
+    or_cond18 = r67 ? 1 : r74_not;
     if (or_cond18) { { common_ret_op = r67; goto at__zone_rule_rule_Daylight_holds_at_exit_i_i_i_i_i_i; } }
     goto at__join_3_i_i1;
     at__join_3_i_i1:;
-    r18_i3 = zone_rule_rule_Daylight_holds_near(r1, r5_sroa_0_0_copyload_5, r3_0_i_i_i7);
+    r18_i3 = zone_rule_rule_Daylight_holds_near(r1, r5_sroa_0_0_copyload_5, r3_0_2);
     {
     common_ret_op = r18_i3;
     goto at__zone_rule_rule_Daylight_holds_at_exit_i_i_i_i_i_i;
@@ -64706,8 +65931,8 @@ static t_struct_i64_i32_end in_calendar_text_prev(bytes a0, uint64_t a1, bytes a
     goto at__zone_zone_Zone_offset_of_instant_exit_i_i_i_i;
     }
     at__join_4_i_i_i_i44:;
-    LOAD(uint32_t, r5_sroa_0_0_copyload_i5, r13_5);
-    r27 = zone_table_offsets_offset_of_instant(r5_sroa_0_0_copyload_i5, r6_sroa_0_0_copyload_i_i_i_i45, r6_sroa_3_0_copyload, r25_i_i_i_i_i_i_i_i3);
+    LOAD(uint32_t, r5_sroa_0_0_copyload_i5, r13_4);
+    r27 = zone_table_offsets_offset_of_instant(r5_sroa_0_0_copyload_i5, r6_sroa_0_0_copyload_i_i_i_i45, r6_sroa_3_0_copyload, r25_i_i_i_i_i_i_i_i2);
     {
     r0_sroa_0_0_2 = r27;
     goto at__zone_zone_Zone_offset_of_instant_exit_i_i_i_i;
@@ -64721,7 +65946,7 @@ static t_struct_i64_i32_end in_calendar_text_prev(bytes a0, uint64_t a1, bytes a
     at__else_4_5:;
     r30_not_4 = r21_5 > UINT64_C(86399);
     if (r30_not_4) { goto at__then_1_i8_4; }
-    { r1_sroa_0_sroa_0_0 = 1; r1_sroa_4_0 = r25_3; goto at__zoned_rules_listed_instants_second_before_16a892625931f552_exit_i_i_i_i_i_i; }
+    { r1_sroa_0_sroa_0_0 = 1; r1_sroa_4_0 = r25_2; goto at__zoned_rules_listed_instants_second_before_16a892625931f552_exit_i_i_i_i_i_i; }
     at__then_1_i8_4:;
     r14_i_i_i_i_i_lhs_trunc_3 = (uint32_t)(r21_5);
     r14_i_i_i_i_i55_3 = (uint32_t)(r14_i_i_i_i_i_lhs_trunc_3 / 86400u);
@@ -64730,19 +65955,19 @@ static t_struct_i64_i32_end in_calendar_text_prev(bytes a0, uint64_t a1, bytes a
     goto at__zoned_rules_search_instants_has_dates_16a892625931f552_exit_i_i_i_i_i_i_i;
     }
     at__else_2_i7_4:;
-    v40 = (uint32_t)(r21_5);
-    r23_i_lhs_trunc_4 = (uint32_t)(v40 ^ 4294967295u);
+    v39 = (uint32_t)(r21_5);
+    r23_i_lhs_trunc_4 = (uint32_t)(v39 ^ 4294967295u);
     r22_i7_4 = (uint32_t)(r23_i_lhs_trunc_4 / 86400u);
-    v41 = (uint32_t)(r22_i7_4 ^ 4294967295u);
+    v40 = (uint32_t)(r22_i7_4 ^ 4294967295u);
     {
-    r2_0_8 = v41;
+    r2_0_8 = v40;
     goto at__zoned_rules_search_instants_has_dates_16a892625931f552_exit_i_i_i_i_i_i_i;
     }
     at__zoned_rules_search_instants_has_dates_16a892625931f552_exit_i_i_i_i_i_i_i:;
     sadd_i_i_i54_3 = (uint32_t)(r45_5 + 4199941059u);
-    v42 = (uint32_t)(sadd_i_i_i54_3 + r2_0_8);
-    or_cond_10 = v42 > 4103475766u;
-    if (or_cond_10) { { r1_sroa_0_sroa_0_0 = 1; r1_sroa_4_0 = r25_3; goto at__zoned_rules_listed_instants_second_before_16a892625931f552_exit_i_i_i_i_i_i; } }
+    v41 = (uint32_t)(sadd_i_i_i54_3 + r2_0_8);
+    or_cond_10 = v41 > 4103475766u;
+    if (or_cond_10) { { r1_sroa_0_sroa_0_0 = 1; r1_sroa_4_0 = r25_2; goto at__zoned_rules_listed_instants_second_before_16a892625931f552_exit_i_i_i_i_i_i; } }
     goto at__join_4_6;
     at__join_4_6:;
     {
@@ -64753,13 +65978,13 @@ static t_struct_i64_i32_end in_calendar_text_prev(bytes a0, uint64_t a1, bytes a
     at__zoned_rules_listed_instants_second_before_16a892625931f552_exit_i_i_i_i_i_i:;
     trunc_3 = (uint8_t)((r3_sroa_0_sroa_0_014) & 1);
     trunc5_2 = (uint8_t)((r1_sroa_0_sroa_0_0) & 1);
-    if (trunc_3) { goto at__arm_3_i_i7; }
+    if (trunc_3) { goto at__arm_3_3; }
     goto at__arm_4_2;
-    at__arm_3_i_i7:;
+    at__arm_3_3:;
     if (trunc5_2) { goto at__arm_7_2; }
     { r12_sroa_0_sroa_0_0_2 = 1; r12_sroa_5_0_2 = r3_sroa_5_015; goto at__zoned_rules_search_instants_later_exit_i_i_i_i_i_i; }
     at__arm_7_2:;
-    a0_a1_3 = (int64_t)r1_sroa_4_0 > (int64_t)r3_sroa_5_015 ? r1_sroa_4_0 : r3_sroa_5_015;
+    a0_a1_3 = (uint64_t)GREATER64((int64_t)r1_sroa_4_0, (int64_t)r3_sroa_5_015);
     {
     r12_sroa_0_sroa_0_0_2 = 1;
     r12_sroa_5_0_2 = a0_a1_3;
@@ -64775,29 +66000,29 @@ static t_struct_i64_i32_end in_calendar_text_prev(bytes a0, uint64_t a1, bytes a
     at__zoned_rules_search_instants_later_exit_i_i_i_i_i_i:;
     r18_i_i_i_i_i10 = r33_2 == UINT64_C(0);
     if (r18_i_i_i_i_i10) { goto at__zoned_rules_listed_instants_last_listed_16a892625931f552_exit_i_i_i_i_i; }
-    { r4_sroa_4_017 = r33_2; r4_sroa_0_016 = r30; r3_sroa_5_015 = r12_sroa_5_0_2; r3_sroa_0_sroa_0_014 = r12_sroa_0_sroa_0_0_2; goto at__arm_3_3; }
+    { r4_sroa_4_017 = r33_2; r4_sroa_0_016 = r30; r3_sroa_5_015 = r12_sroa_5_0_2; r3_sroa_0_sroa_0_014 = r12_sroa_0_sroa_0_0_2; goto at__arm_3_2; }
     at__zoned_rules_listed_instants_last_listed_16a892625931f552_exit_i_i_i_i_i:;
     trunc5_3 = (uint8_t)((r12_sroa_0_sroa_0_0_2) & 1);
-    if (not4_not) { goto at__arm_3_i10; }
+    if (not3_not) { goto at__arm_3_i8; }
     goto at__zoned_rules_zoned_recurrence_ZonedRecurrence_last_included_16a892625931f552_exit_i_i_i_i;
     at__zoned_rules_listed_instants_last_listed_16a892625931f552_exit_i_thread_i_i_i_i:;
-    if (not4_not) { { r12_sroa_5_0_i_i_ph = r0_sroa_5_0_i_pn; goto at__zoned_rules_zoned_recurrence_ZonedRecurrence_last_included_16a892625931f552_exit_thread_i_i_i_i; } }
-    { r44_fca_1_insert_i_i123 = (t_struct_i8_i64_end){0}; r0_sroa_4_0 = UINT64_C(0); goto at__zoned_rules_zoned_recurrence_ZonedRecurrence_last_member_16a892625931f552_exit_i_i_i; }
-    at__arm_3_i10:;
+    if (not3_not) { { r12_sroa_5_0_i_i_ph = r0_sroa_5_0_i_pn; goto at__zoned_rules_zoned_recurrence_ZonedRecurrence_last_included_16a892625931f552_exit_thread_i_i_i_i; } }
+    { r44_fca_1_insert_i_i115 = (t_struct_i8_i64_end){0}; r0_sroa_4_0 = UINT64_C(0); goto at__zoned_rules_zoned_recurrence_ZonedRecurrence_last_member_16a892625931f552_exit_i_i_i; }
+    at__arm_3_i8:;
     if (trunc5_3) { goto at__arm_7_3; }
     { r12_sroa_5_0_i_i_ph = r0_sroa_5_0_i_pn; goto at__zoned_rules_zoned_recurrence_ZonedRecurrence_last_included_16a892625931f552_exit_thread_i_i_i_i; }
     at__arm_7_3:;
-    a0_a1_i_i11 = (int64_t)r12_sroa_5_0_2 > (int64_t)r0_sroa_5_0_i_pn ? r12_sroa_5_0_2 : r0_sroa_5_0_i_pn;
+    a0_a1_i_i9 = (uint64_t)GREATER64((int64_t)r12_sroa_5_0_2, (int64_t)r0_sroa_5_0_i_pn);
     {
-    r12_sroa_5_0_i_i_ph = a0_a1_i_i11;
+    r12_sroa_5_0_i_i_ph = a0_a1_i_i9;
     goto at__zoned_rules_zoned_recurrence_ZonedRecurrence_last_included_16a892625931f552_exit_thread_i_i_i_i;
     }
     at__zoned_rules_zoned_recurrence_ZonedRecurrence_last_included_16a892625931f552_exit_thread_i_i_i_i:;
-    r44_fca_1_insert_i_i121 = (t_struct_i8_i64_end){1, UINT64_C(0)};
-    r44_fca_1_insert_i_i121.f1 = r12_sroa_5_0_i_i_ph;
+    r44_fca_1_insert_i_i113 = (t_struct_i8_i64_end){1, UINT64_C(0)};
+    r44_fca_1_insert_i_i113.f1 = r12_sroa_5_0_i_i_ph;
     {
-    r44_fca_1_insert_i_i124 = r44_fca_1_insert_i_i121;
-    r12_sroa_5_0_i_i122 = r12_sroa_5_0_i_i_ph;
+    r44_fca_1_insert_i_i116 = r44_fca_1_insert_i_i113;
+    r12_sroa_5_0_i_i114 = r12_sroa_5_0_i_i_ph;
     goto at__arm_3_4;
     }
     at__zoned_rules_zoned_recurrence_ZonedRecurrence_last_included_16a892625931f552_exit_i_i_i_i:;
@@ -64806,9 +66031,9 @@ static t_struct_i64_i32_end in_calendar_text_prev(bytes a0, uint64_t a1, bytes a
     r44_fca_0_insert.f0 = r12_sroa_0_sroa_0_0_2;
     r44_fca_1_insert = r44_fca_0_insert;
     r44_fca_1_insert.f1 = spec_select6_3;
-    v43 = r12_sroa_0_sroa_0_0_2 == 1;
-    if (v43) { { r44_fca_1_insert_i_i124 = r44_fca_1_insert; r12_sroa_5_0_i_i122 = r12_sroa_5_0_2; goto at__arm_3_4; } }
-    { r44_fca_1_insert_i_i123 = r44_fca_1_insert; r0_sroa_4_0 = UINT64_C(0); goto at__zoned_rules_zoned_recurrence_ZonedRecurrence_last_member_16a892625931f552_exit_i_i_i; }
+    v42 = r12_sroa_0_sroa_0_0_2 == 1;
+    if (v42) { { r44_fca_1_insert_i_i116 = r44_fca_1_insert; r12_sroa_5_0_i_i114 = r12_sroa_5_0_2; goto at__arm_3_4; } }
+    { r44_fca_1_insert_i_i115 = r44_fca_1_insert; r0_sroa_4_0 = UINT64_C(0); goto at__zoned_rules_zoned_recurrence_ZonedRecurrence_last_member_16a892625931f552_exit_i_i_i; }
     at__arm_3_4:;
     LOAD(bytes, r5_sroa_0_0_copyload_4, r16_2);
     LOAD(uint64_t, r5_sroa_3_0_copyload_4, r5_sroa_3_0_r16_sroa_idx);
@@ -64819,28 +66044,28 @@ static t_struct_i64_i32_end in_calendar_text_prev(bytes a0, uint64_t a1, bytes a
     }
     at__loop_2_2:;
     r7_i_i_not_not_not_i_not_not_not_i_not = r1_sroa_5_0_copyload == UINT64_C(0);
-    if (r7_i_i_not_not_not_i_not_not_not_i_not) { { r44_fca_1_insert_i_i123 = r44_fca_1_insert_i_i124; r0_sroa_4_0 = r12_sroa_5_0_i_i122; goto at__zoned_rules_zoned_recurrence_ZonedRecurrence_last_member_16a892625931f552_exit_i_i_i; } }
+    if (r7_i_i_not_not_not_i_not_not_not_i_not) { { r44_fca_1_insert_i_i115 = r44_fca_1_insert_i_i116; r0_sroa_4_0 = r12_sroa_5_0_i_i114; goto at__zoned_rules_zoned_recurrence_ZonedRecurrence_last_member_16a892625931f552_exit_i_i_i; } }
     goto at__arm_3_i_i3;
     at__arm_3_i_i3:;
     r20_2 = (r5_sroa_0_0 + 24);
     r23_i_i_i_i_i15 = (uint64_t)(r1_sroa_5_0_copyload + UINT64_C(18446744073709551615));
     LOAD(uint32_t, r14_val, r5_sroa_0_0);
-    v44 = (r5_sroa_0_0 + 4);
-    LOAD(uint32_t, r14_val2, v44);
+    v43 = (r5_sroa_0_0 + 4);
+    LOAD(uint32_t, r14_val2, v43);
     r14_8 = (uint32_t)(r14_val + 4294248133u);
     r1_8 = (uint64_t)((uint64_t)(int32_t)r14_8);
     r18_i_i_i_i_i_i4 = (uint64_t)(r1_8 * UINT64_C(86400));
     r1_i2_6 = (uint64_t)r14_val2;
     r25_10 = (uint64_t)(r18_i_i_i_i_i_i4 + r1_i2_6);
-    r10_5 = r25_10 == r12_sroa_5_0_i_i122;
-    if (r10_5) { { r1_0 = r12_sroa_5_0_i_i122; goto at__loop_2; } }
+    r10_5 = r25_10 == r12_sroa_5_0_i_i114;
+    if (r10_5) { { r1_0 = r12_sroa_5_0_i_i114; goto at__loop_2; } }
     { r5_sroa_0_0 = r20_2; r1_sroa_5_0_copyload = r23_i_i_i_i_i15; goto at__loop_2_2; }
     at__zoned_rules_zoned_recurrence_ZonedRecurrence_last_member_16a892625931f552_exit_i_i_i:;
-    r23_9 = r44_fca_1_insert_i_i123.f0;
-    v45 = r23_9 != 1;
-    v46 = (uint64_t)(r0_sroa_4_0 + UINT64_C(18446735863442674816));
-    or_cond_i_i_i_i3 = v46 < UINT64_C(18446727528841446016);
-    or_cond_11 = v45 ? 1 : or_cond_i_i_i_i3;
+    r23_8 = r44_fca_1_insert_i_i115.f0;
+    v44 = r23_8 != 1;
+    v45 = (uint64_t)(r0_sroa_4_0 + UINT64_C(18446735863442674816));
+    or_cond_i_i_i_i3 = v45 < UINT64_C(18446727528841446016);
+    or_cond_11 = v44 ? 1 : or_cond_i_i_i_i3;
     if (or_cond_11) { goto at__layers_c_calendar_texts_last_instant_exit_thread; }
     goto at__after_1_8;
     at__after_1_8:;
@@ -64857,20 +66082,20 @@ static t_struct_i64_i32_end in_calendar_text_prev(bytes a0, uint64_t a1, bytes a
     }
     at__else_2_i6_5:;
     r18_i_i_i_i_i9 = (uint64_t)(r0_sroa_4_0 ^ UINT64_C(18446744073709551615));
-    r23_i_i_i_i_i10 = (uint64_t)(r18_i_i_i_i_i9 % UINT64_C(86400));
-    r26_5 = (uint64_t)(UINT64_C(86399) - r23_i_i_i_i_i10);
+    r23_9 = (uint64_t)(r18_i_i_i_i_i9 % UINT64_C(86400));
+    r26_5 = (uint64_t)(UINT64_C(86399) - r23_9);
     r22_6 = (uint64_t)(r18_i_i_i_i_i9 / UINT64_C(86400));
-    r24_i_i_i_i_i11 = (uint64_t)(r22_6 ^ UINT64_C(18446744073709551615));
+    r24_i_i_i_i_i10 = (uint64_t)(r22_6 ^ UINT64_C(18446744073709551615));
     {
     r3_0_i_i_i_i35_4 = r26_5;
-    r2_0_i_i_i_i_i_i11 = r24_i_i_i_i_i11;
+    r2_0_i_i_i_i_i_i11 = r24_i_i_i_i_i10;
     goto at__arm_1_10;
     }
     at__arm_1_10:;
     r45_7 = (uint32_t)(r2_0_i_i_i_i_i_i11);
     r18_i_i_i_i1_4 = (uint64_t)(r2_0_i_i_i_i_i_i11 * UINT64_C(86400));
     r25_i_i_i_i_i6 = (uint64_t)(r18_i_i_i_i1_4 + r3_0_i_i_i_i35_4);
-    r7_i_i_i_i_i46 = zone_zone_Zone_offset_of_instant(r13_5, r25_i_i_i_i_i6);
+    r7_i_i_i_i_i46 = zone_zone_Zone_offset_of_instant(r13_4, r25_i_i_i_i_i6);
     r1_i12_5 = (uint64_t)((uint64_t)(int32_t)r7_i_i_i_i_i46);
     r21_i_i_i_i_i7 = (uint64_t)(r3_0_i_i_i_i35_4 + r1_i12_5);
     r23_i_i_i_i2_4 = (int64_t)r21_i_i_i_i_i7 < (int64_t)UINT64_C(0);
@@ -64888,18 +66113,18 @@ static t_struct_i64_i32_end in_calendar_text_prev(bytes a0, uint64_t a1, bytes a
     goto at__chrono_clock_naive_time_NaiveTime_overflowing_add_offset_exit_i_i_i_i_i_i_i;
     }
     at__else_2_i7_5:;
-    v47 = (uint32_t)(r21_i_i_i_i_i7);
-    r23_i_lhs_trunc_5 = (uint32_t)(v47 ^ 4294967295u);
+    v46 = (uint32_t)(r21_i_i_i_i_i7);
+    r23_i_lhs_trunc_5 = (uint32_t)(v46 ^ 4294967295u);
     r22_i7_5 = (uint32_t)(r23_i_lhs_trunc_5 / 86400u);
-    v48 = (uint32_t)(r22_i7_5 ^ 4294967295u);
+    v47 = (uint32_t)(r22_i7_5 ^ 4294967295u);
     {
-    r2_0_9 = v48;
+    r2_0_9 = v47;
     goto at__chrono_clock_naive_time_NaiveTime_overflowing_add_offset_exit_i_i_i_i_i_i_i;
     }
     at__chrono_clock_naive_time_NaiveTime_overflowing_add_offset_exit_i_i_i_i_i_i_i:;
     sadd_i_i_i54_4 = (uint32_t)(r45_7 + 4199941059u);
-    v49 = (uint32_t)(sadd_i_i_i54_4 + r2_0_9);
-    or_cond_12 = v49 < 4103475767u;
+    v48 = (uint32_t)(sadd_i_i_i54_4 + r2_0_9);
+    or_cond_12 = v48 < 4103475767u;
     if (or_cond_12) { goto at__layers_c_calendar_texts_last_instant_exit_thread; }
     goto at__arm_111;
     at__layers_c_calendar_texts_last_instant_exit_thread:;
@@ -65309,7 +66534,7 @@ static t_struct_i8_i32_end zoned_rules_local_rule_LocalRule_last_time(bytes a0, 
     narrow = (uint32_t)(r8_i3 + 1);
     r8_3 = (uint64_t)narrow;
     r10_i_i4 = (uint64_t)(r8_3 - r2_0_2);
-    r5_02 = (int64_t)r10_i_i4 > (int64_t)UINT64_C(0) ? r10_i_i4 : UINT64_C(0);
+    r5_02 = (uint64_t)GREATER64((int64_t)r10_i_i4, (int64_t)UINT64_C(0));
     r5_0 = (uint32_t)(r5_02);
     r12 = (uint32_t)(r5_0 * 3600u);
     {
@@ -65321,7 +66546,7 @@ static t_struct_i8_i32_end zoned_rules_local_rule_LocalRule_last_time(bytes a0, 
     narrow_i1 = (uint32_t)(r13 + 1);
     r8_i2 = (uint64_t)narrow_i1;
     r10_i3 = (uint64_t)(r8_i2 - r2_0_2);
-    r5_02_i4 = (int64_t)r10_i3 > (int64_t)UINT64_C(0) ? r10_i3 : UINT64_C(0);
+    r5_02_i4 = (uint64_t)GREATER64((int64_t)r10_i3, (int64_t)UINT64_C(0));
     r5_0_i5 = (uint32_t)(r5_02_i4);
     r17 = (uint32_t)(r5_0_i5 * 60u);
     {
@@ -65331,7 +66556,7 @@ static t_struct_i8_i32_end zoned_rules_local_rule_LocalRule_last_time(bytes a0, 
     at__arm_4:;
     r8_i7 = (uint64_t)r2_0;
     r10_i8 = (uint64_t)(r8_i7 - r2_0_2);
-    r5_02_i9 = (int64_t)r10_i8 > (int64_t)UINT64_C(0) ? r10_i8 : UINT64_C(0);
+    r5_02_i9 = (uint64_t)GREATER64((int64_t)r10_i8, (int64_t)UINT64_C(0));
     r5_0_i10 = (uint32_t)(r5_02_i9);
     {
     common_ret_op = r5_0_i10;
@@ -65767,16 +66992,16 @@ static void in_calendar_zone_offsets_of_local(bytes a0, bytes a1, uint64_t a2, u
     r49 = (v2 - 24);
     spec_select = r35 ? r4 : r49;
     LOAD(uint32_t, r12_sroa_0_0, spec_select);
-    a0_a1 = (int32_t)r12_sroa_0_0 > (int32_t)r29_val ? r12_sroa_0_0 : r29_val;
+    a0_a1 = (uint32_t)GREATER32((int32_t)r12_sroa_0_0, (int32_t)r29_val);
     LOAD(uint32_t, a0_val, r12);
     r10_2 = (r4 + 32);
     LOAD(uint8_t, r11, r10_2);
     v3 = r11 == 1;
     r13_2 = (r4 + 36);
     LOAD(uint32_t, r5_sroa_0_0_copyload_2, r13_2);
-    a0_a1_i_i3 = (int32_t)r5_sroa_0_0_copyload_2 > (int32_t)a0_val ? r5_sroa_0_0_copyload_2 : a0_val;
+    a0_a1_i_i3 = (uint32_t)GREATER32((int32_t)r5_sroa_0_0_copyload_2, (int32_t)a0_val);
     r4_0 = v3 ? a0_a1_i_i3 : a0_val;
-    a0_a1_2 = (int32_t)r4_0 > (int32_t)a0_a1 ? r4_0 : a0_a1;
+    a0_a1_2 = (uint32_t)GREATER32((int32_t)r4_0, (int32_t)a0_a1);
     r1 = WIDE_OF_SIGNED((int64_t)r6_sroa_3_8_copyload);
     r1_i1 = WIDE_OF_SIGNED((int32_t)a0_a1_2);
     r7_2 = wide_add(r1_i1, r1);
@@ -66488,7 +67713,7 @@ static void zoned_cron_schedule_ZonedSchedule_first_near_16a892625931f552(bytes 
     r49 = (v10 - 24);
     spec_select = r35 ? r25_val : r49;
     LOAD(uint32_t, r12_sroa_0_0, spec_select);
-    a0_a1 = (int32_t)r12_sroa_0_0 > (int32_t)r29_val ? r12_sroa_0_0 : r29_val;
+    a0_a1 = (uint32_t)GREATER32((int32_t)r12_sroa_0_0, (int32_t)r29_val);
     LOAD(uint32_t, a0_val, r12_i_i34);
     r10_2 = (r25_val + 32);
     LOAD(uint8_t, r11_2, r10_2);
@@ -66498,13 +67723,13 @@ static void zoned_cron_schedule_ZonedSchedule_first_near_16a892625931f552(bytes 
     at__arm_1_4:;
     r13_2 = (r25_val + 36);
     LOAD(uint32_t, r5_sroa_0_0_copyload_4, r13_2);
-    a0_a1_i_i3 = (int32_t)r5_sroa_0_0_copyload_4 > (int32_t)a0_val ? r5_sroa_0_0_copyload_4 : a0_val;
+    a0_a1_i_i3 = (uint32_t)GREATER32((int32_t)r5_sroa_0_0_copyload_4, (int32_t)a0_val);
     {
     r4_0 = a0_a1_i_i3;
     goto at__zone_zone_is_local_behind_exit_i_i_i;
     }
     at__zone_zone_is_local_behind_exit_i_i_i:;
-    a0_a1_2 = (int32_t)r4_0 > (int32_t)a0_a1 ? r4_0 : a0_a1;
+    a0_a1_2 = (uint32_t)GREATER32((int32_t)r4_0, (int32_t)a0_a1);
     r1_3 = WIDE_OF_SIGNED((int64_t)r6_sroa_3_8_copyload);
     r1_i1 = WIDE_OF_SIGNED((int32_t)a0_a1_2);
     r7_3 = wide_add(r1_i1, r1_3);
@@ -67005,7 +68230,7 @@ static void zoned_cron_schedule_ZonedSchedule_first_near_16a892625931f552(bytes 
     r49_2 = (v26 - 24);
     spec_select_3 = r35_3 ? r43_i14 : r49_2;
     LOAD(uint32_t, r12_sroa_0_0_2, spec_select_3);
-    a0_a1_3 = (int32_t)r12_sroa_0_0_2 > (int32_t)r29_val_2 ? r12_sroa_0_0_2 : r29_val_2;
+    a0_a1_3 = (uint32_t)GREATER32((int32_t)r12_sroa_0_0_2, (int32_t)r29_val_2);
     LOAD(uint32_t, a0_val_2, r12_5);
     r10_5 = (r43_i14 + 32);
     LOAD(uint8_t, r1121, r10_5);
@@ -67015,13 +68240,13 @@ static void zoned_cron_schedule_ZonedSchedule_first_near_16a892625931f552(bytes 
     at__arm_1_7:;
     r13_4 = (r43_i14 + 36);
     LOAD(uint32_t, r5_sroa_0_0_copyload_5, r13_4);
-    a0_a1_i_i3_2 = (int32_t)r5_sroa_0_0_copyload_5 > (int32_t)a0_val_2 ? r5_sroa_0_0_copyload_5 : a0_val_2;
+    a0_a1_i_i3_2 = (uint32_t)GREATER32((int32_t)r5_sroa_0_0_copyload_5, (int32_t)a0_val_2);
     {
     r4_0_2 = a0_a1_i_i3_2;
     goto at__zone_zone_is_local_behind_exit_i_i_i_i_i_i;
     }
     at__zone_zone_is_local_behind_exit_i_i_i_i_i_i:;
-    a0_a1_4 = (int32_t)r4_0_2 > (int32_t)a0_a1_3 ? r4_0_2 : a0_a1_3;
+    a0_a1_4 = (uint32_t)GREATER32((int32_t)r4_0_2, (int32_t)a0_a1_3);
     r1_i_i_i_i_i_i_i16 = WIDE_OF_SIGNED((int64_t)r6_sroa_3_8_copyload_2);
     r1_i1_2 = WIDE_OF_SIGNED((int32_t)a0_a1_4);
     r7_6 = wide_add(r1_i1_2, r1_i_i_i_i_i_i_i16);
@@ -67239,7 +68464,7 @@ static void zoned_cron_schedule_ZonedSchedule_taken_16a892625931f552(bytes a0, b
     r49 = (v1 - 24);
     spec_select = r35 ? r22_val : r49;
     LOAD(uint32_t, r12_sroa_0_0, spec_select);
-    a0_a1 = (int32_t)r12_sroa_0_0 > (int32_t)r29_val ? r12_sroa_0_0 : r29_val;
+    a0_a1 = (uint32_t)GREATER32((int32_t)r12_sroa_0_0, (int32_t)r29_val);
     LOAD(uint32_t, a0_val, r12);
     r10_2 = (r22_val + 32);
     LOAD(uint8_t, r11, r10_2);
@@ -67249,13 +68474,13 @@ static void zoned_cron_schedule_ZonedSchedule_taken_16a892625931f552(bytes a0, b
     at__arm_1_3:;
     r13_2 = (r22_val + 36);
     LOAD(uint32_t, r5_sroa_0_0_copyload_2, r13_2);
-    a0_a1_i_i3 = (int32_t)r5_sroa_0_0_copyload_2 > (int32_t)a0_val ? r5_sroa_0_0_copyload_2 : a0_val;
+    a0_a1_i_i3 = (uint32_t)GREATER32((int32_t)r5_sroa_0_0_copyload_2, (int32_t)a0_val);
     {
     r4_0 = a0_a1_i_i3;
     goto at__zone_zone_is_local_behind_exit_i_i;
     }
     at__zone_zone_is_local_behind_exit_i_i:;
-    a0_a1_2 = (int32_t)r4_0 > (int32_t)a0_a1 ? r4_0 : a0_a1;
+    a0_a1_2 = (uint32_t)GREATER32((int32_t)r4_0, (int32_t)a0_a1);
     r1_2 = WIDE_OF_SIGNED((int64_t)r6_sroa_3_8_copyload);
     r1_i1 = WIDE_OF_SIGNED((int32_t)a0_a1_2);
     r7_2 = wide_add(r1_i1, r1_2);
@@ -67520,7 +68745,7 @@ static void zoned_cron_search_instants_end_of_gap_16a892625931f552(bytes a0, byt
     r33 = zone_table_offsets_stretch_of_instant(r6_sroa_0_0_copyload, r7_sroa_0_0_copyload, r7_sroa_3_0_copyload, r23);
     r28_2 = r33.f1;
     r32 = (uint64_t)(a2 + UINT64_C(432000));
-    a1_a0 = (int64_t)r32 < (int64_t)r28_2 ? r32 : r28_2;
+    a1_a0 = (uint64_t)LESSER64((int64_t)r32, (int64_t)r28_2);
     r40 = (uint64_t)(a2 + UINT64_C(259200));
     r4246 = (uint64_t)(a2 + UINT64_C(345600));
     r4547 = (int64_t)r28_2 < (int64_t)r4246;
@@ -67530,7 +68755,7 @@ static void zoned_cron_search_instants_end_of_gap_16a892625931f552(bytes a0, byt
     r24 = zone_rule_rule_ZoneRule_stretch_of_instant(r12, r23);
     r2860 = r24.f1;
     r3261 = (uint64_t)(a2 + UINT64_C(432000));
-    a1_a062 = (int64_t)r3261 < (int64_t)r2860 ? r3261 : r2860;
+    a1_a062 = (uint64_t)LESSER64((int64_t)r3261, (int64_t)r2860);
     r4063 = (uint64_t)(a2 + UINT64_C(259200));
     r424664 = (uint64_t)(a2 + UINT64_C(345600));
     r454765 = (int64_t)r2860 < (int64_t)r424664;
@@ -67566,7 +68791,7 @@ static void zoned_cron_search_instants_end_of_gap_16a892625931f552(bytes a0, byt
     or_cond_us_us = (uint8_t)(((uint32_t)r63_us_us & (uint32_t)r69_us_us) & 1);
     r5_1_us_us = or_cond_us_us ? r61_us_us : r5_048_us_us;
     r4_1_us_us = or_cond_us_us ? r3_050_us_us : r4_049_us_us;
-    a1_a0_i45_us_us = (int64_t)r326778 < (int64_t)r53_us_us ? r326778 : r53_us_us;
+    a1_a0_i45_us_us = (uint64_t)LESSER64((int64_t)r326778, (int64_t)r53_us_us);
     r42_us_us = (uint64_t)(r5_1_us_us + UINT64_C(86400));
     r45_us_us = (int64_t)a1_a0_i45_us_us < (int64_t)r42_us_us;
     if (r45_us_us) { { r3_050_us_us = a1_a0_i45_us_us; r4_049_us_us = r4_1_us_us; r5_048_us_us = r5_1_us_us; goto at__join_5_us_us; } }
@@ -67610,7 +68835,7 @@ static void zoned_cron_search_instants_end_of_gap_16a892625931f552(bytes a0, byt
     or_cond_us = (uint8_t)(((uint32_t)r63_us & (uint32_t)r69_us) & 1);
     r5_1_us = or_cond_us ? r61_us : r5_048_us;
     r4_1_us = or_cond_us ? r3_050_us : r4_049_us;
-    a1_a0_i45_us = (int64_t)r326778 < (int64_t)r53_us ? r326778 : r53_us;
+    a1_a0_i45_us = (uint64_t)LESSER64((int64_t)r326778, (int64_t)r53_us);
     r42_us = (uint64_t)(r5_1_us + UINT64_C(86400));
     r45_us = (int64_t)a1_a0_i45_us < (int64_t)r42_us;
     if (r45_us) { { r3_050_us = a1_a0_i45_us; r4_049_us = r4_1_us; r5_048_us = r5_1_us; goto at__join_5_us; } }
@@ -67635,7 +68860,7 @@ static void zoned_cron_search_instants_end_of_gap_16a892625931f552(bytes a0, byt
     or_cond = (uint8_t)(((uint32_t)r63 & (uint32_t)r69) & 1);
     r5_1 = or_cond ? r61 : r5_048;
     r4_1 = or_cond ? r3_050 : r4_049;
-    a1_a045 = (int64_t)r32 < (int64_t)r53 ? r32 : r53;
+    a1_a045 = (uint64_t)LESSER64((int64_t)r32, (int64_t)r53);
     r42 = (uint64_t)(r5_1 + UINT64_C(86400));
     r45 = (int64_t)a1_a045 < (int64_t)r42;
     if (r45) { { r3_050 = a1_a045; r4_049 = r4_1; r5_048 = r5_1; goto at__join_5; } }
@@ -68686,7 +69911,7 @@ static t_struct_i64_i32_end in_calendar_zone_schedule_prev(bytes a0, bytes a1, u
     at__then_1_2:;
     r1_i_i_i_i_i8 = (uint64_t)((uint64_t)(int32_t)r2253);
     r12_4 = (uint64_t)(r9_0 + r1_i_i_i_i_i8);
-    a0_a1 = (int64_t)r12_4 > (int64_t)UINT64_C(18446735739108322816) ? r12_4 : UINT64_C(18446735739108322816);
+    a0_a1 = (uint64_t)GREATER64((int64_t)r12_4, (int64_t)UINT64_C(18446735739108322816));
     {
     common_ret_op = a0_a1;
     goto at__zoned_cron_search_previous_unshown_before_16a892625931f552_exit_i_i_i_i_i;
@@ -68731,10 +69956,10 @@ static t_struct_i64_i32_end in_calendar_zone_schedule_prev(bytes a0, bytes a1, u
     }
     at__join_6:;
     r40 = r24_pn_i_i29.f0;
-    v26 = (int32_t)r40 > (int32_t)r225259 ? r40 : r225259;
+    v26 = (uint32_t)GREATER32((int32_t)r40, (int32_t)r225259);
     a0_a1_3 = (uint64_t)((uint64_t)(int32_t)v26);
     r64 = (uint64_t)(r9_0 + a0_a1_3);
-    a0_a1_i46 = (int64_t)r64 > (int64_t)UINT64_C(18446735739108322816) ? r64 : UINT64_C(18446735739108322816);
+    a0_a1_i46 = (uint64_t)GREATER64((int64_t)r64, (int64_t)UINT64_C(18446735739108322816));
     {
     common_ret_op = a0_a1_i46;
     goto at__zoned_cron_search_previous_unshown_before_16a892625931f552_exit_i_i_i_i_i;
@@ -68986,7 +70211,7 @@ static t_struct_i64_i32_end in_calendar_zone_schedule_prev(bytes a0, bytes a1, u
     if (trunc5) { goto at__arm_7; }
     { r12_sroa_0_sroa_0_0 = 1; r12_sroa_5_0 = r2_sroa_7_0; goto at__zoned_cron_search_previous_later_exit_i_i_i_i; }
     at__arm_7:;
-    a0_a1_2 = (int64_t)r0_sroa_4_0 > (int64_t)r2_sroa_7_0 ? r0_sroa_4_0 : r2_sroa_7_0;
+    a0_a1_2 = (uint64_t)GREATER64((int64_t)r0_sroa_4_0, (int64_t)r2_sroa_7_0);
     {
     r12_sroa_0_sroa_0_0 = 1;
     r12_sroa_5_0 = a0_a1_2;
@@ -70085,6 +71310,26 @@ bool calendar_column_open_days_between(uint8_t weekend, const int32_t *holidays,
 bool calendar_column_roll(uint8_t weekend, const int32_t *holidays, size_t count, const int32_t *dates, size_t dates_length, uint32_t roll, int32_t *rolled, size_t rolled_length)
 {
     return (bool)in_calendar_column_roll((uint8_t)weekend, (bytes)holidays, (uint64_t)count, (bytes)dates, (uint64_t)dates_length, (uint32_t)roll, (bytes)rolled, (uint64_t)rolled_length);
+}
+
+bool calendar_column_is_open_day_within(uint8_t weekend, const int32_t *holidays, size_t count, int32_t first_year, int32_t last_year, const int32_t *dates, size_t dates_length, uint8_t *marks, size_t marks_length)
+{
+    return (bool)in_calendar_column_is_open_day_within((uint8_t)weekend, (bytes)holidays, (uint64_t)count, (uint32_t)first_year, (uint32_t)last_year, (bytes)dates, (uint64_t)dates_length, (bytes)marks, (uint64_t)marks_length);
+}
+
+bool calendar_column_add_open_days_within(uint8_t weekend, const int32_t *holidays, size_t count, int32_t first_year, int32_t last_year, const int32_t *dates, size_t dates_length, int64_t n, int32_t *moved, size_t moved_length)
+{
+    return (bool)in_calendar_column_add_open_days_within((uint8_t)weekend, (bytes)holidays, (uint64_t)count, (uint32_t)first_year, (uint32_t)last_year, (bytes)dates, (uint64_t)dates_length, (uint64_t)n, (bytes)moved, (uint64_t)moved_length);
+}
+
+bool calendar_column_open_days_between_within(uint8_t weekend, const int32_t *holidays, size_t count, int32_t first_year, int32_t last_year, const int32_t *from, size_t from_length, const int32_t *to, size_t to_length, int64_t *days, size_t days_length)
+{
+    return (bool)in_calendar_column_open_days_between_within((uint8_t)weekend, (bytes)holidays, (uint64_t)count, (uint32_t)first_year, (uint32_t)last_year, (bytes)from, (uint64_t)from_length, (bytes)to, (uint64_t)to_length, (bytes)days, (uint64_t)days_length);
+}
+
+bool calendar_column_roll_within(uint8_t weekend, const int32_t *holidays, size_t count, int32_t first_year, int32_t last_year, const int32_t *dates, size_t dates_length, uint32_t roll, int32_t *rolled, size_t rolled_length)
+{
+    return (bool)in_calendar_column_roll_within((uint8_t)weekend, (bytes)holidays, (uint64_t)count, (uint32_t)first_year, (uint32_t)last_year, (bytes)dates, (uint64_t)dates_length, (uint32_t)roll, (bytes)rolled, (uint64_t)rolled_length);
 }
 
 bool calendar_column_from_date32(const int32_t *days, size_t days_length, int32_t *dates, size_t dates_length)

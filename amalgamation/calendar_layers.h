@@ -22,7 +22,7 @@ extern "C" {
 
 /* ---- versions */
 
-/* Writes CALENDAR_VERSION, such as 0.1.0, over the first bytes and returns their number. Returns CALENDAR_NONE if room is too small.
+/* Writes CALENDAR_VERSION, such as 0.2.0-dev, over the first bytes and returns their number. Returns CALENDAR_NONE if room is too small.
  * The version is this library's. calendar_version of calendar.h tells that of the other. */
 int32_t calendar_layers_version(uint8_t *text, size_t room);
 
@@ -323,6 +323,23 @@ bool calendar_column_open_days_between(uint8_t weekend, const int32_t *holidays,
 /* Writes what calendar_roll returns for each date. It also returns false if there is no such roll. */
 bool calendar_column_roll(uint8_t weekend, const int32_t *holidays, size_t count, const int32_t *dates, size_t dates_length,
                           uint32_t roll, int32_t *rolled, size_t rolled_length);
+
+/* Writes for each date 1 if it is open, 2 if it lies in a year that is not from first_year to last_year, and 0 otherwise. */
+bool calendar_column_is_open_day_within(uint8_t weekend, const int32_t *holidays, size_t count, int32_t first_year, int32_t last_year,
+                                        const int32_t *dates, size_t dates_length, uint8_t *marks, size_t marks_length);
+
+/* Writes what calendar_add_open_days_within returns for each date. */
+bool calendar_column_add_open_days_within(uint8_t weekend, const int32_t *holidays, size_t count, int32_t first_year, int32_t last_year,
+                                          const int32_t *dates, size_t dates_length, int64_t n, int32_t *moved, size_t moved_length);
+
+/* Writes what calendar_open_days_between_within returns for the dates at each place. */
+bool calendar_column_open_days_between_within(uint8_t weekend, const int32_t *holidays, size_t count, int32_t first_year,
+                                              int32_t last_year, const int32_t *from, size_t from_length, const int32_t *to,
+                                              size_t to_length, int64_t *days, size_t days_length);
+
+/* Writes what calendar_roll_within returns for each date. It also returns false if there is no such roll. */
+bool calendar_column_roll_within(uint8_t weekend, const int32_t *holidays, size_t count, int32_t first_year, int32_t last_year,
+                                 const int32_t *dates, size_t dates_length, uint32_t roll, int32_t *rolled, size_t rolled_length);
 
 /* Writes the date of each 32-bit number of days since 1 January 1970, as Arrow's date32 has them. */
 bool calendar_column_from_date32(const int32_t *days, size_t days_length, int32_t *dates, size_t dates_length);

@@ -1,9 +1,9 @@
 /*
- * caltool.c: the program caltool 0.1.0, for any compiler of C99 on a little-endian machine of 64 bits.
+ * caltool.c: the program caltool 0.2.0-dev, for any compiler of C99 on a little-endian machine of 64 bits.
  *
  * tools/dist made this file from the module of the crate caltool, whose functions are proved to meet their contracts. Nothing proves
  * the translation: it is tested, as docs/trust.md says. Do not edit it. The sources have this sum by SHA-256:
- * dfa4702b33540b5d5aea52cf3d69c91416b0261770eb17e1b745dd57caafc94e
+ * b782c551f260728abb5cd2e737836aefe4cbe33a95cb2576ec5fc18dd2926f22
  *
  * SPDX-License-Identifier: MIT OR Apache-2.0
  */
@@ -40,6 +40,14 @@ static unsigned LEADING(uint64_t x) { unsigned n = 0; while (!(x >> 63)) { x <<=
 static unsigned TRAILING(uint64_t x) { unsigned n = 0; while (!(x & 1)) { x >>= 1; n++; } return n; }
 static unsigned ONES(uint64_t x) { unsigned n = 0; for (; x; x &= x - 1) n++; return n; }
 #endif
+
+/* The lesser and the greater of two numbers with their sign. In columns, gcc finds the vector instructions of this form alone. */
+#define ENDS(bits) \
+    MAYBE_UNUSED static inline int##bits##_t LESSER##bits(int##bits##_t a, int##bits##_t b) { return a < b ? a : b; } \
+    MAYBE_UNUSED static inline int##bits##_t GREATER##bits(int##bits##_t a, int##bits##_t b) { return a > b ? a : b; }
+ENDS(32)
+ENDS(64)
+#undef ENDS
 
 /* Numbers of 128 bits: by the compiler's own, or by two words. */
 #if defined(__SIZEOF_INT128__) && !defined(CALENDAR_TWO_WORDS)
@@ -4974,7 +4982,7 @@ static t_struct_i8_i32_end caltool_form_asked_years_since_e48cce946a840f3d(bytes
     neg = (uint32_t)(r1_sroa_0_0_copyload - r2_sroa_0_0_copyload);
     r50_2 = (uint32_t)(neg + r1_i_neg3);
     r52 = (int32_t)r50_2 > (int32_t)4294967295u;
-    r50 = (int32_t)r50_2 > (int32_t)0 ? r50_2 : 0;
+    r50 = (uint32_t)GREATER32((int32_t)r50_2, (int32_t)0);
     x = (uint8_t)r52;
     {
     r0_sroa_0_sroa_0_0 = x;
