@@ -50,6 +50,15 @@ def of_crates():
             yield path, file, old
 
 
+def twice_named():
+    """The plants of a crate whose names an edit before them has too, which `tools/plants.py` could not tell apart."""
+    named = set()
+    for path in sorted(glob.glob("crates/*/plants/*.edits", root_dir=TOP)):
+        for name in re.findall(r"^name: (.*)$", read(path), re.M):
+            yield from [f"{path}: {name}"] if (path.split("/")[1], name) in named else []
+            named.add((path.split("/")[1], name))
+
+
 def of_languages():
     for path in sorted(glob.glob("languages/*/wrong_lines.txt", root_dir=TOP)):
         language = path.split("/")[1]
@@ -67,6 +76,8 @@ def main():
         _, file, old = edits[len(edits) // 2]
         results.count(not is_there(file, old + "~"), f"{name}: a place that is not there was found")
         print(f"{name}: {len(edits)}")
+    for it in twice_named():
+        results.count(False, f"{it} is the name of two plants")
     print(f"{results.passed} passed, {results.failed} failed")
     return int(results.failed > 0)
 
