@@ -181,7 +181,7 @@ def compare_numpy(results, room, library):
     subprocess.run(["cc", "-shared", "-o", shared, *whole], check=True)
     for it in INTERPRETERS:
         if shutil.which(it) and not subprocess.run([it, "-c", "import numpy"], capture_output=True).returncode:
-            run(results, "beside numpy", [it, os.path.abspath(__file__), "--numpy", shared], (r"^(\d+) passed", r"(\d+) failed$"))
+            run(results, "beside numpy", [it, "-m", "checks.layers.columns", "--numpy", shared], (r"^(\d+) passed", r"(\d+) failed$"))
             return
     print("not run: the columns beside numpy, since there is no numpy")
 
