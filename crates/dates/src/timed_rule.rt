@@ -168,44 +168,24 @@ impl Begin {
             Skip::Omit => None,
             _ => Some(SkipTimes::new(rule, skip, local, from)),
         };
-        let (bound, count, last) = self.begun(rule, skip, local, wanted);
+        let (bound, count, last) = match rule.bound {
+            Bound::Count(count) => match self.passed_before(rule, wanted.from) {
+                Some(passed) => {
+                    let left = u64::from(count).saturating_sub(passed);
+                    (Bound::Never, left, Some(wanted.from))
+                }
+                None => {
+                    let first = self.first(wanted.added.as_slice());
+                    (Bound::Never, u64::from(count), first)
+                }
+            },
+            bound => (bound, u64::MAX, Some(wanted.from)),
+        };
         Search {
             rule: TimedRule { bound, ..*rule },
             skipping,
             last: just_before(last),
             count,
-        }
-    }
-
-    // Where the search for instances begins: by which bound, how many are left, and at which instant.
-    fn begun(
-        &self,
-        rule: &TimedRule,
-        skip: Skip,
-        local: NaiveDateTime,
-        wanted: &Wanted,
-    ) -> (Bound, u64, Option<DateTime<FixedOffset>>) {
-        let Bound::Count(count) = rule.bound else {
-            return (rule.bound, u64::MAX, Some(wanted.from));
-        };
-        if let Some(passed) = self.passed_before(rule, wanted.from) {
-            let left = u64::from(count).saturating_sub(passed);
-            return (Bound::Never, left, Some(wanted.from));
-        }
-        match self.first(wanted.added.as_slice()) {
-            Some(first) if matches!(skip, Skip::Omit) && first < wanted.from => {
-                let bound = self.uncounted(rule, local).unwrap_or(rule.bound);
-                (bound, u64::MAX, Some(wanted.from))
-            }
-            first => (Bound::Never, u64::from(count), first),
-        }
-    }
-
-    // UNTIL in the place of COUNT, by which a rule has the same instances.
-    fn uncounted(&self, rule: &TimedRule, local: NaiveDateTime) -> Option<Bound> {
-        match &self.zone {
-            Some(zone) => Some(rule.in_zone(local, &zone.zone())?.without_count().bound),
-            None => Some(rule.in_zone(local, self.offset()?)?.without_count().bound),
         }
     }
 
