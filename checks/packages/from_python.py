@@ -156,7 +156,9 @@ def test_columns_called(results):
     headers = "".join(read(f"{LANGUAGES}/c/{it}.h") for it in ("calendar", "calendar_layers"))
     for name in re.findall(r"^\w+ calendar_column_(\w+)\(", headers, re.M):
         if not name.endswith("in_place"):
-            results.count(re.search(rf"\"{name}\"|calendar_column_{name}\b", text), f"columns.py calls no calendar_column_{name}")
+            # (a call by a calendar of known years has the name of that without, and this ending)
+            said = name.removesuffix("_within") if 'f"{name}_within"' in text else name
+            results.count(re.search(rf"\"{said}\"|calendar_column_{said}\b", text), f"columns.py calls no calendar_column_{name}")
 
 
 def test_sources(results, room, sources):

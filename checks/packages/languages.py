@@ -65,7 +65,7 @@ USES = {
 
 # The texts that tell for which processors the library is: each names one level of x86-64, and all the same.
 PLACES = ("README.md", "languages/c/calendar.h", "languages/c/README.md", "languages/python/README.md", "languages/rust/README.md")
-LEVEL = r"x86-64(?:-v\d)?"
+LEVEL = r"x86-64-v\d"
 
 # The instructions that each level has beyond those below it: SSE3 to SSE4.2 with the bit counts; AVX, whose names begin with a v,
 # and both families of BMI.

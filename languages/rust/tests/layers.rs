@@ -844,7 +844,7 @@ fn is_answer<T: PartialEq>(
 }
 
 #[test]
-fn column_is_open_day_of_known_years() {
+fn column_is_open_day_within() {
     let mut out = [Date::MIN; 30];
     let (target, days) = known_years(&mut out);
     for day in &days {
@@ -862,7 +862,7 @@ fn column_is_open_day_of_known_years() {
 }
 
 #[test]
-fn column_add_open_days_of_known_years() {
+fn column_add_open_days_within() {
     let mut out = [Date::MIN; 30];
     let (target, days) = known_years(&mut out);
     for n in [-30, -2, -1, 0, 1, 2, 5, 700, 767, i64::MAX, i64::MIN] {
@@ -880,7 +880,7 @@ fn column_add_open_days_of_known_years() {
 }
 
 #[test]
-fn column_open_days_between_of_known_years() {
+fn column_open_days_between_within() {
     let mut out = [Date::MIN; 30];
     let (target, days) = known_years(&mut out);
     let [before, first, middle, end] =
@@ -908,7 +908,7 @@ fn column_open_days_between_of_known_years() {
 }
 
 #[test]
-fn column_roll_of_known_years() {
+fn column_roll_within() {
     let mut out = [Date::MIN; 30];
     let (target, days) = known_years(&mut out);
     for roll in [
