@@ -45,7 +45,7 @@ from packages import javascript
 
 FOLDER = f"{TOP}/languages/javascript"
 # How many bytes each module has at most.
-LARGEST = {"module": 22_000, "columns_module": 9_000, "layers_module": 280_000}
+LARGEST = {"module": 22_000, "columns_module": 9_000, "layers_module": 290_000}
 # Zones on whose changes the browser's database and the machine's agree. (Not Dublin, whose day of 1925-10-04 begins otherwise in Chromium
 # than in Python.)
 ZONES = ("Europe/Berlin", "America/New_York", "Australia/Lord_Howe", "America/Sao_Paulo", "Asia/Beirut", "Asia/Kathmandu", "Pacific/Apia",

@@ -248,29 +248,23 @@ const [FIRST_DATE, LAST_DATE] = [-95_746_129, 95_745_399];
 
 const isDate = (number) => FIRST_DATE <= number && number <= LAST_DATE;
 
-/**
- * Refuses a date of a column by a RangeError, if the calendar has years, and the days that are looked at there do not all lie in them. The
- * last argument gives the first and the last of these days, of a date and its place.
- */
-function refuseOtherYears(calendar, dates, lookedAt) {
+/** What stands in a column of marks for a date of another year. */
+const OTHER_YEAR = 2;
+
+/** Calls one function for columns by a calendar without years, and another one by a calendar with years, which it is given too. */
+function callByYears(calendar, count, always, within, ...given) {
   const { years } = closedOf(calendar);
-  if (years === undefined) {
-    return;
-  }
-  const [first, last] = [new PlainDate(years[0], 1, 1).dayNumber, new PlainDate(years[1], 12, 31).dayNumber];
-  for (let place = 0; place < dates.length; place += 1) {
-    const [low, high] = isDate(dates[place]) ? lookedAt(dates[place], place) : [first, last];
-    if (low < first || high > last) {
-      throw otherYear(years);
-    }
-  }
+  const [choose, ends] = years === undefined ? [always, []] : [within, years];
+  callOnOpenDays(closedOf(calendar), count, choose, ...ends, ...given);
 }
 
-/** The days from a date to another, of which none lies beyond all years. */
-const daysTo = (date, end) => (end === NO_DATE ? [date, Infinity] : [Math.min(date, end), Math.max(date, end)]);
-
-/** The days from one date on and before another, or the other way round; none if they are the same, or the other is no date. */
-const daysBefore = (date, end) => (date === end || !isDate(end) ? [Infinity, -Infinity] : [Math.min(date, end), Math.max(date, end) - 1]);
+/** Refuses a column by a RangeError, if the calendar has years, and the answer to the date at some place looks at another one. */
+function refuseOtherYears(calendar, dates, isOther) {
+  const { years } = closedOf(calendar);
+  if (years !== undefined && dates.some((date, place) => isDate(date) && isOther(place))) {
+    throw otherYear(years);
+  }
+}
 
 /**
  * Whether each element is an open day, as 1 or 0. What is no date is not open. An answer that looks at a year of which the holidays are not
@@ -278,8 +272,9 @@ const daysBefore = (date, end) => (date === end || !isDate(end) ? [Infinity, -In
  */
 export function isOpen(dates, calendar) {
   const marks = new Uint8Array(datesOf(dates).length);
-  refuseOtherYears(calendar, dates, (date) => [date, date]);
-  callOnOpenDays(closedOf(calendar), marks.length, (layers) => layers.calendar_column_is_open_day, readFrom(dates), writtenTo(marks));
+  const [always, within] = [(layers) => layers.calendar_column_is_open_day, (layers) => layers.calendar_column_is_open_day_within];
+  callByYears(calendar, marks.length, always, within, readFrom(dates), writtenTo(marks));
+  refuseOtherYears(calendar, dates, (place) => marks[place] === OTHER_YEAR);
   return marks;
 }
 
@@ -287,8 +282,9 @@ export function isOpen(dates, calendar) {
 export function addOpenDays(dates, n, calendar) {
   const out = new Int32Array(datesOf(dates).length);
   const days = BigInt(moveOf(n, "open days"));
-  callOnOpenDays(closedOf(calendar), out.length, (layers) => layers.calendar_column_add_open_days, readFrom(dates), days, writtenTo(out));
-  refuseOtherYears(calendar, dates, (date, place) => daysTo(date, out[place]));
+  const [always, within] = [(layers) => layers.calendar_column_add_open_days, (layers) => layers.calendar_column_add_open_days_within];
+  callByYears(calendar, out.length, always, within, readFrom(dates), days, writtenTo(out));
+  refuseOtherYears(calendar, dates, (place) => out[place] === NO_DATE);
   return out;
 }
 
@@ -297,13 +293,14 @@ export function openDaysBetween(from, to, calendar) {
   const days = new BigInt64Array(datesOf(from).length);
   const ends = besideOf(from, to);
   const endOf = to instanceof Int32Array ? (place) => to[place] : () => ends.number;
-  refuseOtherYears(calendar, from, (date, place) => daysBefore(date, endOf(place)));
-  callOnOpenDays(closedOf(calendar), days.length, (layers) => layers.calendar_column_open_days_between, readFrom(from), ends, writtenTo(days));
+  const [always, within] = [(layers) => layers.calendar_column_open_days_between, (layers) => layers.calendar_column_open_days_between_within];
+  callByYears(calendar, days.length, always, within, readFrom(from), ends, writtenTo(days));
   // (the least number of 64 bits, which stands for no days, becomes that of 32; all others have 32 bits)
   const [halves, out] = [new Int32Array(days.buffer), new Int32Array(days.length)];
   for (let place = 0; place < out.length; place += 1) {
     out[place] = halves[2 * place + 1] === NONE ? NONE : halves[2 * place];
   }
+  refuseOtherYears(calendar, from, (place) => isDate(endOf(place)) && out[place] === NONE);
   return out;
 }
 
@@ -311,10 +308,8 @@ export function openDaysBetween(from, to, calendar) {
 export function roll(dates, name, calendar) {
   const out = new Int32Array(datesOf(dates).length);
   const place = placeOf(name, ROLLS, "roll");
-  callOnOpenDays(closedOf(calendar), out.length, (layers) => layers.calendar_column_roll, readFrom(dates), place, writtenTo(out));
-  // (the nearest open day is looked for on both sides)
-  const isNearest = name === "nearestQuantLib";
-  const farther = (date, end) => (isNearest ? daysTo(2 * date - end, end) : daysTo(date, end));
-  refuseOtherYears(calendar, dates, (date, index) => (out[index] === NO_DATE ? daysTo(date, NO_DATE) : farther(date, out[index])));
+  const [always, within] = [(layers) => layers.calendar_column_roll, (layers) => layers.calendar_column_roll_within];
+  callByYears(calendar, out.length, always, within, readFrom(dates), place, writtenTo(out));
+  refuseOtherYears(calendar, dates, (index) => out[index] === NO_DATE);
   return out;
 }

@@ -266,19 +266,30 @@ test("columns whose memory was given away", () => {
   assert.deepEqual(columns.years(new Int32Array()), new Int32Array());
 });
 
-test("columns of open days in known years", () => {
-  const target = BusinessCalendar.of("target", 2024, 2026);
-  const refusedYear = (call) => assert.throws(call, { name: "RangeError", message: /from 2024 to 2026 alone/ });
-  const [inside, end, behind] = [numbers("2024-01-01", "2026-12-30"), numbers("2026-12-31"), numbers("2027-01-01")];
-  const dates = Int32Array.of(...inside, NO_DATE);
-  assert.deepEqual(columns.isOpen(dates, target), Uint8Array.of(0, 1, 0));
-  refusedYear(() => columns.isOpen(behind, target));
-  assert.deepEqual(columns.addOpenDays(dates, 1, target), Int32Array.of(...numbers("2024-01-02"), ...end, NO_DATE));
-  refusedYear(() => columns.addOpenDays(dates, 2, target));
-  refusedYear(() => columns.addOpenDays(dates, 1e9, target));
-  assert.deepEqual(columns.openDaysBetween(numbers("2026-01-01", "2027-01-01"), "2027-01-01", target), Int32Array.of(256, 0));
-  assert.deepEqual(columns.openDaysBetween(dates, Int32Array.of(NO_DATE, ...end, 1), target), Int32Array.of(NO_DATE, 1, NO_DATE));
-  refusedYear(() => columns.openDaysBetween(inside, "2027-01-02", target));
+/** A calendar of known years, what is refused by it, and dates: some inside, the last of its years, and one behind them. */
+const TARGET = BusinessCalendar.of("target", 2024, 2026);
+const refusedYear = (call) => assert.throws(call, { name: "RangeError", message: /from 2024 to 2026 alone/ });
+const [INSIDE, END, BEHIND] = [numbers("2024-01-01", "2026-12-30"), numbers("2026-12-31"), numbers("2027-01-01")];
+const INSIDE_OR_NONE = Int32Array.of(...INSIDE, NO_DATE);
+
+test("column_is_open_day_within", () => {
+  assert.deepEqual(columns.isOpen(INSIDE_OR_NONE, TARGET), Uint8Array.of(0, 1, 0));
+  refusedYear(() => columns.isOpen(BEHIND, TARGET));
+});
+
+test("column_add_open_days_within", () => {
+  assert.deepEqual(columns.addOpenDays(INSIDE_OR_NONE, 1, TARGET), Int32Array.of(...numbers("2024-01-02"), ...END, NO_DATE));
+  refusedYear(() => columns.addOpenDays(INSIDE_OR_NONE, 2, TARGET));
+  refusedYear(() => columns.addOpenDays(INSIDE_OR_NONE, 1e9, TARGET));
+});
+
+test("column_open_days_between_within", () => {
+  assert.deepEqual(columns.openDaysBetween(numbers("2026-01-01", "2027-01-01"), "2027-01-01", TARGET), Int32Array.of(256, 0));
+  assert.deepEqual(columns.openDaysBetween(INSIDE_OR_NONE, Int32Array.of(NO_DATE, ...END, 1), TARGET), Int32Array.of(NO_DATE, 1, NO_DATE));
+  refusedYear(() => columns.openDaysBetween(INSIDE, "2027-01-02", TARGET));
+});
+
+test("column_roll_within", () => {
   const [one, two] = [2022, 2023].map((it) => new BusinessCalendar({ firstYear: 2022, lastYear: it }));
   const saturday = numbers("2022-12-31");
   assert.deepEqual(columns.roll(saturday, "nearestIsda", one), numbers("2022-12-30"));
